@@ -90,16 +90,20 @@ class Body:
     def begins(self, line):
         return re.match(rf"\s*(pub )?fn {self.function}[<(]", line)
 
+    def begins_trait(self, line):
+        return line == f"pub trait {self.within[-1]} {{"
+
     def owner(self):
-        """The type whose method is called, its parameters, and the lines of its block; all lines for a function."""
+        """The type whose method is called, its parameters, and the lines of its block; all lines for a function. A trait's
+        method is called at a type `P` that has the trait."""
         if not self.is_method():
             return None, "", (0, len(self.source))
         for at, line in enumerate(self.source):
             found = re.match(rf"impl(<[^>]*>)? (?:[\w:<>]+ for )?({self.within[-1]}\b.*?) \{{$", line)
-            if found:
+            if found or self.begins_trait(line):
                 end = next(it for it in range(at, len(self.source)) if self.source[it] == "}")
                 if any(self.begins(it) for it in self.source[at:end]):
-                    return found[2], (found[1] or "")[1:-1], (at, end)
+                    return (found[2], (found[1] or "")[1:-1], (at, end)) if found else ("P", f"P: {self.within[-1]}", (at, end))
         raise ValueError(f"{self.name}: {self.said['file']} has no method {self.said['call']}")
 
     def head(self):
@@ -113,6 +117,9 @@ class Body:
         indent = re.match(r"\s*", self.source[begin])[0]
         stop = next(it for it in range(begin, end) if self.source[it] == indent + "{")
         head = "\n".join(it[len(indent):] for it in self.source[begin:stop]).removeprefix("pub ")
+        if kind and self.begins_trait(self.source[at]):
+            members = re.findall(r"^    ghost (\w+):", "\n".join(self.source[at:end]), re.MULTILINE)
+            head = re.sub(rf"(?<![\w.])({'|'.join(members)})\b", r"P.\1", head)
         return self.freed(head, kind, generics) if kind else head
 
     def freed(self, head, kind, generics):

@@ -32,7 +32,7 @@ use jsonpath_lib::{Compiled, PathCompiled, compile, select, selector};
 use jsonpath_nodes::{Spot, ValueWalker};
 use jsonpath_paths::{StrRange, StrReader, TokenReader};
 use jsonpath_select::{
-    JsonPathError, JsonSelector, Parser, Selector, compile_path, read_document, select_node_spots, select_path,
+    AnyPath, JsonPathError, JsonSelector, Parser, Selector, compile_path, read_document, select_path,
 };
 use serde_json::Value;
 use std::alloc::Global;
@@ -93,7 +93,7 @@ select_path(alloc, value, &path)
 BODY
 keeps spots_by_node "Spot<'a>" << 'BODY'
 let node = Parser::compile(alloc, text)?;
-select_node_spots(alloc, value, &node)
+node.select_spots(alloc, value)
 BODY
 
 keeps short_function "&'a Value" << 'BODY'

@@ -1,9 +1,6 @@
 //! What is measured, and the clock around it.
 use anyhow::Result;
-use jsonpath_lib::{
-    JsonPathError, PathParser, compile_path, count_values, delete_at_path, first_value,
-    remove_at_path, select_path, select_values, selects_any_value,
-};
+use jsonpath_lib::{AnyPath, JsonPathError, PathParser, compile_path};
 use serde_json::Value;
 use std::alloc::Global;
 use std::hint::black_box;
@@ -85,7 +82,7 @@ fn measure_select(
     let mut results = 0;
     let start = Instant::now(rt)?;
     for _ in 0..count {
-        results = black_box(select_values(alloc, document, &path)?).len();
+        results = black_box(path.select(alloc, document)?).len();
     }
     Ok((start.elapsed(rt)?, results))
 }
@@ -101,7 +98,7 @@ fn measure_spots(
     let mut results = 0;
     let start = Instant::now(rt)?;
     for _ in 0..count {
-        results = black_box(select_path(alloc, document, &path)?).len();
+        results = black_box(path.select_spots(alloc, document)?).len();
     }
     Ok((start.elapsed(rt)?, results))
 }
@@ -130,9 +127,9 @@ fn told(
     path: &PathParser<'_>,
 ) -> Result<usize, JsonPathError> {
     match asked {
-        Asked::Count => count_values(alloc, document, path),
-        Asked::First => Ok(usize::from(first_value(alloc, document, path)?.is_some())),
-        Asked::Exists => Ok(usize::from(selects_any_value(alloc, document, path)?)),
+        Asked::Count => path.count(alloc, document),
+        Asked::First => Ok(usize::from(path.first(alloc, document)?.is_some())),
+        Asked::Exists => Ok(usize::from(path.exists(alloc, document)?)),
     }
 }
 
@@ -145,15 +142,15 @@ fn measure_update(
 ) -> Result<(Duration, usize)> {
     let alloc = rt.alloc();
     let path = compile_path(alloc, path)?;
-    let results = select_values(alloc, document, &path)?.len();
+    let results = path.select(alloc, document)?.len();
     let mut spent = Duration::ZERO;
     for _ in 0..count {
         let mut copy = document.clone()?;
         let start = Instant::now(rt)?;
         if removes {
-            remove_at_path(alloc, &mut copy, &path)?;
+            path.remove_in(alloc, &mut copy)?;
         } else {
-            delete_at_path(alloc, &mut copy, &path)?;
+            path.delete_in(alloc, &mut copy)?;
         }
         spent = spent.saturating_add(start.elapsed(rt)?);
         black_box(copy);

@@ -2,10 +2,7 @@
 use crate::action::{Action, measure};
 use crate::books::books_document;
 use anyhow::Result;
-use jsonpath_lib::{
-    PathParser, compile_path, delete_at_path, document_to_text, list_to_text, remove_at_path,
-    select_values,
-};
+use jsonpath_lib::{AnyPath, PathParser, compile_path, document_to_text, list_to_text};
 use serde_json::Value;
 use std::alloc::Global;
 
@@ -50,7 +47,7 @@ fn print_counts(rt: &HostRuntime, path: &str, document: &Value) -> Result<()> {
 fn print_lengths(rt: &HostRuntime, path: &str, document: &Value) -> Result<()> {
     let alloc = rt.alloc();
     let path = compile_path(alloc, path)?;
-    let found = select_values(alloc, document, &path)?;
+    let found = path.select(alloc, document)?;
     let selected = list_to_text(alloc, found.as_slice())?.len();
     let deleted = deleted_len(alloc, document, &path)?;
     let removed = removed_len(alloc, document, &path)?;
@@ -60,12 +57,12 @@ fn print_lengths(rt: &HostRuntime, path: &str, document: &Value) -> Result<()> {
 
 fn deleted_len(alloc: Global, document: &Value, path: &PathParser<'_>) -> Result<usize> {
     let mut copy = document.clone()?;
-    delete_at_path(alloc, &mut copy, path)?;
+    path.delete_in(alloc, &mut copy)?;
     Ok(document_to_text(alloc, &copy)?.len())
 }
 
 fn removed_len(alloc: Global, document: &Value, path: &PathParser<'_>) -> Result<usize> {
     let mut copy = document.clone()?;
-    remove_at_path(alloc, &mut copy, path)?;
+    path.remove_in(alloc, &mut copy)?;
     Ok(document_to_text(alloc, &copy)?.len())
 }

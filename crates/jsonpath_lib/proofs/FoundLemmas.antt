@@ -1,4 +1,4 @@
--- Locations of spots that stand in a document.
+-- What several paths select together, path after path.
 use Rattle.std.proofs.Common.{◌≡◌, ℕ, ◌+◌, ◌<◌, ◌≤◌, List, [], ◌∷◌, ◌++◌, map, length, drop, get_or, refl, ap, ◌∙◌, sym, subst, append-nil}
 use Rattle.std.specs.Prelude.{◌↔◌, Contains}
 use Rattle.std.proofs.Math.ListN.{drop_of_length-le}
@@ -6,9 +6,6 @@ use Rattle.std.proofs.lemmas.List.{drop_more, append_assoc}
 use Rattle.std.proofs.lemmas.List.{map-append}
 use Rattle.jsonpath_select.specs.Meaning.{sel, SelectsSet}
 use Rattle.jsonpath_lib.specs.update.Masked.{AreSelected}
-use Rattle.jsonpath_select.specs.Targets.{AreTargets, AreNulls, IsDeleted}
-use Rattle.jsonpath_nodes.specs.place.Branches.{NullAlike}
-use Rattle.jsonpath_nodes.specs.update.Topmost.{nulled}
 use Rattle.jsonpath_nodes.specs.place.Order.{once_in_order}
 use Rattle.serde_json.specs.Data.{Data}
 use Rattle.jsonpath_nodes.specs.place.Location.{Location}
@@ -16,15 +13,6 @@ use Rattle.jsonpath_nodes.specs.DocumentLaws.{OnceInOrderKeepsMembers}
 use Rattle.jsonpath_nodes.specs.place.SpotPlace.{location_of}
 use Rattle.jsonpath_nodes.specs.step.SameMembers.{SameMembers, JoinedSets, OneListOfASet}
 use Rattle.jsonpath_nodes.specs.declared.place.spot.Spot.{Spot}
-
--- a set of spots gives the targets
-pub targets_are : (text : List ℕ) (doc : Data) (spots : List Spot) (found : List Location) → SelectsSet text doc spots → found ≡ once_in_order (map location_of spots) → AreTargets text doc found
-targets_are text doc spots found selected once = record { path = selected.path; spelled = selected.spelled; holds = once ∙ selected.holds }
-
--- a tree of these spots nulls the targets
-pub nulls_are : (text : List ℕ) (doc : Data) (spots : List Spot) (nulls : List Location) → SelectsSet text doc spots → NullAlike nulls (once_in_order (map location_of spots)) → AreNulls text doc nulls
-nulls_are text doc spots nulls selected alike =
-    (once_in_order (map location_of spots), targets_are text doc spots (once_in_order (map location_of spots)) selected refl, alike)
 
 -- what the paths that are left select completes what was found to the set that all of them select
 abbrev pub Completes : List (List ℕ) → ℕ → Data → List Location → Type 0
@@ -68,8 +56,3 @@ module _ (keeps : OnceInOrderKeepsMembers) (joined : JoinedSets) (one_list : One
       let same : SameMembers (front ++ (here ++ rest)) (front ++ (there ++ rest)) =
       joined front front (here ++ rest) (there ++ rest) (same-itself front) (joined here there rest rest (same_set here there selected.holds) (same-itself rest)) in
       (found.0, found.1, subst (λ (ms : List Location). SameMembers ms found.0) all (same-trans (front ++ (here ++ rest)) (front ++ (there ++ rest)) found.0 same found.2))
-
--- what was nulled by a tree of the targets
-pub nulls_delete : (text : List ℕ) (before after : Data) (nulls : List Location) → AreNulls text before nulls → after ≡ nulled nulls before → IsDeleted text before after
-nulls_delete text before after nulls are put =
-    record { path = are.1.path; spelled = are.1.spelled; holds = put ∙ are.2 before ∙ ap (λ (ls : List Location). nulled ls before) are.1.holds }

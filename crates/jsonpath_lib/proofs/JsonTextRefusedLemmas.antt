@@ -4,12 +4,13 @@ use Rattle.std.specs.declared.alloc.Global.{Global}
 use Rattle.serde_json.specs.Data.{Data}
 use Rattle.jsonpath_select.specs.ErrorCases.{IsRefusedBy}
 use Rattle.jsonpath_select.specs.JsonPathErrors.{IsPathRefused}
-use Rattle.jsonpath_nodes.specs.update.Calls.{UpdateCalls}
+use Rattle.jsonpath_select.specs.Meaning.{Selects}
 use Rattle.jsonpath_select.specs.answer.AnswerText.{IsTextOf}
+use Rattle.jsonpath_select.specs.answer.Given.{IsTextRefusedOf}
 use Rattle.jsonpath_select.specs.declared.error.JsonPathError.{JsonPathError}
 use Rattle.jsonpath_select.specs.declared.error.JsonPathError.TheVariants.{EmptyPath, EmptyValue, Path, Serde, OutOfMemory}
-use Rattle.jsonpath_lib.specs.functions.Answers.{IsRefusedAfter, IsTextRefusal, IsTypedRefusal, IsReplaceRefusal}
-use Rattle.jsonpath_lib.specs.compiled.Kept.{IsTextRefusedIn, IsTypedRefusedIn}
+use Rattle.jsonpath_lib.specs.functions.Answers.{IsRefusedAfter, IsTextRefusal, IsTypedRefusal}
+use Rattle.jsonpath_lib.specs.compiled.Kept.{IsTypedRefusedIn}
 
 pub refused_after : (json text : List ℕ) (serde : String Global → Type 0) (document : Data) (error : JsonPathError) → IsTextOf json document → IsPathRefused text error → IsRefusedAfter json text serde error
 refused_after json text serde document EmptyPath read refused = refused
@@ -27,20 +28,13 @@ refused_in json text said serde document (Path message) read tells refused = ((d
 refused_in json text said serde document (Serde message) read tells refused = tells message refused
 refused_in json text said serde document OutOfMemory read tells refused = tt
 
-pub text_refused : (json text : List ℕ) (document : Data) (error : JsonPathError) → IsTextOf json document → IsTextRefusedIn document text error → IsTextRefusal json text error
-text_refused json text document error read refused =
-    refused_in json text _ _ document error read (λ message said. inr (said.0, record { document = document; read = read; selected = said.1 }, said.2, said.3)) refused
+pub text_refused : (json text : List ℕ) (document : Data) (error : JsonPathError) → IsTextOf json document → IsTextRefusedOf (Selects text document) error → IsTextRefusal json text error
+text_refused json text document EmptyPath read refused = refused
+text_refused json text document EmptyValue read refused = refused
+text_refused json text document (Path message) read refused = absurd refused
+text_refused json text document (Serde message) read refused = inr (refused.0, record { document = document; read = read; selected = refused.1 }, refused.2, refused.3)
+text_refused json text document OutOfMemory read refused = tt
 
 pub typed_refused : (json text : List ℕ) (document : Data) (error : JsonPathError) → IsTextOf json document → IsTypedRefusedIn document text error → IsTypedRefusal json text error
 typed_refused json text document error read refused =
     refused_in json text _ _ document error read (λ message said. inr (said.0, record { document = document; read = read; selected = said.1 }, said.2)) refused
-
--- ---- changes
-
--- a closure was not asked where a text is refused
-pub replace_refused : {F : Type 0} (calls : UpdateCalls F) (json text : List ℕ) (f g : F) (document : Data) (error : JsonPathError) → IsTextOf json document → g ≡ f → IsPathRefused text error → IsReplaceRefusal calls json text f g error
-replace_refused calls json text f g document EmptyPath read same refused = refused
-replace_refused calls json text f g document EmptyValue read same refused = refused
-replace_refused calls json text f g document (Path message) read same refused = ((document, read), refused, same)
-replace_refused calls json text f g document (Serde message) read same refused = absurd refused
-replace_refused calls json text f g document OutOfMemory read same refused = tt

@@ -10,7 +10,8 @@ use Rattle.jsonpath_paths.specs.Spelling.{Spells}
 use Rattle.jsonpath_paths.specs.WholeText.{tree_of_text}
 use Rattle.jsonpath_paths.specs.tree.Tree.{Path}
 use Rattle.jsonpath_nodes.specs.Sample.{whole, unread, array_of, object_of, utf8}
-use Rattle.jsonpath_select.specs.Parts.{slice_at, index_in}
+use Rattle.jsonpath_paths.specs.text.Spans.{slice_at}
+use Rattle.jsonpath_select.specs.Parts.{index_in}
 use Rattle.jsonpath_lib.specs.update.FixedChanges.{deleted_by, removed_by, masked_by}
 use Rattle.jsonpath_select.specs.Targets.{IsDeleted, IsRemoved}
 use Rattle.jsonpath_lib.specs.update.Masked.{IsMasked}

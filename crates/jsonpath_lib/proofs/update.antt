@@ -1,4 +1,3 @@
 -- Updates by paths.
 pub mod PlaceUpdateLemmas
 pub mod AnyOrderLemmas
-pub mod TryingLemmas

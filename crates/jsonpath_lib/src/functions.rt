@@ -1,7 +1,5 @@
 //! The short functions: from a path text to an answer, or to a changed document, in one call. Those by several path
 //! texts, `mask` and `remove_by_path_texts`, stand in `update`.
 
-pub(crate) mod count_first_exists;
 pub(crate) mod selecting;
 pub(crate) mod updates;
-pub(crate) mod updates_of_json_texts;

@@ -1,6 +1,6 @@
-//! All laws of the library, each the contract of a function that does nothing. A caller's proof has
-//! a law where the caller's body calls it, as `laws::one_selection_per_text();`; the call does nothing when it
-//! runs.
+//! The laws that callers cite, each the contract of a function that does nothing. A caller's proof has a law where the
+//! caller's body calls it, as `laws::one_selection_per_text();`; the call does nothing when it runs. The crates below
+//! have more, in modules of this name.
 
 ghost use Rattle.std.specs.Prelude.{◌≡◌, ℕ, List, Option, option_map};
 ghost use Rattle.std.specs.Fn.{Called};
@@ -14,28 +14,19 @@ ghost use Rattle.jsonpath_select.specs.Meaning.{SelectsAt};
 ghost use Rattle.jsonpath_lib.specs.update.UpdateLaws.{TargetsPlace, DeletesPlace, RemovesPlace, MasksInAnyOrder, RemovesInAnyOrder};
 ghost use Rattle.jsonpath_select.specs.Targets.{IsReplaced};
 
+use jsonpath_nodes::laws::{
+    locations_once_in_order_ascend, nulling_and_taking_ignore_order, taking_at_once_is_in_turn,
+    updates_put_one_answer_in_turn,
+};
 pub use jsonpath_nodes::laws::{
-    all_locations_stand_below_root, apart_locations_meet_candidates_once,
-    candidates_in_one_descent, candidates_of_disjoint_in_descents,
-    candidates_of_one_depth_in_descents, equal_locations_are_same, locations_below_root_ascend,
-    locations_of_one_depth_are_apart, locations_once_in_order_ascend,
-    nulling_and_taking_ignore_order, nulling_at_topmost, object_names_ascend,
-    putting_at_one_location, replacements_stay_in_place, spots_show_their_locations,
-    steps_ignore_order_and_repeats, steps_keep_locations_apart, steps_keep_locations_disjoint,
-    steps_lead_without_repeats, taking_at_once_is_in_turn, topmost_descend_to_same_set,
-    updates_put_one_answer_in_turn, value_is_document,
+    nulling_at_topmost, putting_at_one_location, replacements_stay_in_place, value_is_document,
 };
-pub use jsonpath_paths::laws::{
-    compiled_path_is_in_grammar, connective_joins_conditions, longest_front, names_stand_at_spans,
-    one_tree_per_text, one_tree_per_token_list, spelled_tree, spelled_tree_is_well_formed,
-    word_is_first_token,
-};
+pub use jsonpath_paths::laws::{longest_front, one_tree_per_text, spelled_tree};
 pub use jsonpath_select::laws::{
-    dotted_names_select_one_location, dropping_repeats_keeps_the_set, each_location_has_a_value,
-    extremes_and_sets_decide_pairs, first_is_of_first_piece, location_text_selects_itself,
+    dotted_names_select_one_location, each_location_has_a_value, location_text_selects_itself,
     one_location_answers_one_value, one_selection_per_text, paths_without_repeats_select_once,
-    refused_for_memory_alone, rooted_is_same_for_all_candidates, selects_by_any_tree,
-    swapped_condition_texts_select_alike, swapped_sides_select_alike, what_leads_on_suffices,
+    refused_for_memory_alone, selects_by_any_tree, swapped_condition_texts_select_alike,
+    swapped_sides_select_alike,
 };
 use serde_json::Value;
 

@@ -1,7 +1,7 @@
 //! JSONPath: values of a JSON document selected, replaced, nulled and removed by a path.
 //!
-//! The crate gives out what the crates below it offer to callers: path texts, documents, and the
-//! selectors. `docs/PATHS.md` has every form of a path.
+//! The crate gives out what the crates below it offer to callers: compiled paths, documents, and the
+//! selectors. The module `layers` has what these are made of. `docs/PATHS.md` has every form of a path.
 //!
 //! # Guide
 //!
@@ -52,7 +52,7 @@
 //! };
 //! let mut route = None;
 //! for (number, rule) in rules.iter().enumerate() {
-//!     if !select_values(alloc, &message, rule)?.is_empty() {
+//!     if rule.exists(alloc, &message)? {
 //!         route = Some(number);
 //!     }
 //! }
@@ -68,31 +68,21 @@
 //! ```
 #![tactic(auto)]
 
-mod any_path;
 mod compiled;
 mod functions;
 pub mod laws;
+pub mod layers;
 mod selectors;
 mod stream;
 mod update;
 
-pub use any_path::AnyPath;
 pub use compiled::kept_path::KeptPath;
 pub use compiled::owned_path::Compiled;
 pub use compiled::path_compiled::PathCompiled;
 pub use compiled::path_or_refusal::{CompiledPath, compile};
 pub use compiled::path_texts::{PathsFault, compile_paths};
-pub use functions::count_first_exists::{
-    count, count_in_str, exists, exists_in_str, first, first_as_str,
-};
-pub use functions::selecting::{
-    locations_in_str, select, select_as, select_as_str, select_locations, select_spots,
-    select_to_text, select_to_typed,
-};
-pub use functions::updates::{delete, remove, replace_with, set, try_replace_with};
-pub use functions::updates_of_json_texts::{
-    delete_in_str, remove_in_str, replace_in_str, set_in_str,
-};
+pub use functions::selecting::{select, select_as, select_as_str};
+pub use functions::updates::{delete, replace_with};
 pub use selectors::held_document::HeldDocument;
 pub use selectors::json_selector_mut::JsonSelectorMut;
 pub use selectors::path_selector::{PathSelector, PathSelectorAs, selector, selector_as};
@@ -101,38 +91,12 @@ pub use stream::documents::{DocumentFault, Documents};
 pub use update::masking::{mask, mask_at_paths};
 pub use update::removing_by_several_paths::{remove_at_paths, remove_by_path_texts};
 pub use update::several_paths::MaskFault;
-pub use update::try_replace::{TryFault, TryRefusal, try_replace_at_node, try_replace_at_path};
-pub use update::updates_by_path::{
-    delete_at_node, delete_at_path, remove_at_node, remove_at_path, replace_at_node,
-    replace_at_path, set_at_node, set_at_path,
-};
 
-// What the crates below give out to callers.
-pub use jsonpath_nodes::{
-    Atom, Cmp, CmpEq, CmpGe, CmpGt, CmpLe, CmpLt, CmpNe, Descends, LocStep, Location, LocationTree,
-    Mark, NoMemory, PathStep, PlainStep, Selection, Spot, Steps, StepsFromRoot, Stride, Tally,
-    ValueWalker, Visit, Ways, Yield, abs_index, compute_paths, delete_at, holds, holds_atoms,
-    in_document_order, indexes_standing_among, replace_at, set_at_once, steps_on_marks,
-    take_at_once, tell_along_strides, to_num, topmost_spots, try_replace_at, update_at,
-};
-pub use jsonpath_paths::{
-    Condition, Decimal, FilterToken, Inner, Items, ParseToken, ParserNode, ParserNodeVisitor,
-    ParserStep, ParserTokenHandler, PathParser, ReaderError, StrRange, StrReader, Term, Token,
-    TokenError, TokenReader, Tokenizer,
-};
+// What the crates below give out to callers; `layers` has what one builds on them.
+pub use jsonpath_nodes::{LocStep, Location, NoMemory, PathStep, Spot, Steps, StepsFromRoot};
+pub use jsonpath_paths::{Decimal, PathParser, TokenError};
 pub use jsonpath_select::{
-    JsonPathError, JsonSelector, ListedPath, Node, NodeVisitor, ParseFault, Parser, Selector,
-    borrowed_name_at, compile_path, count_node_values, count_values, document_to_text,
-    error_of_parse_fault, first_node_value, first_value, list_to_text, list_to_typed,
-    node_selects_any_value, path_error, read_document, select_node_in_any_order,
-    select_node_locations, select_node_spots, select_node_to_text, select_node_to_typed,
-    select_node_values, select_path, select_path_in_any_order, select_path_locations,
-    select_path_to_text, select_path_to_typed, select_tokens, select_values, selects_any_value,
-    tokens_fit,
-};
-
-// Bytes that come and go, and where the documents of a text end.
-pub use jsonpath_streams::{
-    Checked, Input, Inside, IoFailed, Output, document_end_in_piece, first_document_len,
-    is_blank_text,
+    AnyPath, JsonPathError, JsonSelector, Node, ParseFault, Parser, PathParts, Selector, TryFault,
+    compile_path, document_to_text, error_of_parse_fault, list_to_text, list_to_typed, path_error,
+    read_document, select_path, select_path_in_any_order,
 };

@@ -2,6 +2,7 @@
 pub mod ViewLemmas
 pub mod ReadableLemmas
 pub mod SpanNameLemmas
+pub mod ListedLemmas
 pub mod WellSpelledLemmas
 pub mod DecodedLemmas
 pub mod ElsewhereLemmas

@@ -1,6 +1,7 @@
 //! The tree of a path, and its token list.
 
 pub(crate) mod clone;
+pub(crate) mod collector;
 pub(crate) mod items;
 pub(crate) mod parser_node;
 pub(crate) mod parser_node_visitor;

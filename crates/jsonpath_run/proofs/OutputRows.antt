@@ -20,7 +20,8 @@ use Rattle.jsonpath_nodes.specs.Sample.{array_of, object_of}
 use Rattle.jsonpath_nodes.specs.place.Location.{Location}
 use Rattle.jsonpath_select.specs.Meaning.{Selects}
 use Rattle.jsonpath_select.specs.FixedTexts.{selects_by}
-use Rattle.jsonpath_select.specs.Parts.{slice_at, index_in}
+use Rattle.jsonpath_paths.specs.text.Spans.{slice_at}
+use Rattle.jsonpath_select.specs.Parts.{index_in}
 use Rattle.jsonpath_select.specs.answer.AnswerText.{IsTextOf, list_text, document_text}
 use Rattle.jsonpath_lib.specs.update.FixedChanges.{deleted_by, removed_by, masked_by}
 use Rattle.jsonpath_select.specs.Targets.{IsDeleted, IsRemoved}

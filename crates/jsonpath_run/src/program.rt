@@ -9,10 +9,10 @@ ghost use Rattle.jsonpath_run.specs.Output.{IsAnswer, IsChange, IsOutput, IsRefu
 use crate::faults::Fault;
 use crate::whole_streams::{ReadFault, read_to_end, write_all};
 use crate::words::{Command, parse_call};
-use jsonpath_lib::{PathsFault, compile_paths, delete_at_path, mask_at_paths, remove_at_path};
+use jsonpath_lib::{PathsFault, compile_paths, mask_at_paths};
 use jsonpath_paths::PathParser;
 use jsonpath_paths::laws::one_tree_per_text;
-use jsonpath_select::{JsonPathError, JsonSelector, document_to_text, read_document};
+use jsonpath_select::{AnyPath, JsonPathError, JsonSelector, document_to_text, read_document};
 use jsonpath_streams::{Input, IoFailed, Output};
 use serde_json::Value;
 use std::alloc::Global;
@@ -224,8 +224,8 @@ fn change_by_command(
     ensures refused { IfErr result (λ error. error ≡ JsonPathError.OutOfMemory) }
 {
     match command {
-        Command::Delete => delete_at_path(alloc, document, &paths[0]),
-        Command::Remove => remove_at_path(alloc, document, &paths[0]),
+        Command::Delete => paths[0].delete_in(alloc, document),
+        Command::Remove => paths[0].remove_in(alloc, document),
         Command::Mask => mask_at_paths(alloc, document, paths),
         Command::Select | Command::Check => unreachable!(),
     }

@@ -12,7 +12,7 @@ use Rattle.jsonpath_paths.specs.tree.Tree.{Path, path, no_steps, step_then, plai
 use Rattle.jsonpath_paths.specs.declared.token.tokens.FilterToken.TheVariants as op
 use Rattle.jsonpath_paths.specs.declared.token.tokens.ParseToken.TheVariants as t
 use Rattle.jsonpath_select.specs.SelectionLaws.{IsReordered}
-use Rattle.jsonpath_select.specs.Parts.{slice_at}
+use Rattle.jsonpath_paths.specs.text.Spans.{slice_at}
 
 abbrev first_text : List ℕ
 first_text = codes "$[?((@.a == 1) || (@))]"

@@ -12,7 +12,8 @@ use Rattle.jsonpath_paths.specs.tree.Tree.{Path}
 use Rattle.jsonpath_nodes.specs.Sample.{whole, minus, unread, array_of, object_of, utf8}
 use Rattle.jsonpath_select.specs.FixedTexts.{selects_by}
 use Rattle.jsonpath_select.specs.Meaning.{Selects}
-use Rattle.jsonpath_select.specs.Parts.{slice_at, index_in}
+use Rattle.jsonpath_paths.specs.text.Spans.{slice_at}
+use Rattle.jsonpath_select.specs.Parts.{index_in}
 
 -- ---- documents that stand in several rows
 

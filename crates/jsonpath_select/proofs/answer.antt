@@ -11,3 +11,6 @@ pub mod AllThereLemmas
 pub mod DottedTextLemmas
 pub mod PlaceLemmas
 pub mod UnescapedLemmas
+pub mod SliceLemmas
+pub mod TargetLemmas
+pub mod TryingLemmas

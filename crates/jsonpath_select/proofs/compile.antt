@@ -5,4 +5,3 @@ pub mod CompleteLemmas
 pub mod CaretLemmas
 pub mod SoundLemmas
 pub mod NamedLemmas
-pub mod SpelledNameLemmas

@@ -9,6 +9,8 @@ pub mod JsonPathErrors
 pub mod SelectionLaws
 pub mod Rooted
 pub mod SetMeaning
+pub mod AnyPath
 pub mod Targets
+pub mod Tried
 pub mod plan
 pub mod comparison

@@ -9,7 +9,7 @@ use Rattle.jsonpath_nodes.specs.place.Order.{once_in_order}
 use Rattle.jsonpath_nodes.specs.update.Run.{RunsWith}
 use Rattle.jsonpath_nodes.specs.update.Topmost.{put, nulled, taken}
 use Rattle.jsonpath_select.specs.Meaning.{sel}
-use Rattle.jsonpath_select.specs.compile.OfPath.{OfPath}
+use Rattle.jsonpath_paths.specs.OfPath.{OfPath}
 
 -- the selected locations, each once, in document order
 abbrev pub targets : List ℕ → Data → Path → List Location

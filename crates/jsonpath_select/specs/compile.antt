@@ -1,6 +1,3 @@
 -- What compiled paths show, and what a text is refused with.
 pub mod Node
 pub mod Faults
-pub mod ListedPath
-pub mod Listed
-pub mod OfPath

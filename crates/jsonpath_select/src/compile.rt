@@ -1,8 +1,7 @@
-//! Compiled paths, their token lists, and the visitor of one that owns its text.
+//! Compiled paths, the verbs of every one, token lists, and the visitor of a path that owns its text.
 
-pub(crate) mod collector;
+pub(crate) mod any_path;
 pub(crate) mod compile_path;
-pub(crate) mod listed_path;
 pub(crate) mod node;
 pub(crate) mod node_visitor;
 pub(crate) mod parser;

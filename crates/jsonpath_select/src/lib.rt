@@ -1,5 +1,5 @@
-//! Compiled paths, which token lists are a path's, what a path selects in a document, selectors that hold both, how
-//! documents are read, and how answers and refusals are printed.
+//! Compiled paths, which token lists are a path's, what a path selects in a document, updates at what it selects,
+//! selectors that hold both, how documents are read, and how answers and refusals are printed.
 #![tactic(auto)]
 
 mod answer;
@@ -14,18 +14,13 @@ mod step;
 mod tagged;
 mod walk;
 
-pub use answer::count_first_exists::{
-    count_node_values, count_values, first_node_value, first_value, node_selects_any_value,
-    selects_any_value,
-};
 pub use answer::document::{document_to_text, read_document};
-pub use answer::locations::{select_node_locations, select_path_locations};
-pub use answer::select::{select_path, select_path_in_any_order, select_tokens, select_values};
-pub use answer::select_node::{select_node_in_any_order, select_node_spots, select_node_values};
-pub use answer::text::{list_to_text, select_node_to_text, select_path_to_text};
-pub use answer::typed::{list_to_typed, select_node_to_typed, select_path_to_typed};
+pub use answer::select::{select_path, select_path_in_any_order, select_tokens};
+pub use answer::text::list_to_text;
+pub use answer::try_replace::TryFault;
+pub use answer::typed::list_to_typed;
+pub use compile::any_path::{AnyPath, PathParts};
 pub use compile::compile_path::compile_path;
-pub use compile::listed_path::ListedPath;
 pub use compile::node::Node;
 pub use compile::node_visitor::NodeVisitor;
 pub use compile::parser::{ParseFault, Parser};

@@ -8,7 +8,7 @@ ghost use Rattle.jsonpath_nodes.specs.update.Update.{update};
 ghost use Rattle.jsonpath_lib.specs.update.Masked.{AreRemoved};
 
 use jsonpath_lib::{
-    JsonPathError, compile_path, laws, mask, remove_at_path, remove_by_path_texts, replace_with,
+    AnyPath, JsonPathError, compile_path, laws, mask, remove_by_path_texts, replace_with,
 };
 use serde_json::Value;
 use std::alloc::Global;
@@ -58,8 +58,8 @@ pub fn remove_price_twice(alloc: Global, json: &mut Value) -> Result<(), JsonPat
     laws::putting_at_one_location();
     laws::value_is_document(json);
     let path = compile_path(alloc, "$.price")?;
-    remove_at_path(alloc, json, &path)?;
-    remove_at_path(alloc, json, &path)?;
+    path.remove_in(alloc, json)?;
+    path.remove_in(alloc, json)?;
     Ok(())
 }
 

@@ -3,7 +3,7 @@ ghost use Rattle.std.specs.Prelude.{◌<◌, [], slice_index_or, length, IfOk, I
 ghost use Rattle.serde_json.specs.View.{view};
 ghost use Rattle.jsonpath_uses.specs.Routes.{Matches, NoneBefore};
 
-use jsonpath_lib::{JsonPathError, PathParser, select_values};
+use jsonpath_lib::{AnyPath, JsonPathError, PathParser};
 use serde_json::Value;
 use std::alloc::Global;
 
@@ -18,7 +18,7 @@ pub fn first_route(
     ensures none { IfOk result (λ route. IfNone route (NoneBefore rules.now (length rules.now) (view message.now))) }
 {
     for (number, rule) in rules.iter().enumerate() {
-        if !select_values(alloc, message, rule)?.is_empty() {
+        if rule.exists(alloc, message)? {
             return Ok(Some(number));
         }
     }

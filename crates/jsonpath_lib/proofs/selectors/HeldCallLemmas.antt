@@ -11,7 +11,7 @@ use denote.RattleType.{RattleType}
 use Rattle.jsonpath_select.specs.contracts.error.JsonPathError as error
 use Rattle.jsonpath_select.proofs.error.JsonPathError.TheLaws as error_laws
 use Rattle.jsonpath_lib.specs.contracts.selectors.held_document.HeldDocument as held
-use Rattle.jsonpath_lib.specs.declared.any_path.AnyPath as any_path
+use Rattle.jsonpath_select.specs.declared.compile.any_path.AnyPath as any_path
 
 abbrev pub E : RattleType
 E = error.the_row

@@ -9,11 +9,11 @@ use base.Fml.{Lft}
 use Rattle.jsonpath_paths.specs.contracts.parser.path_parser.PathParser as path_parser
 use Rattle.jsonpath_select.specs.contracts.compile.node.Node as node
 use Rattle.jsonpath_select.specs.selectors.SelectorLends.{lends_itself}
-use Rattle.jsonpath_lib.specs.contracts.any_path.NodeAnyPath.TheImpl as of_node
-use Rattle.jsonpath_lib.specs.contracts.any_path.PathParserAnyPath.TheImpl as of_parser
-use Rattle.jsonpath_lib.specs.contracts.any_path.RcAnyPath.TheImpl as of_shared
+use Rattle.jsonpath_select.specs.contracts.compile.any_path.NodeAnyPath.TheImpl as of_node
+use Rattle.jsonpath_select.specs.contracts.compile.any_path.PathParserAnyPath.TheImpl as of_parser
+use Rattle.jsonpath_select.specs.contracts.compile.any_path.RcAnyPath.TheImpl as of_shared
 use Rattle.jsonpath_lib.specs.contracts.selectors.held_document.HeldDocument as held
-use Rattle.jsonpath_lib.specs.declared.any_path.AnyPath as any_path
+use Rattle.jsonpath_select.specs.declared.compile.any_path.AnyPath as any_path
 
 -- by a path of this type
 abbrev pub held_lends : (P : RattleType) (any : any_path.Ghosts P.Denot) → MutBor (held.the_row P any).Denot → {E : Type 0} → Result (MutBor (held.the_row P any).Denot) E → Fml

@@ -5,9 +5,9 @@ use Rattle.serde_json.specs.Data.{Data}
 use Rattle.jsonpath_nodes.specs.update.Calls.{UpdateCalls}
 use Rattle.jsonpath_nodes.specs.update.Trial.{TryUpdateCalls}
 use Rattle.jsonpath_select.specs.selectors.Held.{IsSelectRefused}
-use Rattle.jsonpath_lib.specs.update.Tried.{IsTried}
-use Rattle.jsonpath_lib.specs.declared.update.try_replace.TryFault.{TryFault}
-use Rattle.jsonpath_lib.specs.declared.update.try_replace.TryFault.TheVariants.{Unasked, Refused}
+use Rattle.jsonpath_select.specs.Tried.{IsTried}
+use Rattle.jsonpath_select.specs.declared.answer.try_replace.TryFault.{TryFault}
+use Rattle.jsonpath_select.specs.declared.answer.try_replace.TryFault.TheVariants.{Unasked, Refused}
 use Rattle.jsonpath_select.specs.Targets.{IsDeleted, IsRemoved, IsSet, IsReplaced}
 
 -- the document with null at the topmost locations below the root that the path selects

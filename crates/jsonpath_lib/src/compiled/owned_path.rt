@@ -24,7 +24,7 @@ impl Compiled {
     ///
     /// ```text
     /// let path = Compiled::compile(alloc, "$[0]")?;
-    /// assert!(rt; path.exists(alloc, &read_document(alloc, b"[1]")?)?);
+    /// assert_eq!(rt; path.select(alloc, &read_document(alloc, b"[1]")?)?.len(), 1);
     /// let refused = Compiled::compile(alloc, "$[");
     /// assert!(rt; matches!(refused, Err(ParseFault::Text(_))));
     /// ```

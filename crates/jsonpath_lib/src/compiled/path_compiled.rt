@@ -1,9 +1,10 @@
-//! A path compiled once, for many documents, shared by its copies. Its token list is collected once, too.
+//! A path compiled once, for many documents, shared by its copies.
 ghost use Rattle.std.specs.Prelude.{◌≡◌, IfOk, IfErr};
 ghost use Rattle.jsonpath_select.specs.JsonPathErrors.{IsPathRefused};
 
 use crate::compiled::kept_path::KeptPath;
-use jsonpath_select::{JsonPathError, ListedPath, compile_path};
+use jsonpath_paths::PathParser;
+use jsonpath_select::{JsonPathError, compile_path};
 use std::alloc::{AllocError, Global};
 use std::rc::Rc;
 
@@ -16,7 +17,7 @@ use std::rc::Rc;
 /// assert_eq!(rt; path.select(alloc, &first)?.len(), 1);
 /// assert_eq!(rt; path.select(alloc, &second)?.len(), 0);
 /// ```
-pub type PathCompiled<'a> = KeptPath<Rc<ListedPath<'a>>>;
+pub type PathCompiled<'a> = KeptPath<Rc<PathParser<'a>>>;
 
 impl<'a> PathCompiled<'a> {
     /// The path that the text spells. Refused with `Path` exactly where the text is no path, and
@@ -24,7 +25,7 @@ impl<'a> PathCompiled<'a> {
     ///
     /// ```text
     /// let path = PathCompiled::compile(alloc, "$[0]")?;
-    /// assert!(rt; path.exists(alloc, &read_document(alloc, b"[1]")?)?);
+    /// assert_eq!(rt; path.select(alloc, &read_document(alloc, b"[1]")?)?.len(), 1);
     /// let refused = PathCompiled::compile(alloc, "$[");
     /// assert!(rt; matches!(refused, Err(JsonPathError::Path(_))));
     /// ```
@@ -33,8 +34,7 @@ impl<'a> PathCompiled<'a> {
         ensures refused { IfErr result (IsPathRefused text.now) }
     {
         let path = compile_path(alloc, text)?;
-        let listed = ListedPath::new(alloc, path)?;
-        match Rc::new(alloc, listed) {
+        match Rc::new(alloc, path) {
             Ok(path) => Ok(PathCompiled { path }),
             Err(_) => Err(JsonPathError::OutOfMemory),
         }

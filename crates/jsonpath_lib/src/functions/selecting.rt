@@ -1,17 +1,13 @@
-//! What a path text selects: values, spots, locations, text and typed values, in a document or in a JSON text.
+//! What a path text selects: values in a document, or their text or typed values from a JSON text.
 ghost use Rattle.std.specs.Prelude.{map, string_bytes, vec_len, IfOk, IfErr};
 ghost use Rattle.serde_json.specs.View.{view};
 ghost use Rattle.jsonpath_select.specs.JsonPathErrors.{IsPathRefused};
-ghost use Rattle.jsonpath_select.specs.Meaning.{Selects, SelectsAt, SelectsSpots};
-ghost use Rattle.jsonpath_lib.specs.functions.Answers.{IsTextFromJson, IsCountFromJson, IsTextRefusal, IsTypedRefusal, AreLocationsFromJson, IsReadRefusal};
-ghost use Rattle.jsonpath_select.specs.answer.Given.{IsTextOfAnswer, IsTypedCountOf};
-ghost use Rattle.jsonpath_lib.specs.compiled.Kept.{IsTextRefusedIn, IsTypedRefusedIn};
+ghost use Rattle.jsonpath_select.specs.Meaning.{Selects};
+ghost use Rattle.jsonpath_lib.specs.functions.Answers.{IsTextFromJson, IsCountFromJson, IsTextRefusal, IsTypedRefusal};
+ghost use Rattle.jsonpath_select.specs.answer.Given.{IsTypedCountOf};
+ghost use Rattle.jsonpath_lib.specs.compiled.Kept.{IsTypedRefusedIn};
 
-use jsonpath_nodes::{Location, Spot};
-use jsonpath_select::{
-    JsonPathError, compile_path, read_document, select_path, select_path_locations,
-    select_path_to_text, select_path_to_typed, select_values,
-};
+use jsonpath_select::{AnyPath, JsonPathError, compile_path, read_document};
 use serde::DeserializeOwned;
 use serde_json::Value;
 use std::alloc::Global;
@@ -33,7 +29,7 @@ pub fn select<'a>(
     ensures refused { IfErr result (IsPathRefused path.now) }
 {
     let compiled = compile_path(alloc, path)?;
-    let found = select_values(alloc, json, &compiled)?;
+    let found = compiled.select(alloc, json)?;
     Ok(found)
 }
 
@@ -47,13 +43,14 @@ pub fn select<'a>(
 /// let text = select_as_str(alloc, "[1, 2, 3]", "$[-2:]")?;
 /// assert!(rt; text.as_str() == "[2,3]");
 /// ```
-#[tactic(auto, using(crate::proofs::JsonTextRefusedLemmas::text_refused))]
+#[tactic(auto, using(crate::proofs::JsonTextRefusedLemmas::refused_after, crate::proofs::JsonTextRefusedLemmas::text_refused))]
 pub fn select_as_str(alloc: Global, json: &str, path: &str) -> Result<String, JsonPathError>
     ensures ok { IfOk result (λ text. IsTextFromJson json.now path.now (string_bytes text)) }
     ensures refused { IfErr result (IsTextRefusal json.now path.now) }
 {
     let document = read_document(alloc, json.as_bytes())?;
-    select_to_text(alloc, &document, path)
+    let compiled = compile_path(alloc, path)?;
+    compiled.select_as_str(alloc, &document)
 }
 
 /// The values that the path selects in the document that the JSON text is, each as a `T`, in order.
@@ -78,77 +75,10 @@ pub fn select_as<T: DeserializeOwned>(
     select_to_typed(alloc, &document, path)
 }
 
-/// Spots at what the path selects in the document, in the path's order, with its repeats. They borrow the
-/// document alone. Refused with `Path` exactly where the text is no path, and with `OutOfMemory`.
-///
-/// ```text
-/// let document = read_document(alloc, b"[1, [2]]")?;
-/// let spots = select_spots(alloc, &document, "$..[0]")?;
-/// assert_eq!(rt; spots.len(), 2);
-/// assert!(rt; document_to_text(alloc, spots[1].value())?.as_str() == "2");
-/// ```
-pub fn select_spots<'a>(
-    alloc: Global,
-    json: &'a Value,
-    path: &str,
-) -> Result<Vec<Spot<'a>>, JsonPathError>
-    ensures ok { IfOk result (λ found. SelectsSpots path.now (view json.now) found.items) }
-    ensures refused { IfErr result (IsPathRefused path.now) }
-{
-    let compiled = compile_path(alloc, path)?;
-    let found = select_path(alloc, json, &compiled)?;
-    Ok(found)
-}
-
-/// The locations that the path selects in the document, in the path's order, with its repeats. Refused
-/// with `Path` exactly where the text is no path, and with `OutOfMemory`.
-///
-/// ```text
-/// let document = read_document(alloc, b"{\"a\": [1, 2]}")?;
-/// let found = select_locations(alloc, &document, "$.a[*]")?;
-/// assert_eq!(rt; found.len(), 2);
-/// assert!(rt; found[1].to_string(alloc)?.as_str() == "$['a'][1]");
-/// ```
-pub fn select_locations(
-    alloc: Global,
-    json: &Value,
-    path: &str,
-) -> Result<Vec<Location>, JsonPathError>
-    ensures ok { IfOk result (λ found. SelectsAt path.now (view json.now) found.items) }
-    ensures refused { IfErr result (IsPathRefused path.now) }
-{
-    let compiled = compile_path(alloc, path)?;
-    let found = select_path_locations(alloc, json, &compiled)?;
-    Ok(found)
-}
-
-/// The text of the values that the path selects in the document: `[`, their compact texts joined by `,`,
-/// and `]`. Refused with `Path` exactly where the text is no path; with `Serde` exactly where an unread
-/// number, one that is no whole number of 64 bits, stands in the answer; and with `OutOfMemory`.
-///
-/// ```text
-/// let document = read_document(alloc, b"[1, 2, 3]")?;
-/// assert!(rt; select_to_text(alloc, &document, "$[1:]")?.as_str() == "[2,3]");
-/// ```
-pub fn select_to_text(alloc: Global, json: &Value, path: &str) -> Result<String, JsonPathError>
-    ensures ok { IfOk result (λ text. IsTextOfAnswer (Selects path.now (view json.now)) (string_bytes text)) }
-    ensures refused { IfErr result (IsTextRefusedIn (view json.now) path.now) }
-{
-    let compiled = compile_path(alloc, path)?;
-    select_path_to_text(alloc, json, &compiled)
-}
-
-/// The values that the path selects in the document, each as a `T`, in order. Refused with `Path` exactly
-/// where the text is no path; with `Serde` where an unread number, one that is no whole number of 64 bits,
-/// stands in a selected value or where `serde_json` makes no `T` of one; and with `OutOfMemory`.
-///
-/// ```text
-/// let document = read_document(alloc, b"[[1, 2], [3]]")?;
-/// let numbers = select_to_typed::<u8>(alloc, &document, "$[*][0]")?;
-/// assert_eq!(rt; numbers.len(), 2);
-/// assert_eq!(rt; numbers[1], 3);
-/// ```
-pub fn select_to_typed<T: DeserializeOwned>(
+// The values that the path selects in the document, each as a `T`, in order. Refused with `Path` exactly where the text
+// is no path; with `Serde` where an unread number, one that is no whole number of 64 bits, stands in a selected value or
+// where `serde_json` makes no `T` of one; and with `OutOfMemory`.
+pub(crate) fn select_to_typed<T: DeserializeOwned>(
     alloc: Global,
     json: &Value,
     path: &str,
@@ -157,26 +87,5 @@ pub fn select_to_typed<T: DeserializeOwned>(
     ensures refused { IfErr result (IsTypedRefusedIn (view json.now) path.now) }
 {
     let compiled = compile_path(alloc, path)?;
-    select_path_to_typed(alloc, json, &compiled)
-}
-
-/// The locations that the path selects in the document that the JSON text is, in the path's order, with
-/// its repeats. The JSON text is read first, then the path. Refused as `count_in_str`.
-///
-/// ```text
-/// let found = locations_in_str(alloc, "{\"a\": [1, 2]}", "$.a[1]")?;
-/// assert_eq!(rt; found.len(), 1);
-/// assert!(rt; found[0].to_string(alloc)?.as_str() == "$['a'][1]");
-/// ```
-#[tactic(auto, using(crate::proofs::JsonTextRefusedLemmas::refused_after))]
-pub fn locations_in_str(
-    alloc: Global,
-    json: &str,
-    path: &str,
-) -> Result<Vec<Location>, JsonPathError>
-    ensures ok { IfOk result (λ found. AreLocationsFromJson json.now path.now found.items) }
-    ensures refused { IfErr result (IsReadRefusal json.now path.now) }
-{
-    let document = read_document(alloc, json.as_bytes())?;
-    select_locations(alloc, &document, path)
+    compiled.select_as(alloc, json)
 }

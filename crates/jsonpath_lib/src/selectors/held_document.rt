@@ -6,12 +6,7 @@ ghost use Rattle.jsonpath_select.specs.selectors.Held.{document, IsSelectRefused
 ghost use Rattle.jsonpath_lib.specs.selectors.HeldDocumentLends.{held_lends};
 ghost use Rattle.jsonpath_lib.specs.update.Changes.{DeletesHeld, RemovesHeld, SetsHeld, ReplacesHeld, TriesHeld, EndsHeld};
 
-use crate::any_path::AnyPath;
-use crate::update::targets::{
-    put_null_at_targets, remove_targets, replace_at_targets, set_at_targets,
-};
-use crate::update::try_replace::{TryFault, try_replace_at_targets};
-use jsonpath_select::JsonPathError;
+use jsonpath_select::{AnyPath, JsonPathError, TryFault};
 use serde_json::Value;
 use std::alloc::Global;
 use std::marker::Model;
@@ -135,7 +130,7 @@ impl<P: AnyPath> HeldDocument<P> {
         let Some(value) = &mut self.value else {
             return Err(JsonPathError::EmptyValue);
         };
-        put_null_at_targets(alloc, value, path)
+        path.delete_in(alloc, value)
     }
 
     /// Takes away the topmost values below the root that the path selects, all at once. What remains
@@ -181,7 +176,7 @@ impl<P: AnyPath> HeldDocument<P> {
         let Some(value) = &mut self.value else {
             return Err(JsonPathError::EmptyValue);
         };
-        remove_targets(alloc, value, path)
+        path.remove_in(alloc, value)
     }
 
     /// Puts a copy of `new` at the topmost locations below the root that the path selects, all at
@@ -227,7 +222,7 @@ impl<P: AnyPath> HeldDocument<P> {
         let Some(value) = &mut self.value else {
             return Err(JsonPathError::EmptyValue);
         };
-        set_at_targets(alloc, value, path, new)
+        path.set_in(alloc, value, new)
     }
 
     /// Hands the values that the path selects to the closure, in document order, each location once,
@@ -292,7 +287,7 @@ impl<P: AnyPath> HeldDocument<P> {
         let Some(value) = &mut self.value else {
             return Err(JsonPathError::EmptyValue);
         };
-        replace_at_targets(alloc, value, path, fun)
+        path.replace_in(alloc, value, fun)
     }
 
     /// Shows the values that the path selects to a closure that may refuse, in document order, each location
@@ -325,6 +320,6 @@ impl<P: AnyPath> HeldDocument<P> {
         let Some(value) = &mut self.value else {
             return Err(TryFault::Unasked(JsonPathError::EmptyValue));
         };
-        try_replace_at_targets(alloc, value, path, fun)
+        path.try_replace_in(alloc, value, fun)
     }
 }

@@ -4,10 +4,9 @@ ghost use Rattle.serde_json.specs.View.{view};
 ghost use Rattle.jsonpath_select.specs.answer.Counted.{IsCountOf, IsFirstOf, TellsIfAny};
 ghost use Rattle.jsonpath_select.specs.selectors.Held.{document, AreLocationsFor, AreSpotsFor, AreValuesFor, IsTextFor, IsCountFor, IsSelectRefused, IsTextRefusedFor, IsTypedRefusedFor};
 
-use crate::any_path::AnyPath;
 use crate::selectors::held_document::HeldDocument;
 use jsonpath_nodes::{Location, Spot};
-use jsonpath_select::{JsonPathError, list_to_text, list_to_typed};
+use jsonpath_select::{AnyPath, JsonPathError, list_to_text, list_to_typed};
 use serde::DeserializeOwned;
 use serde_json::Value;
 use std::alloc::Global;
@@ -41,7 +40,7 @@ impl<P: AnyPath> HeldDocument<P> {
         ensures refused { IfErr result (IsSelectRefused self.now.path (document self.now)) }
     {
         let (path, value) = self.path_and_value()?;
-        path.select_values(alloc, value)
+        path.select(alloc, value)
     }
 
     /// Spots at what the path selects in the document, in the path's order, with its repeats. Refused as `select`.
@@ -130,7 +129,7 @@ impl<P: AnyPath> HeldDocument<P> {
         ensures refused { IfErr result (IsSelectRefused self.now.path (document self.now)) }
     {
         let (path, value) = self.path_and_value()?;
-        path.count_values(alloc, value)
+        path.count(alloc, value)
     }
 
     /// The first of the values that the path selects, in the path's order, if there is one. Refused as `select`.
@@ -147,7 +146,7 @@ impl<P: AnyPath> HeldDocument<P> {
         ensures refused { IfErr result (IsSelectRefused self.now.path (document self.now)) }
     {
         let (path, value) = self.path_and_value()?;
-        path.first_value(alloc, value)
+        path.first(alloc, value)
     }
 
     /// Whether the path selects a value in the document. Refused as `select`.

@@ -106,13 +106,14 @@ impl LineColumn {
 ///
 /// ```text
 /// let log = b"{\"ms\": 7}\n{\"ms\": 900}\n[1][2]";
-/// let mut slow = 0u64;
+/// let slow = compile_path(alloc, "$[?(@.ms > 500)]")?;
+/// let mut count = 0u64;
 /// for record in Documents::new(alloc, log) {
-///     if exists(alloc, &record?, "$[?(@.ms > 500)]")? {
-///         slow = slow.saturating_add(1);
+///     if slow.exists(alloc, &record?)? {
+///         count = count.saturating_add(1);
 ///     }
 /// }
-/// assert_eq!(rt; slow, 1);
+/// assert_eq!(rt; count, 1);
 /// ```
 #[derive(Drop)]
 pub struct Documents<'a> {

@@ -1,4 +1,4 @@
-//! `PathParser`, a compiled path: a path text and the tree that it spells.
+//! `PathParser`, a compiled path: a path text, the tree that it spells and the token list of that tree.
 
 ghost use Rattle.std.specs.Prelude.{◌≡◌, ◌≢◌, ◌++◌, true, false, length, ℕ, List, IfOk, IfErr, IsOk};
 ghost use Rattle.jsonpath_paths.specs.tree.Tree.{Path};
@@ -9,20 +9,22 @@ ghost use Rattle.jsonpath_paths.specs.declared.text.str_reader.StrRange.{StrRang
 ghost use denote.Ref.{Bor};
 ghost use Rattle.jsonpath_paths.specs.token.Refusals.{MatchPlace};
 ghost use Rattle.jsonpath_paths.specs.Spelling.{Spells, IsInGrammar};
+ghost use Rattle.jsonpath_paths.specs.Listed.{IsListOfText};
 ghost use Rattle.jsonpath_paths.specs.tree.View.{path_of};
 ghost use Rattle.jsonpath_paths.specs.declared.token.tokens.TokenError.TheVariants.{OutOfMemory};
 
 use crate::parser::tree_parser::{Refusal, TreeParser};
 use crate::text::str_reader::{StrRange, StrReader};
 use crate::token::tokenizer::{Tokenizer, lexemes_up_to_refusal};
-use crate::token::tokens::TokenError;
+use crate::token::tokens::{ParseToken, TokenError};
+use crate::tree::collector::Collector;
 use crate::tree::parser_node::ParserNode;
-use crate::tree::parser_node_visitor::ParserNodeVisitor;
+use crate::tree::parser_node_visitor::{ParserNodeVisitor, visit_node};
 use crate::tree::parser_token_handler::ParserTokenHandler;
 use std::alloc::{AllocError, Global};
 use std::marker::Model;
 
-/// A path text of the grammar, and the one tree that it spells.
+/// A path text of the grammar, the one tree that it spells and the token list of that tree, which is made once.
 ///
 /// ```text
 /// let path = PathParser::compile(alloc, "$.store['book'][0]")?;
@@ -32,6 +34,7 @@ use std::marker::Model;
 pub struct PathParser<'a> {
     text: &'a str,
     tree: ParserNode,
+    tokens: Vec<ParseToken>,
 }
 
 impl<'a> Model for PathParser<'a> {
@@ -88,7 +91,7 @@ impl<'a> PathParser<'a> {
         match parser.parse_whole_path() {
             Ok(tree) => {
                 if stop.is_at_end() {
-                    Ok(PathParser { text: input, tree })
+                    Ok(PathParser::with_token_list(alloc, input, tree, found.len())?)
                 } else {
                     Err(stop.error_at_refused_character_end())
                 }
@@ -98,6 +101,24 @@ impl<'a> PathParser<'a> {
                 Refusal::Refused => Err(error_at_refused_token_or_character(&parser, &stop, input)),
             },
         }
+    }
+
+    // The path with this text, which spells the tree, and with the tree's token list: at first there is room for so many
+    // tokens.
+    fn with_token_list(
+        alloc: Global,
+        text: &'a str,
+        tree: ParserNode,
+        room: usize,
+    ) -> Result<PathParser<'a>, AllocError>
+        requires spells { Spells text.now (path_of tree) }
+        requires spans { MayReadPath (λ s. IsSpan text.now s.now) (path_of tree) }
+        ensures { IfOk result (λ path. path ≡ text.now) }
+    {
+        let mut collector = Collector::with_capacity(alloc, room)?;
+        visit_node(&tree, &mut collector, &|_: &StrRange| ());
+        let tokens = collector.into_tokens()?;
+        Ok(PathParser { text, tree, tokens })
     }
 
     /// Gives the receiver the token list of the tree, in order, unless the receiver fails, with a
@@ -146,6 +167,19 @@ impl<'a> PathParser<'a> {
         &self.tree
     }
 
+    /// The token list of the tree that the text spells. It takes no memory.
+    ///
+    /// ```text
+    /// let path = PathParser::compile(alloc, "$.*")?;
+    /// let tokens = [ParseToken::Absolute, ParseToken::In, ParseToken::All];
+    /// assert!(rt; path.tokens() == tokens.as_slice());
+    /// ```
+    pub fn tokens(&self) -> &[ParseToken]
+        ensures { IsListOfText self.now result.now }
+    {
+        self.tokens.as_slice()
+    }
+
     /// Gives up the path for the tree that its text spells.
     ///
     /// ```text
@@ -156,22 +190,43 @@ impl<'a> PathParser<'a> {
         ensures spells { Spells self.entry (path_of result) }
         ensures spans { MayReadPath (λ s. IsSpan self.entry s.now) (path_of result) }
     {
-        let PathParser { text: _, tree } = self;
+        let (tree, _) = self.into_tree_and_tokens();
         tree
+    }
+
+    /// Gives up the path for the tree that its text spells and the token list of that tree.
+    ///
+    /// ```text
+    /// let (tree, tokens) = PathParser::compile(alloc, "$.a[0]")?.into_tree_and_tokens();
+    /// assert!(rt; tree.steps.len() == 2 && tokens.len() == 6);
+    /// ```
+    pub fn into_tree_and_tokens(self) -> (ParserNode, Vec<ParseToken>)
+        ensures spells { Spells self.entry (path_of result.0) }
+        ensures spans { MayReadPath (λ s. IsSpan self.entry s.now) (path_of result.0) }
+        ensures list { IsListOfText self.entry result.1.items }
+    {
+        let PathParser {
+            text: _,
+            tree,
+            tokens,
+        } = self;
+        (tree, tokens)
     }
 }
 
 impl<'a> ParserNodeVisitor for PathParser<'a> {}
 
-/// A copy has the same text and the same tree. It takes memory, and is refused where there is none.
+/// A copy has the same text, tree and token list. It takes memory, and is refused where there is none.
 impl<'a> Clone for PathParser<'a> {
     ghost is_clone = { λ parser copy. copy ≡ parser };
 
     fn clone(&self) -> Result<PathParser<'a>, AllocError> {
         let tree = self.tree.clone()?;
+        let tokens = self.tokens.clone()?;
         Ok(PathParser {
             text: self.text,
             tree,
+            tokens,
         })
     }
 }

@@ -42,7 +42,7 @@ pub trait ParserNodeVisitor {
 // Hands over the tokens of a path: that of the root or the candidate, and those of the steps.
 #[cycle(visit)]
 #[tactic(auto, using(crate::proofs::tree::ViewLemmas::may_read_steps))]
-fn visit_node<V, H: ParserTokenHandler<V>, R: Fn(&StrRange) -> V>(
+pub(crate) fn visit_node<V, H: ParserTokenHandler<V>, R: Fn(&StrRange) -> V>(
     node: &ParserNode,
     handler: &mut H,
     reader: &R,

@@ -6,7 +6,7 @@ use Rattle.std.specs.Str.{IsUtf8, chars, encode_utf8_all}
 use Rattle.serde_json.specs.Data.{Data}
 use Rattle.jsonpath_paths.specs.tree.Alike.{IsSameAt, AreSameAt, AlikeToken, same_all, same_key, same_keys, AlikePath, alike_path, AlikeSteps, alike_end, alike_step, AlikeInner, alike_plain, alike_filter, AlikeCondition, alike_lone, alike_compare, alike_join, AlikeTerm, alike_at_path, alike_literal}
 use Rattle.jsonpath_paths.specs.tree.Joined.{filter_text, joined_text, filter_path, JoinsSides}
-use Rattle.jsonpath_paths.specs.text.Spans.{IsSpan}
+use Rattle.jsonpath_paths.specs.text.Spans.{IsSpan, slice_at}
 use Rattle.jsonpath_paths.specs.Spelling.{Spells, IsInGrammar}
 use Rattle.jsonpath_paths.specs.text.Characters.{bytes_at, name_of}
 use Rattle.jsonpath_paths.specs.tree.Tree.{Path, path, PathSteps, no_steps, step_then, Inner, Condition, join, Term, is_comparison}
@@ -19,9 +19,9 @@ use Rattle.jsonpath_nodes.specs.compare.Comparisons.{text}
 use Rattle.jsonpath_nodes.specs.step.Steps.{named, listed, flattened}
 use Rattle.jsonpath_select.specs.SelectionLaws.{IsReordered, AreReordered, IsReorderedInner, IsReorderedCondition, IsReorderedTerm, LocationsInBothOrders, ValuesInBothOrders}
 use Rattle.jsonpath_select.specs.Meaning.{sel, holds, candidates, has_own_step}
-use Rattle.jsonpath_select.specs.Parts.{slice_at, name_at, plain_of, literals, joined}
+use Rattle.jsonpath_select.specs.Parts.{name_at, plain_of, literals, joined}
 use Rattle.jsonpath_select.proofs.answer.ReorderedLemmas.{filter_same, joined_swap, same_own, reordered_holds}
-use Rattle.jsonpath_select.proofs.compile.SpelledNameLemmas.{at_boundary}
+use Rattle.jsonpath_select.proofs.answer.SliceLemmas.{at_boundary}
 
 -- ---- trees that are the same elsewhere
 

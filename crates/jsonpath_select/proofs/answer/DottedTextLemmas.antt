@@ -15,6 +15,7 @@ use Rattle.jsonpath_paths.specs.Grammar.{Lexemes, levels}
 use Rattle.jsonpath_paths.specs.token.Kinds.{IsFirst, HasNone, all_pass, begins_none, ends_word}
 use Rattle.jsonpath_paths.specs.token.Reading.{first}
 use Rattle.jsonpath_paths.specs.Spelling.{Spells}
+use Rattle.jsonpath_paths.specs.text.Spans.{slice_at}
 use Rattle.jsonpath_paths.specs.text.Characters.{byte_len, name_of, is_stop_character, is_quote, goes_on, dollar}
 use Rattle.jsonpath_paths.specs.token.Tokens.{TokensAt, no_token, lexeme}
 use Rattle.jsonpath_paths.specs.tree.Tree.{Path, path, PathSteps, no_steps, step_then, plain}
@@ -27,9 +28,9 @@ use Rattle.jsonpath_nodes.specs.place.Location.{name, Location, child, at}
 use Rattle.jsonpath_nodes.specs.step.Steps.{named, step}
 use Rattle.jsonpath_select.specs.SelectionLaws.{is_dot_name, behind_dots, dotted, where_it_is, SelectsNames}
 use Rattle.jsonpath_select.specs.Meaning.{sel, follow}
-use Rattle.jsonpath_select.specs.Parts.{plain_of, slice_at}
+use Rattle.jsonpath_select.specs.Parts.{plain_of}
 use Rattle.jsonpath_select.proofs.answer.LocationTextLemmas.{token_is, at_last, name_leads}
-use Rattle.jsonpath_select.proofs.compile.SpelledNameLemmas.{slice_is}
+use Rattle.jsonpath_select.proofs.answer.SliceLemmas.{slice_is}
 
 -- ---- ASCII texts
 

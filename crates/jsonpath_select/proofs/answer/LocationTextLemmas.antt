@@ -21,6 +21,7 @@ use Rattle.jsonpath_paths.specs.token.Kinds.{IsFirst, HasNone}
 use Rattle.jsonpath_paths.specs.Numbers.{index_of}
 use Rattle.jsonpath_paths.specs.token.Reading.{closing, first}
 use Rattle.jsonpath_paths.specs.Spelling.{Spells}
+use Rattle.jsonpath_paths.specs.text.Spans.{slice_at}
 use Rattle.jsonpath_paths.specs.text.Characters.{byte_len, byte_len_is, bytes_at, name_of, unescaped, goes_on}
 use Rattle.jsonpath_paths.specs.token.Tokens.{TokensAt, no_token, one_token, lexeme}
 use Rattle.jsonpath_paths.specs.tree.Tree.{Path, path, PathSteps, no_steps, step_then, plain}
@@ -35,9 +36,9 @@ use Rattle.jsonpath_nodes.specs.place.LocationText.{guarded_char, guarded, step_
 use Rattle.jsonpath_nodes.specs.step.Steps.{Plain, named, nth, selected, single_steps, step, present}
 use Rattle.jsonpath_select.specs.SelectionLaws.{CanBeSpelled, AllCanBeSpelled, where_it_is, SelectsItself}
 use Rattle.jsonpath_select.specs.Meaning.{sel, follow}
-use Rattle.jsonpath_select.specs.Parts.{plain_of, slice_at, at_index}
+use Rattle.jsonpath_select.specs.Parts.{plain_of, at_index}
 use Rattle.jsonpath_select.proofs.compile.BracketWordLemmas.{whole_index}
-use Rattle.jsonpath_select.proofs.compile.SpelledNameLemmas.{slice_is}
+use Rattle.jsonpath_select.proofs.answer.SliceLemmas.{slice_is}
 
 -- ---- digits
 

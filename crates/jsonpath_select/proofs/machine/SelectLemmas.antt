@@ -5,7 +5,7 @@ use Rattle.serde_json.specs.Data.{Data}
 use Rattle.jsonpath_paths.specs.tree.Tree.{Path, path, PathSteps}
 use Rattle.jsonpath_paths.specs.tree.WellFormed.{IsPath}
 use Rattle.jsonpath_paths.specs.declared.token.tokens.ParseToken.{ParseToken}
-use Rattle.jsonpath_select.specs.compile.Listed.{IsListOf}
+use Rattle.jsonpath_paths.specs.Listed.{IsListOf}
 use Rattle.jsonpath_select.specs.Meaning.{sel, follow}
 use Rattle.jsonpath_select.specs.plan.Code.{path_code, scan}
 use Rattle.jsonpath_select.specs.plan.NextFilter.{CodesSteps}

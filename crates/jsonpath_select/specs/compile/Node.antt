@@ -2,7 +2,7 @@
 use Rattle.std.specs.Prelude.{ℕ, List, string_bytes}
 use Rattle.jsonpath_paths.specs.Spelling.{Spells}
 use Rattle.jsonpath_paths.specs.tree.View.{path_of}
-use Rattle.jsonpath_select.specs.compile.Listed.{IsListOfText}
+use Rattle.jsonpath_paths.specs.Listed.{IsListOfText}
 use Rattle.jsonpath_select.specs.declared.compile.node.Node.TheInside.{Inside}
 
 abbrev pub node_text : Inside → List ℕ

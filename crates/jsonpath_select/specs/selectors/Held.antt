@@ -11,8 +11,6 @@ use Rattle.jsonpath_nodes.specs.declared.place.spot.Spot.{Spot}
 use Rattle.jsonpath_select.specs.Meaning.{Selects, SelectsAt, SelectsSpots}
 use Rattle.jsonpath_select.specs.ErrorCases.{ByCase, NoMessage}
 use Rattle.jsonpath_select.specs.answer.AnswerText.{list_text, holds_unread, SaysUnread}
-use Rattle.jsonpath_select.specs.declared.selectors.json_selector.HeldPath.{HeldPath}
-use Rattle.jsonpath_select.specs.declared.selectors.json_selector.HeldPath.TheVariants.{Listed, Shared}
 use Rattle.jsonpath_select.specs.declared.selectors.selector.HeldNode.{HeldNode}
 use Rattle.jsonpath_select.specs.declared.selectors.selector.HeldNode.TheVariants.{Own, Lent}
 use Rattle.jsonpath_select.specs.declared.error.JsonPathError.{JsonPathError}
@@ -32,11 +30,6 @@ held_code =
 -- the document that the value stands for
 abbrev pub document : Held → Option Data
 document h = option_map view h.value
-
--- the text of a path with its token list, or of a shared one
-abbrev pub path_held : HeldPath → List ℕ
-path_held (Listed path) = path
-path_held (Shared path) = path.value
 
 -- the text of a path of its own, or of one that is lent
 abbrev pub text_held : HeldNode → List ℕ

@@ -1,18 +1,17 @@
-//! What a `PathParser`, a `ListedPath` or a bare token list selects in a value, as spots and as values;
-//! `select_node.rt` has what a `Node` selects.
+//! What a compiled path or a bare token list selects in a value, as spots and as values.
 ghost use Rattle.std.specs.Prelude.{◌≡◌, ℕ, List, map, IfOk, IfErr};
 ghost use Rattle.serde_json.specs.Data.{Data};
 ghost use Rattle.serde_json.specs.View.{view};
 ghost use Rattle.jsonpath_nodes.specs.place.SpotPlace.{StandAt};
-ghost use Rattle.jsonpath_select.specs.compile.Listed.{IsListOf, IsListOfText, IsSomePath};
+ghost use Rattle.jsonpath_paths.specs.Listed.{IsListOf, IsListOfText, IsSomePath};
+ghost use Rattle.jsonpath_select.specs.AnyPath.{ArePartsOf};
 ghost use Rattle.jsonpath_select.specs.Meaning.{sel, Selects, SelectsSet, SelectsSpots};
 ghost use Rattle.jsonpath_paths.specs.Spelling.{Spells};
 ghost use Rattle.jsonpath_paths.specs.tree.Tree.{Path};
 ghost use Rattle.jsonpath_paths.specs.tree.View.{path_of};
 
 use crate::answer::of_spots::values_at_spots;
-use crate::compile::collector::token_list;
-use crate::compile::listed_path::ListedPath;
+use crate::compile::any_path::{AnyPath, PathParts};
 use crate::error::JsonPathError;
 use crate::error::halt::Halt;
 use crate::machine::machine::Machine;
@@ -40,12 +39,7 @@ pub fn select_path<'a>(
     ensures ok { IfOk result (λ found. SelectsSpots path.now (view json.now) found.items) }
     ensures refused { IfErr result (λ e. e ≡ JsonPathError.OutOfMemory) }
 {
-    let text = path.text();
-    if (Choice { alloc, text }).needs_tree_walk(path.tree())? {
-        return spots_by_tree(alloc, json, text, path.tree());
-    }
-    let tokens = token_list(alloc, path, text)?;
-    spots_by_tokens(alloc, json, text, tokens.as_slice())
+    spots_by_parts(alloc, json, path.parts())
 }
 
 /// Spots at what the path with this token list selects in the value, in the path's order, with its
@@ -101,12 +95,61 @@ pub fn select_path_in_any_order<'a>(
     ensures ok { IfOk result (λ found. SelectsSet path.now (view json.now) found.items) }
     ensures refused { IfErr result (λ e. e ≡ JsonPathError.OutOfMemory) }
 {
-    let text = path.text();
-    if (Choice { alloc, text }).needs_set_walk(path.tree())? {
-        return spot_set_by_tree(alloc, json, text, path.tree());
+    spot_set_by_parts(alloc, json, path.parts())
+}
+
+// Spots at what the path selects in the value, in the path's order: by the walk along the tree or by the machine,
+// whichever its tree needs.
+pub(crate) fn spots_by_parts<'a>(
+    alloc: Global,
+    json: &'a Value,
+    path: PathParts<'_>,
+) -> Result<Vec<Spot<'a>>, JsonPathError>
+    requires { ArePartsOf path.text.now path }
+    ensures ok { IfOk result (λ found. SelectsSpots path.entry.text.now (view json.now) found.items) }
+    ensures refused { IfErr result (λ e. e ≡ JsonPathError.OutOfMemory) }
+{
+    let text = path.text;
+    if (Choice { alloc, text }).needs_tree_walk(path.tree)? {
+        return spots_by_tree(alloc, json, path.text, path.tree);
+    }
+    spots_by_tokens(alloc, json, path.text, path.tokens)
+}
+
+// The values that the path selects in the value, in the path's order: by the walk along the tree or by the machine,
+// whichever its tree needs.
+pub(crate) fn values_by_parts<'a>(
+    alloc: Global,
+    json: &'a Value,
+    path: PathParts<'_>,
+) -> Result<Vec<&'a Value>, JsonPathError>
+    requires { ArePartsOf path.text.now path }
+    ensures ok { IfOk result (λ found. Selects path.entry.text.now (view json.now) (map (λ v. view v.now) found.items)) }
+    ensures refused { IfErr result (λ e. e ≡ JsonPathError.OutOfMemory) }
+{
+    let text = path.text;
+    if (Choice { alloc, text }).needs_tree_walk(path.tree)? {
+        return values_by_tree(alloc, json, path.text, path.tree);
+    }
+    values_by_tokens(alloc, json, path.text, path.tokens)
+}
+
+// Spots at what the path selects in the value, as a set: by the walk over sets where its tree needs it.
+pub(crate) fn spot_set_by_parts<'a>(
+    alloc: Global,
+    json: &'a Value,
+    path: PathParts<'_>,
+) -> Result<Vec<Spot<'a>>, JsonPathError>
+    requires { ArePartsOf path.text.now path }
+    ensures ok { IfOk result (λ found. SelectsSet path.entry.text.now (view json.now) found.items) }
+    ensures refused { IfErr result (λ e. e ≡ JsonPathError.OutOfMemory) }
+{
+    let text = path.text;
+    if (Choice { alloc, text }).needs_set_walk(path.tree)? {
+        return spot_set_by_tree(alloc, json, path.text, path.tree);
     }
     spots_show_their_locations();
-    let found = select_path(alloc, json, path)?;
+    let found = spots_by_parts(alloc, json, path)?;
     Ok(found)
 }
 
@@ -167,31 +210,6 @@ pub(crate) fn spot_set_by_tree<'a>(
     Ok(found)
 }
 
-/// The values that a path selects in the value, in the path's order, with its repeats. No locations are kept on the
-/// way, unless the path needs them. Refused with `OutOfMemory` alone.
-///
-/// ```text
-/// let document = read_document(alloc, b"[1, [2, 3]]")?;
-/// let path = compile_path(alloc, "$..[0]")?;
-/// let found = select_values(alloc, &document, &path)?;
-/// assert!(rt; list_to_text(alloc, found.as_slice())?.as_str() == "[1,2]");
-/// ```
-pub fn select_values<'a>(
-    alloc: Global,
-    json: &'a Value,
-    path: &PathParser<'_>,
-) -> Result<Vec<&'a Value>, JsonPathError>
-    ensures ok { IfOk result (λ found. Selects path.now (view json.now) (map (λ v. view v.now) found.items)) }
-    ensures refused { IfErr result (λ e. e ≡ JsonPathError.OutOfMemory) }
-{
-    let text = path.text();
-    if (Choice { alloc, text }).needs_tree_walk(path.tree())? {
-        return values_by_tree(alloc, json, text, path.tree());
-    }
-    let tokens = token_list(alloc, path, text)?;
-    values_by_tokens(alloc, json, text, tokens.as_slice())
-}
-
 // Spots at what the path with this text and token list selects in the value, in the path's order, by the machine.
 pub(crate) fn spots_by_tokens<'a>(
     alloc: Global,
@@ -242,55 +260,4 @@ fn values_at_selected_spots<'a>(
     ensures { IfOk result (λ found. (text : List ℕ) (doc : Data) → SelectsSpots text doc spots.now → Selects text doc (map (λ v. view v.now) found.items)) }
 {
     values_at_spots(alloc, spots)
-}
-
-impl<'a> ListedPath<'a> {
-    /// Spots at what the path selects in the value, in the path's order, with its repeats. They
-    /// borrow the value alone. Refused with `OutOfMemory` alone.
-    ///
-    /// ```text
-    /// let document = read_document(alloc, b"[1, 2, 3]")?;
-    /// let path = ListedPath::new(alloc, compile_path(alloc, "$[1:]")?)?;
-    /// let spots = path.select_spots(alloc, &document)?;
-    /// assert_eq!(rt; spots.len(), 2);
-    /// assert!(rt; spots[1].value().as_u64() == Some(3));
-    /// ```
-    pub fn select_spots<'v>(
-        &self,
-        alloc: Global,
-        value: &'v Value,
-    ) -> Result<Vec<Spot<'v>>, JsonPathError>
-        ensures ok { IfOk result (λ found. SelectsSpots self.now (view value.now) found.items) }
-        ensures refused { IfErr result (λ e. e ≡ JsonPathError.OutOfMemory) }
-    {
-        let text = self.path().text();
-        if (Choice { alloc, text }).needs_tree_walk(self.path().tree())? {
-            return spots_by_tree(alloc, value, text, self.path().tree());
-        }
-        spots_by_tokens(alloc, value, text, self.tokens())
-    }
-
-    /// The values that the path selects in the value, in the path's order, with its repeats. They
-    /// borrow the value alone. Refused with `OutOfMemory` alone.
-    ///
-    /// ```text
-    /// let document = read_document(alloc, b"[1, 2, 3]")?;
-    /// let path = ListedPath::new(alloc, compile_path(alloc, "$[1:]")?)?;
-    /// let found = path.select(alloc, &document)?;
-    /// assert!(rt; list_to_text(alloc, found.as_slice())?.as_str() == "[2,3]");
-    /// ```
-    pub fn select<'v>(
-        &self,
-        alloc: Global,
-        value: &'v Value,
-    ) -> Result<Vec<&'v Value>, JsonPathError>
-        ensures ok { IfOk result (λ found. Selects self.now (view value.now) (map (λ v. view v.now) found.items)) }
-        ensures refused { IfErr result (λ e. e ≡ JsonPathError.OutOfMemory) }
-    {
-        let text = self.path().text();
-        if (Choice { alloc, text }).needs_tree_walk(self.path().tree())? {
-            return values_by_tree(alloc, value, text, self.path().tree());
-        }
-        values_by_tokens(alloc, value, text, self.tokens())
-    }
 }

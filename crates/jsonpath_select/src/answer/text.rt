@@ -3,18 +3,11 @@ ghost use Rattle.std.specs.Prelude.{◌≡◌, false, map, string_bytes, Some, N
 ghost use Rattle.json.specs.Print.{escape, quoted};
 ghost use Rattle.serde_json.specs.View.{view};
 ghost use Rattle.serde_json.specs.Written.{has_float, compact_text, comma_if};
-ghost use Rattle.jsonpath_select.specs.Meaning.{Selects};
-ghost use Rattle.jsonpath_select.specs.answer.Given.{IsTextOfAnswer, IsTextRefusedOf};
 ghost use Rattle.jsonpath_select.specs.answer.AnswerText.{list_text, bracketed, holds_unread, IsListTextRefused};
 
-use crate::answer::select::select_values;
-use crate::answer::select_node::select_node_values;
 use crate::answer::unread_number::{has_unread_number_in_values, unread_number_error};
-use crate::compile::listed_path::ListedPath;
-use crate::compile::node::Node;
 use crate::error::JsonPathError;
 use itoa::Buffer;
-use jsonpath_paths::PathParser;
 use serde_json::Value;
 use std::alloc::{AllocError, Global};
 
@@ -127,65 +120,4 @@ fn push_quoted_without_escapes(text: &mut String, plain: &str) -> Result<(), All
     text.push('"')?;
     text.push_str(plain)?;
     text.push('"')
-}
-
-/// The text of the values that the path selects: `[`, their compact JSON texts joined by `,`, and `]`.
-/// Refused with `Serde` exactly where an unread number, one that is no whole number of 64 bits, stands in
-/// one of them, at any depth, and with `OutOfMemory`.
-///
-/// ```text
-/// let document = read_document(alloc, b"[1, [2, 3]]")?;
-/// let path = compile_path(alloc, "$..[0]")?;
-/// assert!(rt; select_path_to_text(alloc, &document, &path)?.as_str() == "[1,2]");
-/// ```
-pub fn select_path_to_text(
-    alloc: Global,
-    json: &Value,
-    path: &PathParser<'_>,
-) -> Result<String, JsonPathError>
-    ensures ok { IfOk result (λ text. IsTextOfAnswer (Selects path.now (view json.now)) (string_bytes text)) }
-    ensures refused { IfErr result (IsTextRefusedOf (Selects path.now (view json.now))) }
-{
-    let found = select_values(alloc, json, path)?;
-    list_to_text(alloc, found.as_slice())
-}
-
-/// The text of the values that a path that owns its text selects: `[`, their compact JSON texts joined by `,`, and `]`.
-/// Refused with `Serde` exactly where an unread number, one that is no whole number of 64 bits, stands in one of them,
-/// at any depth, and with `OutOfMemory`.
-///
-/// ```text
-/// let document = read_document(alloc, b"[1, 2, 3]")?;
-/// let path = Parser::compile(alloc, "$[1:]")?;
-/// assert!(rt; select_node_to_text(alloc, &document, &path)?.as_str() == "[2,3]");
-/// ```
-pub fn select_node_to_text(
-    alloc: Global,
-    json: &Value,
-    path: &Node,
-) -> Result<String, JsonPathError>
-    ensures ok { IfOk result (λ text. IsTextOfAnswer (Selects path.now (view json.now)) (string_bytes text)) }
-    ensures refused { IfErr result (IsTextRefusedOf (Selects path.now (view json.now))) }
-{
-    let found = select_node_values(alloc, json, path)?;
-    list_to_text(alloc, found.as_slice())
-}
-
-impl<'a> ListedPath<'a> {
-    /// The text of the selected values: `[`, their compact JSON texts joined by `,`, and `]`. Refused
-    /// with `Serde` exactly where an unread number, one that is no whole number of 64 bits, stands in one
-    /// of them, at any depth, and with `OutOfMemory`.
-    ///
-    /// ```text
-    /// let document = read_document(alloc, b"[1, 2, 3]")?;
-    /// let path = ListedPath::new(alloc, compile_path(alloc, "$[1:]")?)?;
-    /// assert!(rt; path.select_as_str(alloc, &document)?.as_str() == "[2,3]");
-    /// ```
-    pub fn select_as_str(&self, alloc: Global, value: &Value) -> Result<String, JsonPathError>
-        ensures ok { IfOk result (λ text. IsTextOfAnswer (Selects self.now (view value.now)) (string_bytes text)) }
-        ensures refused { IfErr result (IsTextRefusedOf (Selects self.now (view value.now))) }
-    {
-        let found = self.select(alloc, value)?;
-        list_to_text(alloc, found.as_slice())
-    }
 }

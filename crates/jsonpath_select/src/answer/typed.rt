@@ -1,17 +1,10 @@
-//! What a path selects, and a list of values, as values of the caller's types.
+//! A list of values as values of the caller's types.
 ghost use Rattle.std.specs.Prelude.{◌≡◌, false, map, length, vec_len, IfOk, IfErr, OnOk};
 ghost use Rattle.serde_json.specs.View.{view};
-ghost use Rattle.jsonpath_select.specs.Meaning.{Selects};
-ghost use Rattle.jsonpath_select.specs.answer.Given.{IsTypedCountOf, IsTypedRefusedOf};
 ghost use Rattle.jsonpath_select.specs.answer.AnswerText.{holds_unread, IsTypedRefused};
 
-use crate::answer::select::select_values;
-use crate::answer::select_node::select_node_values;
 use crate::answer::unread_number::{has_unread_number_in_values, unread_number_error};
-use crate::compile::listed_path::ListedPath;
-use crate::compile::node::Node;
 use crate::error::{JsonPathError, serde_error};
-use jsonpath_paths::PathParser;
 use serde::DeserializeOwned;
 use serde_json::{Error, Value};
 use std::alloc::Global;
@@ -54,75 +47,4 @@ pub fn list_to_typed<T: DeserializeOwned>(
 // The value as a `T`, which `serde_json` makes of a copy of it; its error where it makes none.
 fn typed_value<T: DeserializeOwned>(alloc: Global, value: &Value) -> Result<T, Error> {
     serde_json::from_value(alloc, value.clone()?)
-}
-
-/// One typed value for each value that the path selects, in the path's order, with its repeats. Refused
-/// with `Serde` where an unread number, one that is no whole number of 64 bits, stands in one of them or
-/// `serde_json` makes no `T` of one, and with `OutOfMemory`.
-///
-/// ```text
-/// let document = read_document(alloc, b"[1, [2, 3]]")?;
-/// let path = compile_path(alloc, "$..[0]")?;
-/// let numbers = select_path_to_typed::<u8>(alloc, &document, &path)?;
-/// assert_eq!(rt; numbers.len(), 2);
-/// assert_eq!(rt; numbers[1], 2);
-/// ```
-pub fn select_path_to_typed<T: DeserializeOwned>(
-    alloc: Global,
-    json: &Value,
-    path: &PathParser<'_>,
-) -> Result<Vec<T>, JsonPathError>
-    ensures ok { IfOk result (λ found. IsTypedCountOf (Selects path.now (view json.now)) (vec_len found)) }
-    ensures refused { IfErr result (IsTypedRefusedOf (Selects path.now (view json.now))) }
-{
-    let found = select_values(alloc, json, path)?;
-    list_to_typed(alloc, found.as_slice())
-}
-
-/// One typed value for each value that a path that owns its text selects, in the path's order, with its repeats.
-/// Refused with `Serde` where an unread number, one that is no whole number of 64 bits, stands in one of them or
-/// `serde_json` makes no `T` of one, and with `OutOfMemory`.
-///
-/// ```text
-/// let document = read_document(alloc, b"[1, 2, 3]")?;
-/// let path = Parser::compile(alloc, "$[1:]")?;
-/// let numbers = select_node_to_typed::<u8>(alloc, &document, &path)?;
-/// assert_eq!(rt; numbers.len(), 2);
-/// assert_eq!(rt; numbers[1], 3);
-/// ```
-pub fn select_node_to_typed<T: DeserializeOwned>(
-    alloc: Global,
-    json: &Value,
-    path: &Node,
-) -> Result<Vec<T>, JsonPathError>
-    ensures ok { IfOk result (λ found. IsTypedCountOf (Selects path.now (view json.now)) (vec_len found)) }
-    ensures refused { IfErr result (IsTypedRefusedOf (Selects path.now (view json.now))) }
-{
-    let found = select_node_values(alloc, json, path)?;
-    list_to_typed(alloc, found.as_slice())
-}
-
-impl<'a> ListedPath<'a> {
-    /// One typed value for each selected value, in order. Refused with `Serde` where an unread number, one
-    /// that is no whole number of 64 bits, stands in one of them or `serde_json` makes no `T` of one, and
-    /// with `OutOfMemory`.
-    ///
-    /// ```text
-    /// let document = read_document(alloc, b"[1, 2, 3]")?;
-    /// let path = ListedPath::new(alloc, compile_path(alloc, "$[1:]")?)?;
-    /// let numbers = path.select_as::<u8>(alloc, &document)?;
-    /// assert_eq!(rt; numbers.len(), 2);
-    /// assert_eq!(rt; numbers[1], 3);
-    /// ```
-    pub fn select_as<T: DeserializeOwned>(
-        &self,
-        alloc: Global,
-        value: &Value,
-    ) -> Result<Vec<T>, JsonPathError>
-        ensures ok { IfOk result (λ found. IsTypedCountOf (Selects self.now (view value.now)) (vec_len found)) }
-        ensures refused { IfErr result (IsTypedRefusedOf (Selects self.now (view value.now))) }
-    {
-        let found = self.select(alloc, value)?;
-        list_to_typed(alloc, found.as_slice())
-    }
 }

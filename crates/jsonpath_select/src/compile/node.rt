@@ -2,7 +2,7 @@
 ghost use Rattle.std.specs.Prelude.{◌≡◌, string_bytes};
 ghost use Rattle.jsonpath_paths.specs.Spelling.{Spells};
 ghost use Rattle.jsonpath_paths.specs.tree.View.{path_of};
-ghost use Rattle.jsonpath_select.specs.compile.Listed.{IsListOfText};
+ghost use Rattle.jsonpath_paths.specs.Listed.{IsListOfText};
 
 use jsonpath_paths::{ParseToken, ParserNode};
 use std::alloc::{AllocError, Global};
@@ -14,7 +14,7 @@ use std::marker::Model;
 /// ```text
 /// let node = Parser::compile(alloc, "$[0]")?;
 /// let document = read_document(alloc, b"[1, 2]")?;
-/// assert_eq!(rt; select_node_spots(alloc, &document, &node)?.len(), 1);
+/// assert_eq!(rt; node.count(alloc, &document)?, 1);
 /// ```
 #[derive(Drop)]
 pub struct Node {

@@ -4,7 +4,6 @@ ghost use Rattle.std.specs.Prelude.{◌≡◌, ◌<◌, ◌^◌, ◌++◌, List,
 ghost use Rattle.jsonpath_paths.specs.Spelling.{IsInGrammar};
 ghost use Rattle.jsonpath_select.specs.compile.Faults.{caret_text, parse_fault_text, IsEndOfRow, IsFaultOf, IsParseRefused};
 
-use crate::compile::collector::token_list;
 use crate::compile::node::Node;
 use jsonpath_paths::{PathParser, TokenError};
 use std::alloc::{AllocError, Global};
@@ -97,11 +96,9 @@ impl Parser {
             Ok(path) => path,
             Err(error) => return Err(fault_of_token_error(alloc, text, error)),
         };
-        let Ok(tokens) = token_list(alloc, &path, text) else {
-            return Err(ParseFault::OutOfMemory);
-        };
+        let (tree, tokens) = path.into_tree_and_tokens();
         match String::from_str(alloc, text) {
-            Ok(text) => Ok(Node::new(text, path.into_tree(), tokens)),
+            Ok(text) => Ok(Node::new(text, tree, tokens)),
             Err(AllocError) => Err(ParseFault::OutOfMemory),
         }
     }

@@ -6,7 +6,7 @@ ghost use Rattle.std.specs.List.{list_all};
 ghost use Rattle.std.specs.Str.{chars};
 ghost use Rattle.jsonpath_paths.specs.tree.WellFormed.{is_dot_word, is_literal};
 ghost use Rattle.jsonpath_paths.specs.token.Kinds.{is_name};
-ghost use Rattle.jsonpath_select.specs.compile.Listed.{is_name_at, has_names_of_token, IsSomePath};
+ghost use Rattle.jsonpath_paths.specs.Listed.{is_name_at, has_names_of_token, IsSomePath};
 ghost use Rattle.jsonpath_select.specs.plan.Fits.{may_stand_alone_in_brackets, may_stand_in_brackets, is_term_entry, is_condition_entry, takes_dots, takes_array, on_top, may_join, worded, ended, operated, fits, is_one_path_from_root, is_token_list_of_path};
 ghost use Rattle.jsonpath_select.specs.plan.Entries.{entry_of, entries_of, Took, name_span};
 

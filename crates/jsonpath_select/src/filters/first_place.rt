@@ -6,7 +6,7 @@ ghost use Rattle.std.specs.Prelude.{◌≡◌, ◌<◌, ◌≤◌, [], ◌∷◌
 ghost use Rattle.serde_json.specs.View.{view};
 ghost use Rattle.jsonpath_paths.specs.tree.Tree.{Path, PathSteps};
 ghost use Rattle.jsonpath_nodes.specs.place.Location.{Location};
-ghost use Rattle.jsonpath_select.specs.compile.Listed.{IsListOf, IsSomePath};
+ghost use Rattle.jsonpath_paths.specs.Listed.{IsListOf, IsSomePath};
 ghost use Rattle.jsonpath_select.specs.Meaning.{follow, sel};
 ghost use Rattle.jsonpath_select.specs.plan.First.{BeginAs, IsCondition, kept_by};
 ghost use Rattle.jsonpath_select.specs.plan.NextFilter.{CodesSteps};

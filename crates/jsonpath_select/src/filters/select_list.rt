@@ -10,7 +10,7 @@ ghost use Rattle.jsonpath_nodes.specs.place.Location.{Location};
 ghost use Rattle.jsonpath_nodes.specs.place.Mark.{MarksLeadBy, MarksStandAt};
 ghost use Rattle.jsonpath_nodes.specs.step.Steps.{every, step, all_below, flattened, from_each};
 ghost use Rattle.jsonpath_nodes.specs.step.Candidates.{candidates_below};
-ghost use Rattle.jsonpath_select.specs.compile.Listed.{IsListOf, IsSomePath};
+ghost use Rattle.jsonpath_paths.specs.Listed.{IsListOf, IsSomePath};
 ghost use Rattle.jsonpath_select.specs.Meaning.{follow, holds, sel};
 ghost use Rattle.jsonpath_select.specs.plan.Machine.{gathered};
 ghost use Rattle.jsonpath_select.specs.plan.NextFilter.{CodesCondition, CodesSteps};

@@ -6,12 +6,9 @@ ghost use Rattle.jsonpath_select.specs.selectors.SelectorLends.{json_selector_le
 ghost use Rattle.jsonpath_select.specs.selectors.Held.{document, AreLocationsFor, AreSpotsFor, AreValuesFor, IsTextFor, IsCountFor, IsSelectRefused, IsTextRefusedFor, IsTypedRefusedFor};
 ghost use Rattle.jsonpath_select.specs.answer.Counted.{IsCountOf, IsFirstOf, TellsIfAny};
 
-use crate::answer::count_first_exists::{first_value, selects_any_value};
-use crate::answer::locations::select_path_locations;
-use crate::answer::select::{select_path, select_values};
 use crate::answer::text::list_to_text;
 use crate::answer::typed::list_to_typed;
-use crate::compile::listed_path::ListedPath;
+use crate::compile::any_path::AnyPath;
 use crate::error::JsonPathError;
 use jsonpath_nodes::{Location, Spot};
 use jsonpath_paths::PathParser;
@@ -20,13 +17,6 @@ use serde_json::Value;
 use std::alloc::Global;
 use std::marker::Model;
 use std::rc::Rc;
-
-// A path with its token list, or a shared one.
-#[derive(Drop)]
-enum HeldPath<'a> {
-    Listed(ListedPath<'a>),
-    Shared(Rc<PathParser<'a>>),
-}
 
 /// Selects in a value by a compiled path. It holds a path or none and a value or none, each the one
 /// handed in last. A select call, answered or refused, changes neither, and keeps no answer.
@@ -39,12 +29,12 @@ enum HeldPath<'a> {
 /// ```
 #[derive(Drop, Default)]
 pub struct JsonSelector<'a> {
-    path: Option<HeldPath<'a>>,
+    path: Option<Rc<PathParser<'a>>>,
     value: Option<&'a Value>,
 }
 
 impl<'a> Model for JsonSelector<'a> {
-    ghost use Rattle.jsonpath_select.specs.selectors.Held.{Held, held_code, path_held};
+    ghost use Rattle.jsonpath_select.specs.selectors.Held.{Held, held_code};
 
     ghost Value = { Held };
 
@@ -52,7 +42,7 @@ impl<'a> Model for JsonSelector<'a> {
 
     ghost use Rattle.std.specs.Prelude.{option_map};
 
-    ghost view = { λ s. record { path = option_map path_held s.path; value = option_map (λ v. v.now) s.value } };
+    ghost view = { λ s. record { path = option_map (λ p. p.value) s.path; value = option_map (λ v. v.now) s.value } };
 }
 
 impl<'a> JsonSelector<'a> {
@@ -67,11 +57,7 @@ impl<'a> JsonSelector<'a> {
         ensures ok { IfOk result (λ s. s ≡ record { path = Some parser.entry; value = None }) }
         ensures refused { IfErr result (λ e. e ≡ JsonPathError.OutOfMemory) }
     {
-        let path = ListedPath::new(alloc, parser)?;
-        Ok(JsonSelector {
-            path: Some(HeldPath::Listed(path)),
-            value: None,
-        })
+        Ok(JsonSelector::new_ref(Rc::new(alloc, parser)?))
     }
 
     /// A selector with this shared path and no value. It takes no memory. The name is the Rust crate's.
@@ -86,7 +72,7 @@ impl<'a> JsonSelector<'a> {
         ensures { result ≡ record { path = Some parser.entry.value; value = None } }
     {
         JsonSelector {
-            path: Some(HeldPath::Shared(parser)),
+            path: Some(parser),
             value: None,
         }
     }
@@ -132,7 +118,7 @@ impl<'a> JsonSelector<'a> {
         ensures refused { IfErr result (λ e. e ≡ JsonPathError.OutOfMemory) }
         ensures kept { OnErr result (self.new ≡ self.old) }
     {
-        self.path = Some(HeldPath::Listed(ListedPath::new(alloc, parser)?));
+        self.path = Some(Rc::new(alloc, parser)?);
         Ok(())
     }
 
@@ -149,7 +135,7 @@ impl<'a> JsonSelector<'a> {
         ensures place { result.ghost_name ≡ self.entry.ghost_name }
         ensures held { result.now ≡ record self.entry.now { path = Some parser.entry.value } }
     {
-        self.path = Some(HeldPath::Shared(parser));
+        self.path = Some(parser);
         self
     }
 
@@ -204,10 +190,7 @@ impl<'a> JsonSelector<'a> {
     {
         let path = self.path.as_ref().ok_or(JsonPathError::EmptyPath)?;
         let value = self.value.ok_or(JsonPathError::EmptyValue)?;
-        match path {
-            HeldPath::Listed(path) => path.select_spots(alloc, value),
-            HeldPath::Shared(path) => select_path(alloc, value, path),
-        }
+        path.select_spots(alloc, value)
     }
 
     /// The locations that the path selects in the value, in the path's order, with its repeats. Refused with
@@ -227,10 +210,7 @@ impl<'a> JsonSelector<'a> {
     {
         let path = self.path.as_ref().ok_or(JsonPathError::EmptyPath)?;
         let value = self.value.ok_or(JsonPathError::EmptyValue)?;
-        match path {
-            HeldPath::Listed(path) => path.select_locations(alloc, value),
-            HeldPath::Shared(path) => select_path_locations(alloc, value, path),
-        }
+        path.select_locations(alloc, value)
     }
 
     /// The values that the path selects in the value, in the path's order, with its repeats. They are borrowed from the
@@ -249,10 +229,7 @@ impl<'a> JsonSelector<'a> {
     {
         let path = self.path.as_ref().ok_or(JsonPathError::EmptyPath)?;
         let value = self.value.ok_or(JsonPathError::EmptyValue)?;
-        match path {
-            HeldPath::Listed(path) => path.select(alloc, value),
-            HeldPath::Shared(path) => select_values(alloc, value, path),
-        }
+        path.select(alloc, value)
     }
 
     /// The text of the selected values: `[`, their compact JSON texts joined by `,`, and `]`. Refused with `EmptyPath`
@@ -326,10 +303,7 @@ impl<'a> JsonSelector<'a> {
     {
         let path = self.path.as_ref().ok_or(JsonPathError::EmptyPath)?;
         let value = self.value.ok_or(JsonPathError::EmptyValue)?;
-        match path {
-            HeldPath::Listed(path) => path.first(alloc, value),
-            HeldPath::Shared(path) => first_value(alloc, value, path),
-        }
+        path.first(alloc, value)
     }
 
     /// Whether the path selects a value. Refused with `EmptyPath` or `EmptyValue` where no path or no value is held,
@@ -347,9 +321,6 @@ impl<'a> JsonSelector<'a> {
     {
         let path = self.path.as_ref().ok_or(JsonPathError::EmptyPath)?;
         let value = self.value.ok_or(JsonPathError::EmptyValue)?;
-        match path {
-            HeldPath::Listed(path) => path.exists(alloc, value),
-            HeldPath::Shared(path) => selects_any_value(alloc, value, path),
-        }
+        path.exists(alloc, value)
     }
 }

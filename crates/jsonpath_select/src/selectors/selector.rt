@@ -8,11 +8,11 @@ ghost use Rattle.jsonpath_select.specs.selectors.SelectorLends.{selector_lends};
 ghost use Rattle.jsonpath_select.specs.selectors.Held.{document, AreLocationsFor, AreSpotsFor, AreValuesFor, IsTextFor, IsCountFor, IsSelectRefused, IsTextRefusedFor, IsTypedRefusedFor};
 ghost use Rattle.jsonpath_select.specs.answer.Counted.{IsCountOf, IsFirstOf, TellsIfAny};
 
-use crate::answer::count_first_exists::{first_node_value, node_selects_any_value};
-use crate::answer::locations::select_node_locations;
-use crate::answer::select_node::{select_node_spots, select_node_values};
+use crate::answer::of_spots::locations_of_selected_spots;
+use crate::answer::select::spots_by_tree;
 use crate::answer::text::list_to_text;
 use crate::answer::typed::list_to_typed;
+use crate::compile::any_path::AnyPath;
 use crate::compile::node::Node;
 use crate::compile::parser::Parser;
 use crate::error::JsonPathError;
@@ -207,7 +207,7 @@ impl<'a, 'b> Selector<'a, 'b> {
     {
         let path = self.node_ref().ok_or(JsonPathError::EmptyPath)?;
         let value = self.value.ok_or(JsonPathError::EmptyValue)?;
-        select_node_spots(alloc, value, path)
+        spots_by_tree(alloc, value, path.text(), path.tree())
     }
 
     /// The locations that the path selects in the value, in the path's order, with its repeats. Refused with
@@ -225,9 +225,8 @@ impl<'a, 'b> Selector<'a, 'b> {
         ensures ok { IfOk result (λ found. AreLocationsFor self.now.path (document self.now) found.items) }
         ensures refused { IfErr result (IsSelectRefused self.now.path (document self.now)) }
     {
-        let path = self.node_ref().ok_or(JsonPathError::EmptyPath)?;
-        let value = self.value.ok_or(JsonPathError::EmptyValue)?;
-        select_node_locations(alloc, value, path)
+        let spots = self.select_spots(alloc)?;
+        locations_of_selected_spots(alloc, spots.as_slice())
     }
 
     /// The values that the path selects in the value, in the path's order, with its repeats. They are borrowed from the
@@ -246,7 +245,7 @@ impl<'a, 'b> Selector<'a, 'b> {
     {
         let path = self.node_ref().ok_or(JsonPathError::EmptyPath)?;
         let value = self.value.ok_or(JsonPathError::EmptyValue)?;
-        select_node_values(alloc, value, path)
+        path.select(alloc, value)
     }
 
     /// The text of the selected values: `[`, their compact JSON texts joined by `,`, and `]`. Refused with `EmptyPath`
@@ -320,7 +319,7 @@ impl<'a, 'b> Selector<'a, 'b> {
     {
         let path = self.node_ref().ok_or(JsonPathError::EmptyPath)?;
         let value = self.value.ok_or(JsonPathError::EmptyValue)?;
-        first_node_value(alloc, value, path)
+        path.first(alloc, value)
     }
 
     /// Whether the path selects a value. Refused with `EmptyPath` or `EmptyValue` where no path or no value is held,
@@ -338,6 +337,6 @@ impl<'a, 'b> Selector<'a, 'b> {
     {
         let path = self.node_ref().ok_or(JsonPathError::EmptyPath)?;
         let value = self.value.ok_or(JsonPathError::EmptyValue)?;
-        node_selects_any_value(alloc, value, path)
+        path.exists(alloc, value)
     }
 }

@@ -5,7 +5,8 @@ ghost use Rattle.std.specs.Cow.{cow_str_bytes};
 ghost use Rattle.std.specs.List.{list_any};
 ghost use Rattle.std.specs.Str.{chars, encode_utf8_all, IsUtf8};
 ghost use Rattle.jsonpath_paths.specs.text.Characters.{backslash, unescaped, name_of};
-ghost use Rattle.jsonpath_select.specs.Parts.{slice_at, name_at};
+ghost use Rattle.jsonpath_paths.specs.text.Spans.{slice_at};
+ghost use Rattle.jsonpath_select.specs.Parts.{name_at};
 
 use jsonpath_nodes::NoMemory;
 use jsonpath_paths::{StrRange, StrReader};
@@ -13,7 +14,7 @@ use std::alloc::Global;
 use std::borrow::CowStr;
 
 // The part of the text at a span, or the empty text where the span cuts a character or passes the end.
-#[tactic(auto, unfolding(crate::specs::Parts::slice_at))]
+#[tactic(auto, unfolding(jsonpath_paths::specs::text::Spans::slice_at))]
 pub(crate) fn slice_at<'t>(text: &'t str, span: StrRange) -> &'t str
     ensures { result.now ≡ slice_at text.now span }
 {

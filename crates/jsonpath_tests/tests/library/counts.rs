@@ -2,12 +2,10 @@
 
 use crate::answers::{counts, document, gives};
 use crate::asserts::check;
-use crate::outcomes::{BAD_PATH, BAD_VALUE, NO_PATH, NO_VALUE, prints, refuses, works};
+use crate::outcomes::{NO_PATH, NO_VALUE, prints, refuses, works};
 use jsonpath_lib::{
-    Compiled, JsonPathError, JsonSelector, JsonSelectorMut, ListedPath, Parser, PathCompiled,
-    Selector, SelectorMut, compile, compile_path, count, count_in_str, count_node_values,
-    count_values, exists, exists_in_str, first, first_as_str, first_node_value, first_value,
-    node_selects_any_value, selector, selects_any_value,
+    AnyPath, Compiled, JsonPathError, JsonSelector, JsonSelectorMut, Parser, PathCompiled,
+    PathParser, Selector, SelectorMut, compile_path,
 };
 use serde_json::Value;
 use std::alloc::{AllocError, Global};
@@ -187,89 +185,32 @@ fn tells(
     }
 }
 
-fn texts_tell(rt: &(impl Abort + AllocGlobal), row: &(&str, &str, usize, &str)) {
-    let alloc = rt.alloc();
-    let (path, json, want, text) = *row;
-    gives(rt, count_in_str(alloc, json, path), want, path);
-    gives(rt, exists_in_str(alloc, json, path), want > 0, path);
-    match first_as_str(alloc, json, path).expect(rt, "an answer") {
-        Some(first) => check!(rt; first.as_str() == text, path),
-        None => check!(rt; want == 0, path),
-    }
-}
-
-fn short_functions_tell(rt: &(impl Abort + AllocGlobal), row: &(&str, &str, usize, &str)) {
+fn path_tells<P: AnyPath>(
+    rt: &(impl Abort + AllocGlobal),
+    row: &(&str, &str, usize, &str),
+    path: &P,
+) {
     let a = rt.alloc();
-    let path = row.0;
     let v = document(rt, row.1);
     tells(
         rt,
         row,
-        count(a, &v, path),
-        first(a, &v, path),
-        exists(a, &v, path),
-    );
-    let all = selector(&v);
-    tells(
-        rt,
-        row,
-        all.count(a, path),
-        all.first(a, path),
-        all.exists(a, path),
+        path.count(a, &v),
+        path.first(a, &v),
+        path.exists(a, &v),
     );
 }
 
 fn kept_paths_tell(rt: &(impl Abort + AllocGlobal), row: &(&str, &str, usize, &str)) {
     let a = rt.alloc();
-    let v = document(rt, row.1);
-    let shared = PathCompiled::compile(a, row.0).expect(rt, "a path");
-    tells(
+    path_tells(
         rt,
         row,
-        shared.count(a, &v),
-        shared.first(a, &v),
-        shared.exists(a, &v),
+        &PathCompiled::compile(a, row.0).expect(rt, "a path"),
     );
-    let owned = Compiled::compile(a, row.0).expect(rt, "a path");
-    tells(
-        rt,
-        row,
-        owned.count(a, &v),
-        owned.first(a, &v),
-        owned.exists(a, &v),
-    );
-    let kept = compile(a, row.0);
-    tells(
-        rt,
-        row,
-        kept.count(a, &v),
-        kept.first(a, &v),
-        kept.exists(a, &v),
-    );
-    let path = compile_path(a, row.0).expect(rt, "a path");
-    tells(
-        rt,
-        row,
-        count_values(a, &v, &path),
-        first_value(a, &v, &path),
-        selects_any_value(a, &v, &path),
-    );
-    let listed = ListedPath::new(a, path).expect(rt, "a path");
-    tells(
-        rt,
-        row,
-        listed.count(a, &v),
-        listed.first(a, &v),
-        listed.exists(a, &v),
-    );
-    let node = Parser::compile(a, row.0).expect(rt, "a path");
-    tells(
-        rt,
-        row,
-        count_node_values(a, &v, &node),
-        first_node_value(a, &v, &node),
-        node_selects_any_value(a, &v, &node),
-    );
+    path_tells(rt, row, &Compiled::compile(a, row.0).expect(rt, "a path"));
+    path_tells(rt, row, &compile_path(a, row.0).expect(rt, "a path"));
+    path_tells(rt, row, &Parser::compile(a, row.0).expect(rt, "a path"));
 }
 
 fn selectors_tell(rt: &(impl Abort + AllocGlobal), row: &(&str, &str, usize, &str)) {
@@ -320,14 +261,6 @@ fn selectors_tell(rt: &(impl Abort + AllocGlobal), row: &(&str, &str, usize, &st
 }
 
 #[test]
-fn short_functions_count(rt: HostRuntime) {
-    for row in ROWS {
-        texts_tell(&rt, row);
-        short_functions_tell(&rt, row);
-    }
-}
-
-#[test]
 fn kept_paths_count(rt: HostRuntime) {
     for row in ROWS {
         kept_paths_tell(&rt, row);
@@ -352,18 +285,8 @@ fn what_is_missing_for_counting_is_named(rt: HostRuntime) {
     refuses(&rt, held.exists(alloc), NO_VALUE);
 }
 
-#[test]
-fn refused_texts_are_not_counted(rt: HostRuntime) {
-    let alloc = rt.alloc();
-    let value = document(&rt, "[1]");
-    refuses(&rt, count(alloc, &value, "$["), BAD_PATH);
-    refuses(&rt, first(alloc, &value, ""), BAD_PATH);
-    refuses(&rt, exists_in_str(alloc, "[1]", "$."), BAD_PATH);
-    refuses(&rt, count_in_str(alloc, "[1", "$"), BAD_VALUE);
-    refuses(&rt, compile(alloc, "$[").count(alloc, &value), BAD_PATH);
-    gives(&rt, count_in_str(alloc, "[2.5]", "$[0]"), 1, "[2.5]");
-    refuses(&rt, first_as_str(alloc, "[2.5]", "$[0]"), BAD_VALUE);
-    works(&rt, first_as_str(alloc, "[1,2.5]", "$[*]"));
+fn compiled_path<'a>(rt: &(impl Abort + AllocGlobal), text: &'a str) -> PathParser<'a> {
+    compile_path(rt.alloc(), text).expect(rt, "a path")
 }
 
 // Objects with the numbers below this one.
@@ -404,8 +327,9 @@ fn many_candidates(rt: HostRuntime) {
         ("$..[?(@.v >= 10)][?(@.v < 5000)][?(@.v > 4998)]", 1),
         ("$[?(@.v >= 10)][?(@.w)]", 0),
     ] {
-        gives(&rt, count(alloc, &value, path), want, path);
-        gives(&rt, exists(alloc, &value, path), want > 0, path);
+        let compiled = compiled_path(&rt, path);
+        gives(&rt, compiled.count(alloc, &value), want, path);
+        gives(&rt, compiled.exists(alloc, &value), want > 0, path);
     }
     for path in [
         "$[?(@.v >= 0)][?(@.v >= 5461)].v",
@@ -418,7 +342,8 @@ fn many_candidates(rt: HostRuntime) {
         "$..[?(@.v == 5461)].v",
         "$..[?(@.v == $[5461].v)].v",
     ] {
-        let found = first(alloc, &value, path).expect(&rt, "an answer");
+        let compiled = compiled_path(&rt, path);
+        let found = compiled.first(alloc, &value).expect(&rt, "an answer");
         check!(rt; found.is_some_and(|it| it.as_u64() == Some(5461)), path);
     }
 }
@@ -439,9 +364,10 @@ fn many_candidates_in_lists(rt: HostRuntime) {
         ("$..[?(@.v == 7)].v", 1),
         ("$..[?(@.w)]", 0),
     ] {
-        gives(&rt, count(alloc, &value, path), want, path);
-        gives(&rt, exists(alloc, &value, path), want > 0, path);
-        let found = first(alloc, &value, path).expect(&rt, "an answer");
+        let compiled = compiled_path(&rt, path);
+        gives(&rt, compiled.count(alloc, &value), want, path);
+        gives(&rt, compiled.exists(alloc, &value), want > 0, path);
+        let found = compiled.first(alloc, &value).expect(&rt, "an answer");
         check!(rt; found.is_some() == (want > 0), path);
     }
 }

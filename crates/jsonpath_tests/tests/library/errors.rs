@@ -5,9 +5,9 @@ use crate::asserts::check;
 use crate::outcomes::prints;
 use anyhow::Error as AnyError;
 use jsonpath_lib::{
-    JsonPathError, MaskFault, NoMemory, ParseFault, Parser, PathParser, PathsFault, ReaderError,
-    Selector, StrReader, TokenError, TryFault, TryRefusal, compile, compile_path, compile_paths,
-    mask, select_as_str, try_replace_at_path, try_replace_with,
+    AnyPath, JsonPathError, MaskFault, NoMemory, ParseFault, Parser, PathParser, PathsFault,
+    ReaderError, Selector, StrReader, TokenError, TryFault, compile, compile_path, compile_paths,
+    mask, select_as_str,
 };
 use serde_json::Value;
 use std::alloc::Global;
@@ -58,12 +58,6 @@ fn faults_of_closures_print(rt: HostRuntime) {
     prints_as(&rt, &TryFault::Refused(ReaderError::Eof), "Eof");
     let fault: TryFault<ReaderError> = TryFault::Unasked(JsonPathError::EmptyPath);
     prints_as(&rt, &fault, "path not set");
-    let refusal = TryRefusal {
-        fault,
-        value: Value::Null,
-    };
-    prints_as(&rt, &refusal, "path not set");
-    prints_as(&rt, &TryFault::from(refusal), "path not set");
 }
 
 #[test]
@@ -183,16 +177,20 @@ fn only_numbers(old: &Value) -> Result<Option<Value>, JsonPathError> {
 
 // Null at numbers, under the library's error.
 fn null_numbers(alloc: Global, mut document: Value, path: &str) -> Result<Value, JsonPathError> {
-    let compiled = compile_path(alloc, "$[0]")?;
-    try_replace_at_path(alloc, &mut document, &compiled, &mut only_numbers)?;
-    Ok(try_replace_with(alloc, document, path, &mut only_numbers)?)
+    let first = compile_path(alloc, "$[0]")?;
+    first.try_replace_in(alloc, &mut document, &mut only_numbers)?;
+    let other = compile_path(alloc, path)?;
+    other.try_replace_in(alloc, &mut document, &mut only_numbers)?;
+    Ok(document)
 }
 
 // The same under any error.
 fn null_at(alloc: Global, mut document: Value, path: &str) -> Result<Value, AnyError> {
-    let compiled = compile_path(alloc, "$[0]")?;
-    try_replace_at_path(alloc, &mut document, &compiled, &mut only_numbers)?;
-    Ok(try_replace_with(alloc, document, path, &mut only_numbers)?)
+    let first = compile_path(alloc, "$[0]")?;
+    first.try_replace_in(alloc, &mut document, &mut only_numbers)?;
+    let other = compile_path(alloc, path)?;
+    other.try_replace_in(alloc, &mut document, &mut only_numbers)?;
+    Ok(document)
 }
 
 #[test]

@@ -4,11 +4,9 @@ use crate::answers::{document, finds, selects};
 use crate::asserts::check;
 use crate::outcomes::{BAD_PATH, BAD_VALUE, NO_PATH, is_refusal, refuses, says, works};
 use jsonpath_lib::{
-    Compiled, JsonPathError, JsonSelector, JsonSelectorMut, ListedPath, Location, Parser,
-    PathCompiled, Selector, SelectorMut, Spot, compile, compile_path, locations_in_str, select_as,
-    select_as_str, select_locations, select_node_locations, select_node_spots, select_node_to_text,
-    select_node_to_typed, select_path, select_path_locations, select_path_to_text,
-    select_path_to_typed, select_spots, select_to_text, select_to_typed, selector,
+    AnyPath, Compiled, JsonPathError, JsonSelector, JsonSelectorMut, Location, Parser,
+    PathCompiled, Selector, SelectorMut, Spot, compile, compile_path, select_as, select_as_str,
+    select_path, selector,
 };
 use std::process::Abort;
 
@@ -87,26 +85,24 @@ fn gives(
 fn short_functions_give(rt: &(impl Abort + AllocGlobal), row: &Row) {
     let a = rt.alloc();
     let path = row.0;
-    let v = document(rt, row.1);
-    gives(
-        rt,
-        row,
-        select_spots(a, &v, path),
-        select_locations(a, &v, path),
-        select_to_text(a, &v, path),
-        select_to_typed(a, &v, path),
-    );
-    stands(rt, row, locations_in_str(a, row.1, path));
     says(rt, select_as_str(a, row.1, path), row.2);
     counts_as(rt, row, select_as(a, row.1, path));
-    let all = selector(&v);
+    let v = document(rt, row.1);
+    selects(rt, selector(&v).select(a, path), row.2);
+    selects(rt, compile(a, path).select(a, &v), row.2);
+}
+
+fn path_gives<P: AnyPath>(rt: &(impl Abort + AllocGlobal), row: &Row, path: &P) {
+    let a = rt.alloc();
+    let v = document(rt, row.1);
+    selects(rt, path.select(a, &v), row.2);
     gives(
         rt,
         row,
-        all.select_spots(a, path),
-        all.select_locations(a, path),
-        all.select_as_str(a, path),
-        all.select_as(a, path),
+        path.select_spots(a, &v),
+        path.select_locations(a, &v),
+        path.select_as_str(a, &v),
+        path.select_as(a, &v),
     );
 }
 
@@ -114,65 +110,15 @@ fn compiled_paths_give(rt: &(impl Abort + AllocGlobal), row: &Row) {
     let a = rt.alloc();
     let v = document(rt, row.1);
     let path = compile_path(a, row.0).expect(rt, "a path");
-    gives(
+    finds(rt, select_path(a, &v, &path), row.2);
+    path_gives(rt, row, &path);
+    path_gives(rt, row, &Parser::compile(a, row.0).expect(rt, "a path"));
+    path_gives(
         rt,
         row,
-        select_path(a, &v, &path),
-        select_path_locations(a, &v, &path),
-        select_path_to_text(a, &v, &path),
-        select_path_to_typed(a, &v, &path),
+        &PathCompiled::compile(a, row.0).expect(rt, "a path"),
     );
-    let listed = ListedPath::new(a, path).expect(rt, "a path");
-    gives(
-        rt,
-        row,
-        listed.select_spots(a, &v),
-        listed.select_locations(a, &v),
-        listed.select_as_str(a, &v),
-        listed.select_as(a, &v),
-    );
-    selects(rt, listed.select(a, &v), row.2);
-    let node = Parser::compile(a, row.0).expect(rt, "a path");
-    gives(
-        rt,
-        row,
-        select_node_spots(a, &v, &node),
-        select_node_locations(a, &v, &node),
-        select_node_to_text(a, &v, &node),
-        select_node_to_typed(a, &v, &node),
-    );
-}
-
-fn kept_paths_give(rt: &(impl Abort + AllocGlobal), row: &Row) {
-    let a = rt.alloc();
-    let v = document(rt, row.1);
-    let shared = PathCompiled::compile(a, row.0).expect(rt, "a path");
-    gives(
-        rt,
-        row,
-        shared.select_spots(a, &v),
-        shared.select_locations(a, &v),
-        shared.select_as_str(a, &v),
-        shared.select_as(a, &v),
-    );
-    let owned = Compiled::compile(a, row.0).expect(rt, "a path");
-    gives(
-        rt,
-        row,
-        owned.select_spots(a, &v),
-        owned.select_locations(a, &v),
-        owned.select_as_str(a, &v),
-        owned.select_as(a, &v),
-    );
-    let kept = compile(a, row.0);
-    gives(
-        rt,
-        row,
-        kept.select_spots(a, &v),
-        kept.select_locations(a, &v),
-        kept.select_as_str(a, &v),
-        kept.select_as(a, &v),
-    );
+    path_gives(rt, row, &Compiled::compile(a, row.0).expect(rt, "a path"));
 }
 
 fn selectors_give(rt: &(impl Abort + AllocGlobal), row: &Row) {
@@ -239,7 +185,6 @@ fn short_functions_give_each_form(rt: HostRuntime) {
 fn compiled_paths_give_each_form(rt: HostRuntime) {
     for row in ROWS {
         compiled_paths_give(&rt, row);
-        kept_paths_give(&rt, row);
     }
 }
 
@@ -255,13 +200,10 @@ fn selectors_give_each_form(rt: HostRuntime) {
 fn forms_are_refused_by_name(rt: HostRuntime) {
     let a = rt.alloc();
     let unread = document(&rt, "[0.5]");
-    refuses(&rt, select_to_text(a, &unread, "$[0]"), BAD_VALUE);
-    refuses(&rt, select_to_typed::<f64>(a, &unread, "$[0]"), BAD_VALUE);
-    refuses(&rt, select_to_text(a, &unread, "$["), BAD_PATH);
-    refuses(&rt, select_to_typed::<u8>(a, &unread, "$["), BAD_PATH);
-    refuses(&rt, select_locations(a, &unread, "$["), BAD_PATH);
-    refuses(&rt, compile(a, "$[").select_as_str(a, &unread), BAD_PATH);
-    refuses(&rt, compile(a, "$[").select_as::<u8>(a, &unread), BAD_PATH);
-    refuses(&rt, locations_in_str(a, "[1", "$["), BAD_VALUE);
+    let path = compile_path(a, "$[0]").expect(&rt, "a path");
+    refuses(&rt, path.select_as_str(a, &unread), BAD_VALUE);
+    refuses(&rt, path.select_as::<f64>(a, &unread), BAD_VALUE);
+    refuses(&rt, compile(a, "$[").select(a, &unread), BAD_PATH);
+    refuses(&rt, select_as_str(a, "[1", "$["), BAD_VALUE);
     refuses(&rt, SelectorMut::new().select_locations(a), NO_PATH);
 }

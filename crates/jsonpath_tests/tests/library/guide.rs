@@ -3,9 +3,9 @@
 use crate::answers::{fails, gives, says_some};
 use crate::outcomes::says;
 use jsonpath_lib::{
-    Compiled, Documents, JsonPathError, Location, compile_path, compile_paths, delete_at,
+    AnyPath, Compiled, Documents, JsonPathError, Location, compile_path, compile_paths, delete_at,
     document_to_text, list_to_text, mask, read_document, replace_with, select, select_as,
-    select_path, selects_any_value,
+    select_path,
 };
 use serde::Deserialize;
 use serde_json::Value;
@@ -53,7 +53,7 @@ fn route(alloc: Global, text: &str) -> Result<Option<usize>> {
     let texts = ["$[?(@.kind == 'order')]", "$.items[?(@.price > 9)]"];
     let rules = compile_paths(alloc, &texts)?;
     for (number, rule) in rules.iter().enumerate() {
-        if selects_any_value(alloc, &message, rule)? {
+        if rule.exists(alloc, &message)? {
             return Ok(Some(number));
         }
     }

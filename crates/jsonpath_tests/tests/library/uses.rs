@@ -4,9 +4,9 @@ use crate::answers::{document, selects};
 use crate::asserts::check;
 use crate::outcomes::{BAD_PATH, becomes, is_held, is_refusal, prints, works};
 use jsonpath_lib::{
-    JsonPathError, PathParser, SelectorMut, compile_path, compile_paths, delete, delete_at_path,
-    list_to_text, mask, mask_at_paths, read_document, remove_at_path, replace_at_path,
-    replace_with, select, select_as, select_as_str, select_values,
+    AnyPath, JsonPathError, PathParser, SelectorMut, compile_path, compile_paths, delete,
+    list_to_text, mask, mask_at_paths, read_document, replace_with, select, select_as,
+    select_as_str,
 };
 use serde::Deserialize;
 use serde_json::Value;
@@ -104,7 +104,7 @@ fn route(alloc: Global, message: &Value) -> Result<Option<usize>, Fail> {
     };
     let mut route = None;
     for (number, rule) in rules.iter().enumerate() {
-        if !select_values(alloc, &message, rule)?.is_empty() {
+        if rule.exists(alloc, &message)? {
             route = Some(number);
         }
     }
@@ -118,11 +118,7 @@ fn messages_are_routed_by_stored_paths(rt: HostRuntime) -> Result<(), Fail> {
     let number = route(alloc, &message)?;
     check!(rt; number == Some(1));
     let path = path(&rt, "$.items[?(@.price > 9)]");
-    selects(
-        &rt,
-        select_values(alloc, &message, &path),
-        "[{\"price\":10}]",
-    );
+    selects(&rt, path.select(alloc, &message), "[{\"price\":10}]");
     Ok(())
 }
 
@@ -152,16 +148,13 @@ fn documents_are_changed_in_place(rt: HostRuntime) {
     let alloc = rt.alloc();
     let mut document = document(&rt, STORE);
     let first = path(&rt, "$..book[0,1]");
-    works(&rt, remove_at_path(alloc, &mut document, &first));
+    works(&rt, first.remove_in(alloc, &mut document));
     let left = "{\"store\":{\"bicycle\":{\"price\":1995},\"book\":[]}}";
     prints(&rt, &document, left);
     let price = path(&rt, "$..price");
-    works(
-        &rt,
-        replace_at_path(alloc, &mut document, &price, &mut none),
-    );
+    works(&rt, price.replace_in(alloc, &mut document, &mut none));
     let bicycle = path(&rt, "$.store.bicycle");
-    works(&rt, delete_at_path(alloc, &mut document, &bicycle));
+    works(&rt, bicycle.delete_in(alloc, &mut document));
     prints(&rt, &document, "{\"store\":{\"bicycle\":null,\"book\":[]}}");
 }
 

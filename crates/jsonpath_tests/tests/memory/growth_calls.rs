@@ -4,11 +4,9 @@ use crate::asserts::check;
 use crate::memory::grown;
 use crate::outcomes::{NO_MEMORY, NO_PATH, NO_VALUE, is_refusal, refuses, works};
 use jsonpath_lib::{
-    Compiled, JsonPathError, JsonSelectorMut, Parser, PathsFault, compile_path, compile_paths,
-    count_values, delete_at_path, document_to_text, error_of_parse_fault, first_value,
-    list_to_text, mask_at_paths, path_error, read_document, remove_at_path, replace_at_path,
-    select_node_spots, select_node_values, select_path, select_values, selects_any_value,
-    tokens_fit,
+    AnyPath, Compiled, JsonPathError, JsonSelectorMut, Parser, PathsFault, compile_path,
+    compile_paths, document_to_text, error_of_parse_fault, list_to_text, mask_at_paths, path_error,
+    read_document, select_path, tokens_fit,
 };
 use jsonpath_paths::{ParseToken, PathParser, StrRange, TokenError};
 use serde_json::Value;
@@ -37,12 +35,7 @@ fn growths_of_selecting_calls(rt: HostRuntime) {
             select_path(alloc, &document, &path),
             &[2],
         );
-        grown::values(
-            &rt,
-            &mut refused,
-            select_values(alloc, &document, &path),
-            "[2]",
-        );
+        grown::values(&rt, &mut refused, path.select(alloc, &document), "[2]");
     }
 }
 
@@ -56,15 +49,10 @@ fn growths_of_selecting_nodes(rt: HostRuntime) {
         grown::spots(
             &rt,
             &mut refused,
-            select_node_spots(alloc, &document, &node),
+            node.select_spots(alloc, &document),
             &[1, 2],
         );
-        grown::values(
-            &rt,
-            &mut refused,
-            select_node_values(alloc, &document, &node),
-            "[1,2]",
-        );
+        grown::values(&rt, &mut refused, node.select(alloc, &document), "[1,2]");
     }
 }
 
@@ -78,15 +66,15 @@ fn growths_of_counting(rt: HostRuntime) {
     let path = made!(compile_path(alloc, "$[?(@.v > $[3].v)].v"));
     let mut refused = 0u8;
     for _ in 0..2u8 {
-        match count_values(alloc, &document, &path) {
+        match path.count(alloc, &document) {
             Ok(count) => check!(rt; count == 2),
             Err(error) => grown::once(&rt, &mut refused, &error),
         }
-        match first_value(alloc, &document, &path) {
+        match path.first(alloc, &document) {
             Ok(first) => check!(rt; first.is_some_and(|it| it.as_u64() == Some(5))),
             Err(error) => grown::once(&rt, &mut refused, &error),
         }
-        match selects_any_value(alloc, &document, &path) {
+        match path.exists(alloc, &document) {
             Ok(any) => check!(rt; any),
             Err(error) => grown::once(&rt, &mut refused, &error),
         }
@@ -103,7 +91,7 @@ fn growths_of_counting_below(rt: HostRuntime) {
     let path = made!(compile_path(alloc, "$..[?(@.a < 10)]"));
     let mut refused = 0u8;
     for _ in 0..2u8 {
-        match count_values(alloc, &document, &path) {
+        match path.count(alloc, &document) {
             Ok(count) => check!(rt; count == 3),
             Err(error) => grown::once(&rt, &mut refused, &error),
         }
@@ -120,7 +108,7 @@ fn growths_of_counting_by_filters(rt: HostRuntime) {
     let path = made!(compile_path(alloc, "$[?(@.a)].a[?(@.b > 1)].b"));
     let mut refused = 0u8;
     for _ in 0..2u8 {
-        match count_values(alloc, &document, &path) {
+        match path.count(alloc, &document) {
             Ok(count) => check!(rt; count == 2),
             Err(error) => grown::once(&rt, &mut refused, &error),
         }
@@ -137,7 +125,7 @@ fn growths_of_the_first_by_filters(rt: HostRuntime) {
     let path = made!(compile_path(alloc, "$..[?(@.a)].a[?(@.b > 1)].b"));
     let mut refused = 0u8;
     for _ in 0..2u8 {
-        match first_value(alloc, &document, &path) {
+        match path.first(alloc, &document) {
             Ok(first) => check!(rt; first.is_some_and(|it| it.as_u64() == Some(2))),
             Err(error) => grown::once(&rt, &mut refused, &error),
         }
@@ -219,17 +207,17 @@ fn is_left(rt: &(impl Abort + AllocGlobal), error: &JsonPathError, document: &Va
 }
 
 fn deletion_grows(rt: &(impl Abort + AllocGlobal), document: &mut Value, path: &PathParser<'_>) {
-    if let Err(error) = delete_at_path(rt.alloc(), document, path) {
+    if let Err(error) = path.delete_in(rt.alloc(), document) {
         is_left(rt, &error, document, "[1,2,3,4]");
-        works(rt, delete_at_path(rt.alloc(), document, path));
+        works(rt, path.delete_in(rt.alloc(), document));
     }
     grown::is_now(rt, document, "[null,2,null,4]");
 }
 
 fn removal_grows(rt: &(impl Abort + AllocGlobal), document: &mut Value, path: &PathParser<'_>) {
-    if let Err(error) = remove_at_path(rt.alloc(), document, path) {
+    if let Err(error) = path.remove_in(rt.alloc(), document) {
         is_left(rt, &error, document, "[null,2,null,4]");
-        works(rt, remove_at_path(rt.alloc(), document, path));
+        works(rt, path.remove_in(rt.alloc(), document));
     }
     grown::is_now(rt, document, "[2,4]");
 }
@@ -239,9 +227,9 @@ fn truth(_old: Value) -> Option<Value> {
 }
 
 fn replacement_grows(rt: &(impl Abort + AllocGlobal), document: &mut Value, path: &PathParser<'_>) {
-    if let Err(error) = replace_at_path(rt.alloc(), document, path, &mut truth) {
+    if let Err(error) = path.replace_in(rt.alloc(), document, &mut truth) {
         is_left(rt, &error, document, "[2,4]");
-        works(rt, replace_at_path(rt.alloc(), document, path, &mut truth));
+        works(rt, path.replace_in(rt.alloc(), document, &mut truth));
     }
     grown::is_now(rt, document, "[true,4]");
 }

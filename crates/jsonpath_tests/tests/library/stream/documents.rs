@@ -3,8 +3,7 @@
 use crate::asserts::check;
 use crate::outcomes::prints;
 use jsonpath_lib::{
-    DocumentFault, Documents, Inside, JsonPathError, document_end_in_piece, exists,
-    first_document_len,
+    DocumentFault, Documents, Inside, JsonPathError, document_end_in_piece, first_document_len,
 };
 use serde_json::Value;
 use std::process::Abort;

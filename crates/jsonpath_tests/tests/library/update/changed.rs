@@ -2,10 +2,9 @@
 
 use crate::answers::document;
 use crate::asserts::check;
-use crate::outcomes::{BAD_PATH, NO_PATH, becomes, is_held, is_refusal, prints, refuses, works};
+use crate::outcomes::{NO_PATH, becomes, is_held, is_refusal, prints, works};
 use jsonpath_lib::{
-    Compiled, JsonSelectorMut, Parser, PathCompiled, SelectorMut, TryFault, TryRefusal, compile,
-    compile_path, delete_at_node, remove_at_node, replace_at_node,
+    AnyPath, Compiled, JsonSelectorMut, Parser, PathCompiled, SelectorMut, TryFault, compile_path,
 };
 use serde_json::Value;
 use std::process::Abort;
@@ -32,28 +31,6 @@ fn below_two(old: &Value) -> Result<Option<Value>, u8> {
     }
 }
 
-// Asserts that the second of two numbers was refused, and what is left.
-fn ended(rt: &(impl Abort + AllocGlobal), tried: Result<Value, TryRefusal<u8>>) {
-    match tried {
-        Ok(_) => check!(rt; false),
-        Err(refused) => {
-            check!(rt; matches!(refused.fault, TryFault::Refused(7)));
-            prints(rt, &refused.value, FIRST_NULLED);
-        }
-    }
-}
-
-// Asserts that the closure was not asked, since the path is refused, and that all is as it was.
-fn unasked(rt: &(impl Abort + AllocGlobal), tried: Result<Value, TryRefusal<u8>>) {
-    match tried {
-        Ok(_) => check!(rt; false),
-        Err(refused) => {
-            prints(rt, &refused.value, JSON);
-            is_unasked(rt, Err(refused.fault), BAD_PATH);
-        }
-    }
-}
-
 // Asserts that a closure was not asked, and why.
 fn is_unasked(rt: &impl Abort, tried: Result<(), TryFault<u8>>, why: &str) {
     match tried {
@@ -70,81 +47,45 @@ fn is_ended(rt: &impl Abort, tried: Result<(), TryFault<u8>>) {
     }
 }
 
-#[test]
-fn paths_that_own_their_text_change_documents(rt: HostRuntime) {
+// Asserts what each kind of update by the path `$[*].a` leaves.
+fn changes<P: AnyPath>(rt: &(impl Abort + AllocGlobal), path: &P) {
     let a = rt.alloc();
-    let path = Parser::compile(a, "$[*].a").expect(&rt, "a path");
-    let mut changed = document(&rt, JSON);
-    works(&rt, delete_at_node(a, &mut changed, &path));
-    prints(&rt, &changed, NULLED);
-    let mut changed = document(&rt, JSON);
-    works(&rt, remove_at_node(a, &mut changed, &path));
-    prints(&rt, &changed, REMOVED);
-    let mut changed = document(&rt, JSON);
-    works(&rt, replace_at_node(a, &mut changed, &path, &mut gone));
-    prints(&rt, &changed, REMOVED);
+    let mut changed = document(rt, JSON);
+    works(rt, path.delete_in(a, &mut changed));
+    prints(rt, &changed, NULLED);
+    let mut changed = document(rt, JSON);
+    works(rt, path.remove_in(a, &mut changed));
+    prints(rt, &changed, REMOVED);
+    let mut changed = document(rt, JSON);
+    works(rt, path.set_in(a, &mut changed, &Value::Bool(true)));
+    prints(rt, &changed, SET);
+    let mut changed = document(rt, JSON);
+    works(rt, path.replace_in(a, &mut changed, &mut gone));
+    prints(rt, &changed, REMOVED);
+    let mut changed = document(rt, JSON);
+    is_ended(rt, path.try_replace_in(a, &mut changed, &mut below_two));
+    prints(rt, &changed, FIRST_NULLED);
 }
 
 #[test]
-fn shared_paths_change_documents(rt: HostRuntime) {
+fn compiled_paths_change_documents(rt: HostRuntime) {
     let a = rt.alloc();
-    let path = PathCompiled::compile(a, "$[*].a").expect(&rt, "a path");
-    let truth = &Value::Bool(true);
-    becomes(&rt, path.delete(a, document(&rt, JSON)), NULLED);
-    becomes(&rt, path.remove(a, document(&rt, JSON)), REMOVED);
-    becomes(&rt, path.set(a, document(&rt, JSON), truth), SET);
-    becomes(
-        &rt,
-        path.replace_with(a, document(&rt, JSON), &mut gone),
-        REMOVED,
-    );
-    ended(
-        &rt,
-        path.try_replace_with(a, document(&rt, JSON), &mut below_two),
-    );
-}
-
-#[test]
-fn owned_paths_change_documents(rt: HostRuntime) {
-    let a = rt.alloc();
-    let path = Compiled::compile(a, "$[*].a").expect(&rt, "a path");
-    let truth = &Value::Bool(true);
-    becomes(&rt, path.remove(a, document(&rt, JSON)), REMOVED);
-    becomes(&rt, path.set(a, document(&rt, JSON), truth), SET);
-    ended(
-        &rt,
-        path.try_replace_with(a, document(&rt, JSON), &mut below_two),
-    );
+    changes(&rt, &compile_path(a, "$[*].a").expect(&rt, "a path"));
+    changes(&rt, &Parser::compile(a, "$[*].a").expect(&rt, "a path"));
 }
 
 #[test]
 fn kept_paths_change_documents(rt: HostRuntime) {
     let a = rt.alloc();
-    let path = compile(a, "$[*].a");
-    let truth = &Value::Bool(true);
-    becomes(&rt, path.delete(a, document(&rt, JSON)), NULLED);
-    becomes(&rt, path.remove(a, document(&rt, JSON)), REMOVED);
-    becomes(&rt, path.set(a, document(&rt, JSON), truth), SET);
+    let shared = PathCompiled::compile(a, "$[*].a").expect(&rt, "a path");
+    changes(&rt, &shared);
+    becomes(&rt, shared.delete(a, document(&rt, JSON)), NULLED);
+    let owned = Compiled::compile(a, "$[*].a").expect(&rt, "a path");
+    changes(&rt, &owned);
     becomes(
         &rt,
-        path.replace_with(a, document(&rt, JSON), &mut gone),
+        owned.replace_with(a, document(&rt, JSON), &mut gone),
         REMOVED,
-    );
-    ended(
-        &rt,
-        path.try_replace_with(a, document(&rt, JSON), &mut below_two),
-    );
-}
-
-#[test]
-fn kept_refusals_change_nothing(rt: HostRuntime) {
-    let a = rt.alloc();
-    let no_path = compile(a, "$[");
-    refuses(&rt, no_path.delete(a, document(&rt, JSON)), BAD_PATH);
-    refuses(&rt, no_path.remove(a, document(&rt, JSON)), BAD_PATH);
-    unasked(
-        &rt,
-        no_path.try_replace_with(a, document(&rt, JSON), &mut below_two),
     );
 }
 

@@ -1,25 +1,22 @@
 //! One value put at all that a path selects.
 
 use crate::answers::document;
-use crate::outcomes::{BAD_PATH, NO_PATH, NO_VALUE, becomes, is_held, prints, refuses, works};
-use jsonpath_lib::{
-    JsonSelectorMut, Parser, SelectorMut, compile_path, set, set_at_node, set_at_path,
-};
+use crate::outcomes::{NO_PATH, NO_VALUE, is_held, prints, refuses, works};
+use jsonpath_lib::{AnyPath, JsonSelectorMut, Parser, SelectorMut, compile_path};
 use serde_json::Value;
 use std::process::Abort;
 
-// Each way to set: by a path text, a compiled path, a path that owns its text, and the two types that hold a document.
+// Each way to set: by a compiled path, a path that owns its text, and the two types that hold a document.
 fn sets(rt: &(impl Abort + AllocGlobal), path: &str, json: &str, new: &str, after: &str) {
     let alloc = rt.alloc();
     let new = document(rt, new);
-    becomes(rt, set(alloc, document(rt, json), path, &new), after);
     let mut changed = document(rt, json);
     let node = Parser::compile(alloc, path).expect(rt, "a path");
-    works(rt, set_at_node(alloc, &mut changed, &node, &new));
+    works(rt, node.set_in(alloc, &mut changed, &new));
     prints(rt, &changed, after);
     let compiled = compile_path(alloc, path).expect(rt, "a path");
     let mut changed = document(rt, json);
-    works(rt, set_at_path(alloc, &mut changed, &compiled, &new));
+    works(rt, compiled.set_in(alloc, &mut changed, &new));
     prints(rt, &changed, after);
     holders_set(rt, path, json, &new, after);
 }
@@ -71,5 +68,4 @@ fn what_is_missing_for_setting_is_named(rt: HostRuntime) {
     refuses(&rt, held.set_in_place(alloc, &Value::Null), NO_PATH);
     works(&rt, held.set_path(alloc, "$"));
     refuses(&rt, held.set_in_place(alloc, &Value::Null), NO_VALUE);
-    refuses(&rt, set(alloc, Value::Null, "$[a]", &Value::Null), BAD_PATH);
 }

@@ -2,11 +2,8 @@
 
 use crate::answers::document;
 use crate::asserts::check;
-use crate::outcomes::{BAD_PATH, is_refusal, prints};
-use jsonpath_lib::{
-    Parser, TryFault, TryRefusal, compile_path, try_replace_at_node, try_replace_at_path,
-    try_replace_with,
-};
+use crate::outcomes::prints;
+use jsonpath_lib::{AnyPath, Parser, TryFault, compile_path};
 use serde_json::Value;
 use std::process::Abort;
 
@@ -29,44 +26,27 @@ fn ends(rt: &impl Abort, tried: Result<(), TryFault<u64>>, refused: u64, path: &
     }
 }
 
-// Asserts the same of a call that takes the document, and what is left of it.
-fn leaves(
+// Asserts what a path leaves of a document, and the refusal, or zero.
+fn leaves<P: AnyPath>(
     rt: &(impl Abort + AllocGlobal),
-    tried: Result<Value, TryRefusal<u64>>,
-    refused: u64,
+    path: &P,
+    json: &str,
     after: &str,
+    refused: u64,
 ) {
-    match tried {
-        Ok(changed) => {
-            ends(rt, Ok(()), refused, after);
-            prints(rt, &changed, after);
-        }
-        Err(refusal) => {
-            ends(rt, Err(refusal.fault), refused, after);
-            prints(rt, &refusal.value, after);
-        }
-    }
+    let mut changed = document(rt, json);
+    let outcome = path.try_replace_in(rt.alloc(), &mut changed, &mut small);
+    ends(rt, outcome, refused, after);
+    prints(rt, &changed, after);
 }
 
-// Asserts what a path leaves of a document, and the refusal, or zero, in each way of asking.
+// Asserts the same of a path that borrows its text and of one that owns it.
 fn tries(rt: &(impl Abort + AllocGlobal), path: &str, json: &str, after: &str, refused: u64) {
     let alloc = rt.alloc();
-    leaves(
-        rt,
-        try_replace_with(alloc, document(rt, json), path, &mut small),
-        refused,
-        after,
-    );
     let compiled = compile_path(alloc, path).expect(rt, "a path");
-    let mut changed = document(rt, json);
-    let outcome = try_replace_at_path(alloc, &mut changed, &compiled, &mut small);
-    ends(rt, outcome, refused, path);
-    prints(rt, &changed, after);
+    leaves(rt, &compiled, json, after, refused);
     let node = Parser::compile(alloc, path).expect(rt, "a path");
-    let mut changed = document(rt, json);
-    let outcome = try_replace_at_node(alloc, &mut changed, &node, &mut small);
-    ends(rt, outcome, refused, path);
-    prints(rt, &changed, after);
+    leaves(rt, &node, json, after, refused);
 }
 
 #[test]
@@ -85,27 +65,5 @@ fn refusals_end_updates(rt: HostRuntime) {
         ("$.zz", "{\"a\":500}", "{\"a\":500}", 0),
     ] {
         tries(&rt, path, json, after, refused);
-    }
-}
-
-// Asserts that no closure was asked, since the text is no path.
-fn is_unasked(rt: &impl Abort, fault: TryFault<u64>) {
-    match fault {
-        TryFault::Unasked(error) => is_refusal(rt, &error, BAD_PATH),
-        TryFault::Refused(_number) => check!(rt; false),
-    }
-}
-
-// Asserts that no closure was asked, and that the document is as it was.
-fn is_left(rt: &(impl Abort + AllocGlobal), refusal: TryRefusal<u64>, json: &str) {
-    prints(rt, &refusal.value, json);
-    is_unasked(rt, refusal.fault);
-}
-
-#[test]
-fn no_closure_is_asked_for_a_refused_text(rt: HostRuntime) {
-    match try_replace_with(rt.alloc(), document(&rt, "[1]"), "$[", &mut small) {
-        Ok(_changed) => check!(rt; false),
-        Err(refusal) => is_left(&rt, refusal, "[1]"),
     }
 }

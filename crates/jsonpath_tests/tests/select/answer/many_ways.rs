@@ -1,12 +1,7 @@
-//! How many values, the first of them and whether there is any, beside the list, for paths that lead to places in many
-//! ways.
+//! The first value and whether there is any, beside the list, for paths that lead to places in many ways.
 
 use crate::asserts::check;
-use jsonpath_select::{
-    ListedPath, Parser, compile_path, count_node_values, count_values, document_to_text,
-    first_node_value, first_value, node_selects_any_value, read_document, select_values,
-    selects_any_value,
-};
+use jsonpath_select::{AnyPath, Parser, compile_path, document_to_text, read_document};
 use serde_json::Value;
 use std::alloc::Global;
 use std::test::Fail;
@@ -93,27 +88,19 @@ const FILTERS: [&str; 36] = [
 ];
 
 // What is told of the path's answer is told of its list.
-fn is_told(alloc: Global, document: &Value, path: &str) -> Result<bool, Fail> {
-    let compiled = compile_path(alloc, path)?;
-    let listed = select_values(alloc, document, &compiled)?;
-    let counts = count_values(alloc, document, &compiled)? == listed.len();
-    let begins = is_first(alloc, first_value(alloc, document, &compiled)?, &listed)?;
-    let any = selects_any_value(alloc, document, &compiled)? != listed.is_empty();
+fn is_told<P: AnyPath>(alloc: Global, document: &Value, path: &P) -> Result<bool, Fail> {
+    let listed = path.select(alloc, document)?;
+    let counts = path.count(alloc, document)? == listed.len();
+    let begins = is_first(alloc, path.first(alloc, document)?, &listed)?;
+    let any = path.exists(alloc, document)? != listed.is_empty();
     Ok(counts && begins && any)
 }
 
-// .. by the holders of paths.
-fn is_told_by_holders(alloc: Global, document: &Value, path: &str) -> Result<bool, Fail> {
-    let listed = select_values(alloc, document, &compile_path(alloc, path)?)?;
-    let node = Parser::compile(alloc, path)?;
-    let held = ListedPath::new(alloc, compile_path(alloc, path)?)?;
-    let counts = count_node_values(alloc, document, &node)? == listed.len()
-        && held.count(alloc, document)? == listed.len();
-    let begins = is_first(alloc, first_node_value(alloc, document, &node)?, &listed)?
-        && is_first(alloc, held.first(alloc, document)?, &listed)?;
-    let any = node_selects_any_value(alloc, document, &node)? != listed.is_empty()
-        && held.exists(alloc, document)? != listed.is_empty();
-    Ok(counts && begins && any)
+// .. by a path that borrows its text, and by one that owns it.
+fn is_told_by_both(alloc: Global, document: &Value, path: &str) -> Result<bool, Fail> {
+    let borrowed = is_told(alloc, document, &compile_path(alloc, path)?)?;
+    let owned = is_told(alloc, document, &Parser::compile(alloc, path)?)?;
+    Ok(borrowed && owned)
 }
 
 fn is_first(alloc: Global, first: Option<&Value>, listed: &Vec<&Value>) -> Result<bool, Fail> {
@@ -143,8 +130,7 @@ fn many_ways_are_told_as_listed(rt: HostRuntime) -> Result<(), Fail> {
     let alloc = rt.alloc();
     let document = read_document(alloc, DOCUMENT.as_bytes())?;
     for path in PATHS {
-        check!(rt; is_told(alloc, &document, path)?, path);
-        check!(rt; is_told_by_holders(alloc, &document, path)?, path);
+        check!(rt; is_told_by_both(alloc, &document, path)?, path);
     }
     Ok(())
 }
@@ -154,8 +140,7 @@ fn several_filters_are_told_as_listed(rt: HostRuntime) -> Result<(), Fail> {
     let alloc = rt.alloc();
     let document = read_document(alloc, DOCUMENT.as_bytes())?;
     for path in FILTERS {
-        check!(rt; is_told(alloc, &document, path)?, path);
-        check!(rt; is_told_by_holders(alloc, &document, path)?, path);
+        check!(rt; is_told_by_both(alloc, &document, path)?, path);
     }
     Ok(())
 }
@@ -170,8 +155,9 @@ fn a_thousand_filters_are_told_as_listed(rt: HostRuntime) -> Result<(), Fail> {
         for _ in 0..filters {
             path.push_str("[?(@.b == 2)]")?;
         }
-        check!(rt; is_told(alloc, &document, path.as_str())?);
-        check!(rt; count_values(alloc, &document, &compile_path(alloc, path.as_str())?)? == 1);
+        let compiled = compile_path(alloc, path.as_str())?;
+        check!(rt; is_told(alloc, &document, &compiled)?);
+        check!(rt; compiled.count(alloc, &document)? == 1);
     }
     Ok(())
 }
@@ -190,14 +176,14 @@ fn whether_there_is_any_is_told_by_places(rt: HostRuntime) -> Result<(), Fail> {
     let alloc = rt.alloc();
     let document = nested(alloc, 64)?;
     let three = compile_path(alloc, "$..*..*..*")?;
-    check!(rt; count_values(alloc, &document, &three)? == 41664);
+    check!(rt; three.count(alloc, &document)? == 41664);
     let ten = compile_path(alloc, "$..*..*..*..*..*..*..*..*..*..*")?;
-    check!(rt; selects_any_value(alloc, &document, &ten)?);
+    check!(rt; ten.exists(alloc, &document)?);
     let more = doubled(alloc, 64)?;
     let many = compile_path(alloc, more.as_str())?;
-    check!(rt; selects_any_value(alloc, &document, &many)?);
+    check!(rt; many.exists(alloc, &document)?);
     let past = doubled(alloc, 65)?;
     let none = compile_path(alloc, past.as_str())?;
-    check!(rt; !selects_any_value(alloc, &document, &none)?);
+    check!(rt; !none.exists(alloc, &document)?);
     Ok(())
 }

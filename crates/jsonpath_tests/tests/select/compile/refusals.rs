@@ -3,9 +3,7 @@
 use crate::answers::{document, selects, tells};
 use crate::asserts::check;
 use jsonpath_paths::TokenError;
-use jsonpath_select::{
-    JsonPathError, ParseFault, Parser, compile_path, path_error, select_node_values,
-};
+use jsonpath_select::{AnyPath, JsonPathError, ParseFault, Parser, compile_path, path_error};
 use std::process::Abort;
 
 // Asserts how an error prints, either way.
@@ -42,7 +40,7 @@ fn compiles_and_copies(rt: HostRuntime) {
     check!(rt; node.text() == "$.a[0]");
     check!(rt; copy.text() == "$.a[0]");
     let document = document(&rt, "{\"a\":[7,8]}");
-    selects(&rt, select_node_values(rt.alloc(), &document, &copy), "[7]");
+    selects(&rt, copy.select(rt.alloc(), &document), "[7]");
 }
 
 // Asserts how a fault prints, either way.

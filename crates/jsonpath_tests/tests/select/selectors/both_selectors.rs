@@ -5,8 +5,8 @@ use crate::asserts::check;
 use crate::outcomes::says;
 use jsonpath_paths::PathParser;
 use jsonpath_select::{
-    JsonPathError, JsonSelector, Parser, Selector, compile_path, error_of_parse_fault,
-    select_node_spots, select_node_values, select_path, select_values,
+    AnyPath, JsonPathError, JsonSelector, Parser, Selector, compile_path, error_of_parse_fault,
+    select_path,
 };
 use serde::Deserialize;
 use std::process::Abort;
@@ -79,7 +79,7 @@ fn one_path_serves_many_documents(rt: HostRuntime) {
     let second = document(&rt, "{\"a\":[]}");
     finds(&rt, select_path(alloc, &first, &path), "[1]");
     finds(&rt, select_path(alloc, &second, &path), "[]");
-    selects(&rt, select_values(alloc, &first, &path), "[1]");
+    selects(&rt, path.select(alloc, &first), "[1]");
 }
 
 #[test]
@@ -167,9 +167,9 @@ fn one_node_serves_many_documents(rt: HostRuntime) {
     let first = document(&rt, DOCUMENT);
     let second = document(&rt, "[]");
     let node = Parser::compile(alloc, "$..age").expect(&rt, "a path");
-    finds(&rt, select_node_spots(alloc, &first, &node), "[30,20]");
-    finds(&rt, select_node_spots(alloc, &second, &node), "[]");
-    selects(&rt, select_node_values(alloc, &first, &node), "[30,20]");
+    finds(&rt, node.select_spots(alloc, &first), "[30,20]");
+    finds(&rt, node.select_spots(alloc, &second), "[]");
+    selects(&rt, node.select(alloc, &first), "[30,20]");
 }
 
 #[test]

@@ -4,8 +4,7 @@
 use crate::asserts::check;
 use jsonpath_nodes::compute_paths;
 use jsonpath_select::{
-    JsonSelector, Parser, Selector, compile_path, read_document, select_node_in_any_order,
-    select_node_spots, select_path, select_path_in_any_order,
+    JsonSelector, Selector, compile_path, read_document, select_path, select_path_in_any_order,
 };
 use std::alloc::Global;
 use std::test::Fail;
@@ -107,16 +106,6 @@ fn is_one_set(alloc: Global, path: &str) -> Result<bool, Fail> {
     Ok(found.as_slice() == wanted.as_slice())
 }
 
-fn is_one_set_of_a_node(alloc: Global, path: &str) -> Result<bool, Fail> {
-    let document = read_document(alloc, DOCUMENT.as_bytes())?;
-    let node = Parser::compile(alloc, path)?;
-    let all = select_node_spots(alloc, &document, &node)?;
-    let set = select_node_in_any_order(alloc, &document, &node)?;
-    let wanted = compute_paths(alloc, all.as_slice())?;
-    let found = compute_paths(alloc, set.as_slice())?;
-    Ok(found.as_slice() == wanted.as_slice())
-}
-
 #[test]
 fn ways_are_kept_in_selections(rt: HostRuntime) -> Result<(), Fail> {
     let alloc = rt.alloc();
@@ -132,7 +121,6 @@ fn ways_are_dropped_in_sets(rt: HostRuntime) -> Result<(), Fail> {
     let alloc = rt.alloc();
     for (path, _) in &ROWS {
         check!(rt; is_one_set(alloc, path)?, *path);
-        check!(rt; is_one_set_of_a_node(alloc, path)?, *path);
     }
     Ok(())
 }

@@ -11,12 +11,12 @@ price = name (codes "price") ∷ []
 pub returns : goal.returns
 returns c =
     let doc = view c.args.json.now in
-    let mid = view c.remove_at_path.new.value in
-    let after = view c.remove_at_path-2.new.value in
+    let mid = view c.remove_in.new.value in
+    let after = view c.remove_in-2.new.value in
     let text = c.in_ok-path.ensures.text in
     let once : mid ≡ update price None doc =
-    c.deletes_and_removes_selected_location.ensures.removes (codes "$.price") doc mid price (c.dotted_names_select_one_location.ensures doc (codes "price" ∷ []) refl) (rw text at c.in_ok-remove_at_path.ensures.ok) in
+    c.deletes_and_removes_selected_location.ensures.removes (codes "$.price") doc mid price (c.dotted_names_select_one_location.ensures doc (codes "price" ∷ []) refl) (rw text at c.in_ok-remove_in.ensures.ok) in
     let twice : after ≡ update price None mid =
-    c.deletes_and_removes_selected_location.ensures.removes (codes "$.price") mid after price (c.dotted_names_select_one_location.ensures mid (codes "price" ∷ []) refl) (rw text at c.in_ok-remove_at_path-2.ensures.ok) in
+    c.deletes_and_removes_selected_location.ensures.removes (codes "$.price") mid after price (c.dotted_names_select_one_location.ensures mid (codes "price" ∷ []) refl) (rw text at c.in_ok-remove_in-2.ensures.ok) in
     let gone : target price mid ≡ None = ap (λ d. at d price) once ∙ taken_member (codes "price") doc c.value_is_document.ensures in
     twice ∙ c.putting_at_one_location.ensures.nowhere None price mid gone ∙ once

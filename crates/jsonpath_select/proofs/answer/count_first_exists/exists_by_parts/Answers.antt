@@ -8,7 +8,7 @@ use Rattle.jsonpath_select.proofs.answer.count_first_exists.exists_by_parts.Goal
 
 pub returns-then-branch-clause-ok : goal.returns-then-branch-clause-ok
 returns-then-branch-clause-ok c =
-    let text = c.args.text.now in
+    let text = c.args.path.text.now in
     let doc = view c.args.json.now in
     let set = c.in_ok-set.ensures.ok in (
       answer text doc set.path,

@@ -13,7 +13,7 @@ use denote.RattleType.{RattleType}
 use denote.Ref.{MutRef}
 use denote.Triple.Spec.{triple_of}
 use denote.Triple.Table.{entered, framed}
-use Rattle.jsonpath_lib.specs.declared.any_path.AnyPath as any_path
+use Rattle.jsonpath_select.specs.declared.compile.any_path.AnyPath as any_path
 use Rattle.jsonpath_lib.specs.contracts.selectors.held_document.HeldDocument.replace_with as F
 use Rattle.jsonpath_lib.specs.contracts.selectors.held_document.HeldDocument.replace_with.F-FnMut as called
 use Rattle.jsonpath_lib.specs.contracts.selectors.held_document.HeldDocument.replace_with.Key.{name as #self}

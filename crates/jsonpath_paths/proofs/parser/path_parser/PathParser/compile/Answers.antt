@@ -1,4 +1,4 @@
-use Rattle.std.proofs.Common.{◌≡◌, ◌∙◌, [], refl, sym, ap, subst, rules}
+use Rattle.std.proofs.Common.{◌≡◌, ◌∙◌, [], sym, ap, subst, rules}
 use Rattle.std.specs.Prelude.{IsTrue}
 use Rattle.jsonpath_paths.specs.text.TextPlace.{ahead}
 use Rattle.jsonpath_paths.specs.Grammar.{SpellsPath}
@@ -14,13 +14,21 @@ returns-clause-only c = λ other spelled.
     let lexemes = ap (λ i. i.lexemes) c.new-parser.ensures ∙ (c.as_slice.ensures.value ∙ c.in_ok-found.ensures.lexemes) in
     c.in-Err.ensures.only c.in-Refused.is p (subst (λ t. SpellsPath t p c.new-parser.result.lexemes) (sym (ap (λ i. i.text) c.new-parser.ensures)) (subst (SpellsPath text p) (sym lexemes) (found_spelled text p spelled.1).1))
 
-pub invariant_of-result : goal.invariant_of-result
-invariant_of-result c =
+pub with_token_list-requires-clause-spells : goal.with_token_list-requires-clause-spells
+with_token_list-requires-clause-spells c =
     let text = c.args.input.now in
     let p = path_of c.in-Ok.tree in
     let found = c.in_ok-found.found.items in
     let spelled : SpellsPath text p found = search rules in
-    record { spells = spells_found text p found (search rules) (search rules) spelled; spans = spans_spelled text p found (search rules) spelled }
+    spells_found text p found (search rules) (search rules) spelled
+
+pub with_token_list-requires-clause-spans : goal.with_token_list-requires-clause-spans
+with_token_list-requires-clause-spans c =
+    let text = c.args.input.now in
+    let p = path_of c.in-Ok.tree in
+    let found = c.in_ok-found.found.items in
+    let spelled : SpellsPath text p found = search rules in
+    spans_spelled text p found (search rules) spelled
 
 pub returns-then-is_at_end-clause-found : goal.returns-then-is_at_end-clause-found
 returns-then-is_at_end-clause-found c =
@@ -28,7 +36,7 @@ returns-then-is_at_end-clause-found c =
     let p = path_of c.in-Ok.tree in
     let found = c.in_ok-found.found.items in
     let spelled : SpellsPath text p found = search rules in
-    (refl, (p, spells_found text p found (search rules) (search rules) spelled))
+    (search rules, (p, spells_found text p found (search rules) (search rules) spelled))
 
 pub returns-in-Ok-clause-only : goal.returns-in-Ok-clause-only
 returns-in-Ok-clause-only c = λ other spelled.

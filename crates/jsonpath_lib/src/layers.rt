@@ -1,0 +1,13 @@
+//! What the library is made of, for whoever builds on it: characters, tokens, token lists and trees of path texts and
+//! their visitors; steps, comparisons and single updates on documents; bytes that come and go.
+
+pub use jsonpath_nodes::{
+    Atom, Cmp, CmpEq, CmpGe, CmpGt, CmpLe, CmpLt, CmpNe, ValueWalker, abs_index, compute_paths,
+    holds, holds_atoms, take_at_once, to_num, update_at,
+};
+pub use jsonpath_paths::{
+    Condition, FilterToken, Inner, Items, ParseToken, ParserNode, ParserNodeVisitor, ParserStep,
+    ParserTokenHandler, ReaderError, StrRange, StrReader, Term, Token, TokenReader, Tokenizer,
+};
+pub use jsonpath_select::{NodeVisitor, select_tokens, tokens_fit};
+pub use jsonpath_streams::{Checked, Input, IoFailed, Output};

@@ -1,0 +1,90 @@
+//! Updates by a closure that may refuse.
+ghost use Rattle.std.specs.Prelude.{◌≡◌, Ok, IfErr, OnOk};
+ghost use Rattle.serde_json.specs.View.{view};
+ghost use Rattle.jsonpath_select.specs.AnyPath.{ArePartsOf};
+ghost use Rattle.jsonpath_select.specs.Tried.{IsTried, IsEnded, try_fault_text, error_behind};
+
+use crate::answer::targets::targets_of;
+use crate::compile::any_path::PathParts;
+use crate::error::JsonPathError;
+use jsonpath_nodes::try_replace_at;
+use serde_json::Value;
+use std::alloc::Global;
+use std::error::Error;
+use std::fmt;
+
+/// Why updates by a closure that may refuse ended.
+///
+/// ```text
+/// let refuse = &mut |_old: &Value| Err::<Option<Value>, u8>(7);
+/// let mut document = read_document(alloc, b"[1]")?;
+/// let path = compile_path(alloc, "$[0]")?;
+/// let tried = path.try_replace_in(alloc, &mut document, refuse);
+/// assert!(rt; matches!(tried, Err(TryFault::Refused(7))));
+/// ```
+#[derive(Drop)]
+pub enum TryFault<E> {
+    /// The closure was not asked, for this reason. Nothing has changed.
+    Unasked(JsonPathError),
+    /// The closure's first refusal. What the updates before it left stands.
+    Refused(E),
+}
+
+/// The text of the reason, or that of the closure's refusal.
+impl<E: fmt::Display> fmt::Display for TryFault<E> {
+    ghost output = { try_fault_text E.output };
+
+    fn fmt<W: fmt::Write>(&self, f: &mut fmt::Formatter<W>) -> fmt::Result {
+        match self {
+            TryFault::Unasked(error) => write!(f, "{error}"),
+            TryFault::Refused(refusal) => write!(f, "{refusal}"),
+        }
+    }
+}
+
+impl<E: fmt::Display> fmt::Debug for TryFault<E> {
+    ghost debug_output = { try_fault_text E.output };
+
+    fn fmt<W: fmt::Write>(&self, f: &mut fmt::Formatter<W>) -> fmt::Result {
+        write!(f, "{self}")
+    }
+}
+
+impl<E: Error> Error for TryFault<E> {}
+
+/// The reason, or the closure's refusal: which of them it was is not kept.
+impl From<TryFault<JsonPathError>> for JsonPathError {
+    ghost from_gives = { λ fault error. error ≡ error_behind fault };
+
+    fn from(fault: TryFault<JsonPathError>) -> JsonPathError {
+        match fault {
+            TryFault::Unasked(error) => error,
+            TryFault::Refused(refusal) => refusal,
+        }
+    }
+}
+
+// Shows each value that the path selects below the root, where it is still there, to the closure, in document
+// order, and puts what it answers in its place, or takes the value away where it answers none, until it refuses
+// (`Refused`). `Unasked` where memory is refused.
+pub(crate) fn try_replace_at_targets<E, F: FnMut(&Value) -> Result<Option<Value>, E>>(
+    alloc: Global,
+    value: &mut Value,
+    path: PathParts<'_>,
+    fun: &mut F,
+) -> Result<(), TryFault<E>>
+    requires path { ArePartsOf path.text.now path }
+    requires callable { F.IsAlwaysCallable fun.old }
+    ensures ok { OnOk result (IsTried F.FnMut path.entry.text.now (view value.old) fun.old (Ok tt) fun.new (view value.new)) }
+    ensures refused { IfErr result (IsEnded F.FnMut (λ e. e ≡ JsonPathError.OutOfMemory) path.entry.text.now (view value.old) fun.old fun.new (view value.new)) }
+    ensures callable { F.IsAlwaysCallable fun.new }
+{
+    let locations = match targets_of(alloc, value, path) {
+        Ok(locations) => locations,
+        Err(error) => return Err(TryFault::Unasked(error)),
+    };
+    match try_replace_at(value, locations.as_slice(), fun) {
+        Ok(()) => Ok(()),
+        Err(error) => Err(TryFault::Refused(error)),
+    }
+}

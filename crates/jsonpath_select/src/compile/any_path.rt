@@ -1,0 +1,353 @@
+//! A compiled path of any kind: what it selects in a document, and updates at what it selects.
+ghost use Rattle.std.specs.Prelude.{◌≡◌, ℕ, List, Ok, map, option_map, string_bytes, vec_len, IfOk, IfErr, OnOk, OnErr};
+ghost use Rattle.serde_json.specs.View.{view};
+ghost use Rattle.jsonpath_select.specs.answer.Counted.{IsCountOf, IsFirstOf, TellsIfAny};
+ghost use Rattle.jsonpath_select.specs.answer.Given.{IsTextOfAnswer, IsTypedCountOf, IsTextRefusedOf, IsTypedRefusedOf};
+ghost use Rattle.jsonpath_select.specs.AnyPath.{ArePartsOf};
+ghost use Rattle.jsonpath_select.specs.Meaning.{Selects, SelectsAt, SelectsSpots};
+ghost use Rattle.jsonpath_select.specs.Targets.{IsDeleted, IsRemoved, IsSet, IsReplaced};
+ghost use Rattle.jsonpath_select.specs.Tried.{IsTried, IsEnded};
+
+use crate::answer::count_first_exists::{exists_by_parts, first_by_parts};
+use crate::answer::of_spots::locations_of_selected_spots;
+use crate::answer::select::{spots_by_parts, values_by_parts};
+use crate::answer::targets::{
+    put_null_at_targets, remove_targets, replace_at_targets, set_at_targets,
+};
+use crate::answer::text::list_to_text;
+use crate::answer::try_replace::{TryFault, try_replace_at_targets};
+use crate::answer::typed::list_to_typed;
+use crate::compile::node::Node;
+use crate::error::JsonPathError;
+use jsonpath_nodes::{Location, Spot};
+use jsonpath_paths::{ParseToken, ParserNode, PathParser};
+use serde::DeserializeOwned;
+use serde_json::Value;
+use std::alloc::Global;
+use std::rc::Rc;
+
+/// What a compiled path lends: its text, the tree that the text spells, and its token list.
+///
+/// ```text
+/// let path = Parser::compile(alloc, "$[0]")?;
+/// let parts = path.parts();
+/// assert!(rt; parts.text == "$[0]");
+/// assert_eq!(rt; parts.tree.steps.len(), 1);
+/// ```
+#[derive(Clone, Copy)]
+pub struct PathParts<'p> {
+    /// The path text, as it was compiled.
+    pub text: &'p str,
+    /// The tree that the text spells.
+    pub tree: &'p ParserNode,
+    /// The token list of the path.
+    pub tokens: &'p [ParseToken],
+}
+
+/// A compiled path: one that borrows its text, one that owns it, or a shared one. It answers every document as a path
+/// compiled anew would. Calls over `&mut Value` change the document at what the path selects in it.
+///
+/// ```text
+/// let mut document = read_document(alloc, b"[1, 2, 3]")?;
+/// let path = compile_path(alloc, "$[1:]")?;
+/// assert_eq!(rt; path.count(alloc, &document)?, 2);
+/// path.delete_in(alloc, &mut document)?;
+/// assert!(rt; path.select_as_str(alloc, &document)?.as_str() == "[null,null]");
+/// ```
+pub trait AnyPath {
+    // The text of the path.
+    ghost spelling: { Self → List ℕ };
+
+    /// Its text, its tree and its token list. It takes no memory.
+    ///
+    /// ```text
+    /// let path = compile_path(alloc, "$.*")?;
+    /// assert!(rt; path.parts().text == "$.*");
+    /// assert_eq!(rt; path.parts().tokens.len(), 3);
+    /// ```
+    fn parts(&self) -> PathParts<'_>
+        ensures { ArePartsOf (spelling self.now) result };
+
+    /// The values that the path selects in the document, in the path's order, with its repeats. They
+    /// borrow the document alone. Refused with `OutOfMemory` alone.
+    ///
+    /// ```text
+    /// let document = read_document(alloc, b"[1, 2, 3]")?;
+    /// let path = compile_path(alloc, "$[1:]")?;
+    /// let found = path.select(alloc, &document)?;
+    /// assert!(rt; list_to_text(alloc, found.as_slice())?.as_str() == "[2,3]");
+    /// ```
+    fn select<'v>(&self, alloc: Global, value: &'v Value) -> Result<Vec<&'v Value>, JsonPathError>
+        ensures ok { IfOk result (λ found. Selects (spelling self.now) (view value.now) (map (λ v. view v.now) found.items)) }
+        ensures refused { IfErr result (λ e. e ≡ JsonPathError.OutOfMemory) }
+    {
+        values_by_parts(alloc, value, self.parts())
+    }
+
+    /// Spots at what the path selects in the document, in the path's order, with its repeats. They borrow
+    /// the document alone. Refused with `OutOfMemory` alone.
+    ///
+    /// ```text
+    /// let document = read_document(alloc, b"[1, 2, 3]")?;
+    /// let path = compile_path(alloc, "$[1:]")?;
+    /// let spots = path.select_spots(alloc, &document)?;
+    /// assert_eq!(rt; spots.len(), 2);
+    /// assert!(rt; spots[1].value().as_u64() == Some(3));
+    /// ```
+    fn select_spots<'v>(
+        &self,
+        alloc: Global,
+        value: &'v Value,
+    ) -> Result<Vec<Spot<'v>>, JsonPathError>
+        ensures ok { IfOk result (λ found. SelectsSpots (spelling self.now) (view value.now) found.items) }
+        ensures refused { IfErr result (λ e. e ≡ JsonPathError.OutOfMemory) }
+    {
+        spots_by_parts(alloc, value, self.parts())
+    }
+
+    /// The locations that the path selects in the document, in the path's order, with its repeats.
+    /// Refused with `OutOfMemory` alone.
+    ///
+    /// ```text
+    /// let document = read_document(alloc, b"[1, 2, 3]")?;
+    /// let path = compile_path(alloc, "$[1:]")?;
+    /// let found = path.select_locations(alloc, &document)?;
+    /// assert_eq!(rt; found.len(), 2);
+    /// assert!(rt; found[1].to_string(alloc)?.as_str() == "$[2]");
+    /// ```
+    fn select_locations(&self, alloc: Global, value: &Value) -> Result<Vec<Location>, JsonPathError>
+        ensures ok { IfOk result (λ found. SelectsAt (spelling self.now) (view value.now) found.items) }
+        ensures refused { IfErr result (λ e. e ≡ JsonPathError.OutOfMemory) }
+    {
+        let spots = self.select_spots(alloc, value)?;
+        locations_of_selected_spots(alloc, spots.as_slice())
+    }
+
+    /// The text of the selected values: `[`, their compact texts joined by `,`, and `]`. Refused as
+    /// `select`, and with `Serde` exactly where an unread number, one that is no whole number of 64 bits,
+    /// stands in one of them, at any depth.
+    ///
+    /// ```text
+    /// let document = read_document(alloc, b"[1, 2, 3]")?;
+    /// let path = compile_path(alloc, "$[1:]")?;
+    /// assert!(rt; path.select_as_str(alloc, &document)?.as_str() == "[2,3]");
+    /// ```
+    fn select_as_str(&self, alloc: Global, value: &Value) -> Result<String, JsonPathError>
+        ensures ok { IfOk result (λ text. IsTextOfAnswer (Selects (spelling self.now) (view value.now)) (string_bytes text)) }
+        ensures refused { IfErr result (IsTextRefusedOf (Selects (spelling self.now) (view value.now))) }
+    {
+        let found = self.select(alloc, value)?;
+        list_to_text(alloc, found.as_slice())
+    }
+
+    /// One typed value for each selected value, in order. Refused as `select`, and with `Serde` where an
+    /// unread number, one that is no whole number of 64 bits, stands in one of them or `serde_json` makes
+    /// no `T` of one.
+    ///
+    /// ```text
+    /// let document = read_document(alloc, b"[1, 2, 3]")?;
+    /// let path = compile_path(alloc, "$[1:]")?;
+    /// let numbers = path.select_as::<u8>(alloc, &document)?;
+    /// assert_eq!(rt; numbers.len(), 2);
+    /// assert_eq!(rt; numbers[1], 3);
+    /// ```
+    fn select_as<T: DeserializeOwned>(
+        &self,
+        alloc: Global,
+        value: &Value,
+    ) -> Result<Vec<T>, JsonPathError>
+        ensures ok { IfOk result (λ found. IsTypedCountOf (Selects (spelling self.now) (view value.now)) (vec_len found)) }
+        ensures refused { IfErr result (IsTypedRefusedOf (Selects (spelling self.now) (view value.now))) }
+    {
+        let found = self.select(alloc, value)?;
+        list_to_typed(alloc, found.as_slice())
+    }
+
+    /// How many values the path selects in the document, each repeat counted. They are listed for it. Refused with
+    /// `OutOfMemory` alone.
+    ///
+    /// ```text
+    /// let document = read_document(alloc, b"[1, 2, 3]")?;
+    /// let path = compile_path(alloc, "$[0,0,1]")?;
+    /// assert_eq!(rt; path.count(alloc, &document)?, 3);
+    /// ```
+    fn count(&self, alloc: Global, value: &Value) -> Result<usize, JsonPathError>
+        ensures ok { IfOk result (IsCountOf (Selects (spelling self.now) (view value.now))) }
+        ensures refused { IfErr result (λ e. e ≡ JsonPathError.OutOfMemory) }
+    {
+        let found = self.select(alloc, value)?;
+        Ok(found.len())
+    }
+
+    /// The first of the values that the path selects, in the path's order, if there is one. It
+    /// borrows the document alone. Refused with `OutOfMemory` alone.
+    ///
+    /// ```text
+    /// let document = read_document(alloc, b"[1, 2, 3]")?;
+    /// let path = compile_path(alloc, "$[2,0]")?;
+    /// let first = path.first(alloc, &document)?.unwrap_or(&Value::Null);
+    /// assert!(rt; first.as_u64() == Some(3));
+    /// ```
+    fn first<'v>(&self, alloc: Global, value: &'v Value) -> Result<Option<&'v Value>, JsonPathError>
+        ensures ok { IfOk result (λ first. IsFirstOf (Selects (spelling self.now) (view value.now)) (option_map (λ v. view v.now) first)) }
+        ensures refused { IfErr result (λ e. e ≡ JsonPathError.OutOfMemory) }
+    {
+        first_by_parts(alloc, value, self.parts())
+    }
+
+    /// Whether the path selects a value in the document. Refused with `OutOfMemory` alone.
+    ///
+    /// ```text
+    /// let document = read_document(alloc, b"[1, 2, 3]")?;
+    /// let path = compile_path(alloc, "$[*][?(@ > 2)]")?;
+    /// assert!(rt; path.exists(alloc, &document)?);
+    /// ```
+    fn exists(&self, alloc: Global, value: &Value) -> Result<bool, JsonPathError>
+        ensures ok { IfOk result (TellsIfAny (Selects (spelling self.now) (view value.now))) }
+        ensures refused { IfErr result (λ e. e ≡ JsonPathError.OutOfMemory) }
+    {
+        exists_by_parts(alloc, value, self.parts())
+    }
+
+    /// Puts null at the topmost locations below the root that the path selects. All else stays as it is.
+    /// Refused with `OutOfMemory` alone, and then the value is unchanged.
+    ///
+    /// ```text
+    /// let mut document = read_document(alloc, b"[1, [2, 3]]")?;
+    /// let path = compile_path(alloc, "$[1][0]")?;
+    /// path.delete_in(alloc, &mut document)?;
+    /// assert!(rt; document_to_text(alloc, &document)?.as_str() == "[1,[null,3]]");
+    /// ```
+    fn delete_in(&self, alloc: Global, value: &mut Value) -> Result<(), JsonPathError>
+        ensures ok { OnOk result (IsDeleted (spelling self.now) (view value.old) (view value.new)) }
+        ensures refused { IfErr result (λ e. e ≡ JsonPathError.OutOfMemory) }
+        ensures kept { OnErr result (value.new ≡ value.old) }
+    {
+        put_null_at_targets(alloc, value, self.parts())
+    }
+
+    /// Takes away the topmost values below the root that the path selects, all at once. What remains of
+    /// an array keeps its order. Refused with `OutOfMemory` alone, and then the value is unchanged.
+    ///
+    /// ```text
+    /// let mut document = read_document(alloc, b"[1, 2, 3]")?;
+    /// let path = compile_path(alloc, "$[0,2]")?;
+    /// path.remove_in(alloc, &mut document)?;
+    /// assert!(rt; document_to_text(alloc, &document)?.as_str() == "[2]");
+    /// ```
+    fn remove_in(&self, alloc: Global, value: &mut Value) -> Result<(), JsonPathError>
+        ensures ok { OnOk result (IsRemoved (spelling self.now) (view value.old) (view value.new)) }
+        ensures refused { IfErr result (λ e. e ≡ JsonPathError.OutOfMemory) }
+        ensures kept { OnErr result (value.new ≡ value.old) }
+    {
+        remove_targets(alloc, value, self.parts())
+    }
+
+    /// Puts a copy of `new` at the topmost locations below the root that the path selects, all at once. All else stays
+    /// as it is. Refused with `OutOfMemory` alone, and then the value is unchanged.
+    ///
+    /// ```text
+    /// let mut document = read_document(alloc, b"[1, [2, 3]]")?;
+    /// let path = compile_path(alloc, "$..[0]")?;
+    /// path.set_in(alloc, &mut document, &Value::Bool(true))?;
+    /// assert!(rt; document_to_text(alloc, &document)?.as_str() == "[true,[true,3]]");
+    /// ```
+    fn set_in(&self, alloc: Global, value: &mut Value, new: &Value) -> Result<(), JsonPathError>
+        ensures ok { OnOk result (IsSet (spelling self.now) (view new.now) (view value.old) (view value.new)) }
+        ensures refused { IfErr result (λ e. e ≡ JsonPathError.OutOfMemory) }
+        ensures kept { OnErr result (value.new ≡ value.old) }
+    {
+        set_at_targets(alloc, value, self.parts(), new)
+    }
+
+    /// Hands the values that the path selects to the closure, in document order, each location once, and
+    /// puts what it answers in their place, or takes away where it answers none. Each update is made on
+    /// what the earlier ones left; a location that is no longer there is passed over, and so is the
+    /// root. Refused with `OutOfMemory` alone; then the value is unchanged and the closure was not asked.
+    ///
+    /// ```text
+    /// let mut document = read_document(alloc, b"[1, 2, 3]")?;
+    /// let path = compile_path(alloc, "$[1]")?;
+    /// path.replace_in(alloc, &mut document, &mut |_old: Value| None)?;
+    /// assert!(rt; document_to_text(alloc, &document)?.as_str() == "[1,3]");
+    /// ```
+    fn replace_in<F: FnMut(Value) -> Option<Value>>(
+        &self,
+        alloc: Global,
+        value: &mut Value,
+        fun: &mut F,
+    ) -> Result<(), JsonPathError>
+        requires { F.IsAlwaysCallable fun.old }
+        ensures ok { OnOk result (IsReplaced F.FnMut (spelling self.now) (view value.old) fun.old fun.new (view value.new)) }
+        ensures refused { IfErr result (λ e. e ≡ JsonPathError.OutOfMemory) }
+        ensures kept { OnErr result (value.new ≡ value.old) }
+        ensures unasked { OnErr result (fun.new ≡ fun.old) }
+        ensures callable { F.IsAlwaysCallable fun.new }
+    {
+        replace_at_targets(alloc, value, self.parts(), fun)
+    }
+
+    /// Shows the values that the path selects to the closure, in document order, each location once, and puts
+    /// what it answers in their place, or takes away where it answers none. Each update is made on what the
+    /// earlier ones left; a location that is no longer there is passed over, and so is the root.
+    ///
+    /// The closure's first error ends the updates, as `Refused`; what the updates before it left stands.
+    /// `Unasked` for `OutOfMemory` alone.
+    ///
+    /// ```text
+    /// let mut document = read_document(alloc, b"[1, \"x\", 3]")?;
+    /// let path = compile_path(alloc, "$[*]")?;
+    /// let only_numbers = &mut |old: &Value| match old.as_u64() {
+    ///     Some(_) => Ok(Some(Value::Null)),
+    ///     None => Err("no number"),
+    /// };
+    /// let tried = path.try_replace_in(alloc, &mut document, only_numbers);
+    /// assert!(rt; matches!(tried, Err(TryFault::Refused("no number"))));
+    /// assert!(rt; document_to_text(alloc, &document)?.as_str() == "[null,\"x\",3]");
+    /// ```
+    fn try_replace_in<E, F: FnMut(&Value) -> Result<Option<Value>, E>>(
+        &self,
+        alloc: Global,
+        value: &mut Value,
+        fun: &mut F,
+    ) -> Result<(), TryFault<E>>
+        requires { F.IsAlwaysCallable fun.old }
+        ensures ok { OnOk result (IsTried F.FnMut (spelling self.now) (view value.old) fun.old (Ok tt) fun.new (view value.new)) }
+        ensures refused { IfErr result (IsEnded F.FnMut (λ e. e ≡ JsonPathError.OutOfMemory) (spelling self.now) (view value.old) fun.old fun.new (view value.new)) }
+        ensures callable { F.IsAlwaysCallable fun.new }
+    {
+        try_replace_at_targets(alloc, value, self.parts(), fun)
+    }
+}
+
+impl<'p> AnyPath for PathParser<'p> {
+    ghost spelling = { λ path. path };
+
+    fn parts(&self) -> PathParts<'_> {
+        PathParts {
+            text: self.text(),
+            tree: self.tree(),
+            tokens: self.tokens(),
+        }
+    }
+}
+
+impl AnyPath for Node {
+    ghost spelling = { λ path. path };
+
+    fn parts(&self) -> PathParts<'_> {
+        PathParts {
+            text: self.text(),
+            tree: self.tree(),
+            tokens: self.tokens(),
+        }
+    }
+}
+
+impl<P: AnyPath> AnyPath for Rc<P> {
+    ghost spelling = { λ path. P.spelling path.value };
+
+    fn parts(&self) -> PathParts<'_> {
+        P::parts(self)
+    }
+}
