@@ -24,7 +24,7 @@ covered_further [] m p h k = cc
 covered_further (s ∷ l) [] p h k = cc
 covered_further (s ∷ l) (t ∷ m) p h k = further (s ∷ l) (t ∷ m) p h k
 
-covers_no_more : (xs ys : List Location) (l m p : Location) → is_covered_by l m ≡ true → covers p (xs ++ l ∷ m ∷ ys) ≡ covers p (xs ++ l ∷ ys)
+pub covers_no_more : (xs ys : List Location) (l m p : Location) → is_covered_by l m ≡ true → covers p (xs ++ l ∷ m ∷ ys) ≡ covers p (xs ++ l ∷ ys)
 covers_no_more (x ∷ xs) ys l m p h = ap (λ (b : Bool). is_covered_by x p || b) (covers_no_more xs ys l m p h)
 covers_no_more [] ys l m p h = by (is_covered_by l p) (is_covered_by m p) (covered_further l m p h)
   where

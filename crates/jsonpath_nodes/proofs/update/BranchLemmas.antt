@@ -1,5 +1,5 @@
 -- Locations as a tree, and null put at them branch by branch.
-use Rattle.std.proofs.Common.{◌≡◌, List, [], ◌∷◌, ◌++◌, map, reverse, Option, Some, None, Ordering, Less, Equal, Greater, nat_cmp, nat_eq, true, false, true≢false, ℕ, zero, suc, ◌+◌, ◌-◌, ◌<◌, length, slice_set, take, get_or, add-one, arith, refl, sym, ap, ◌∙◌, append_assoc, append-nil, rules}
+use Rattle.std.proofs.Common.{◌≡◌, List, [], ◌∷◌, ◌++◌, map, reverse, Option, Some, None, Ordering, Less, Equal, Greater, nat_cmp, nat_eq, true, false, true≢false, ℕ, zero, suc, ◌+◌, ◌-◌, ◌<◌, length, slice_set, take, get_or, add-one, arith, refl, sym, ap, ◌∙◌, append_assoc, append-nil, rules, Bool, ◌||◌, ap₂, subst}
 use Rattle.std.proofs.lemmas.List.{reverse-append, map-append, length-append, length-reverse, length-map}
 use Rattle.std.proofs.Math.Seq.{take-suc, take-length}
 use Rattle.std.specs.Ordering.{match_ordering}
@@ -10,14 +10,15 @@ use Rattle.jsonpath_nodes.specs.place.Order.{once_in_order}
 use Rattle.jsonpath_nodes.specs.place.SpotPlace.{step_of, location_of}
 use Rattle.jsonpath_nodes.specs.declared.place.spot.Spot.{Spot}
 use Rattle.jsonpath_nodes.specs.update.Run.{update_each}
-use Rattle.jsonpath_nodes.specs.update.Topmost.{nulled, is_covered_by}
+use Rattle.jsonpath_nodes.specs.update.Topmost.{is_covered_by}
 use Rattle.jsonpath_nodes.specs.update.Update.{item_if, member_if, edit_item, edit_member, edit, with_answer_at, update}
 use Rattle.jsonpath_nodes.specs.place.Branches.{first_step, next_branches, concatenated, locations_behind, branch_locations, tree_locations, from_top, below_root, null_at, null_at_each, nulled_below, NullAlike}
 use Rattle.jsonpath_nodes.specs.declared.update.at_once.location_tree.Branch.{Branch, fold_out-Branch}
 use Rattle.jsonpath_nodes.specs.declared.place.spot.PathStep.{PathStep}
-use Rattle.jsonpath_nodes.proofs.step.CoveredLemmas.{covered}
+use Rattle.jsonpath_nodes.proofs.step.CoveredLemmas.{covers_no_more}
+use Rattle.jsonpath_nodes.proofs.update.SetLemmas.{covers, SameCover, topmost_same}
+use Rattle.std.proofs.lemmas.List.Folds.{list_any-append}
 use Rattle.jsonpath_nodes.proofs.update.EditLemmas.{edit_back, edit_by, edit_same}
-use Rattle.jsonpath_nodes.proofs.update.TopmostLemmas.{each_null}
 use Rattle.jsonpath_nodes.proofs.update.MemberLemmas.{topmost_once}
 
 abbrev gone : Option Data
@@ -40,11 +41,6 @@ tree-one b = append-nil (branch_locations b)
 
 pub from_top-more : (up : List PathStep) (p : PathStep) → from_top (up ++ p ∷ []) ≡ step_of p ∷ from_top up
 from_top-more up p = ap reverse (map-append step_of up (p ∷ [])) ∙ reverse-append (map step_of up) (step_of p ∷ [])
-
-pub below_root-append : (ls ms : List Location) → below_root (ls ++ ms) ≡ below_root ls ++ below_root ms
-below_root-append [] ms = refl
-below_root-append ([] ∷ ls) ms = below_root-append ls ms
-below_root-append ((s ∷ l) ∷ ls) ms = ap (λ r. (s ∷ l) ∷ r) (below_root-append ls ms)
 
 -- ---- null at each of them
 
@@ -119,14 +115,6 @@ branch_each b d = ap (λ (ls : List Location). update_each gone ls d) (branch_is
 -- the first branch, and then the others
 pub tree_each : (b : Branch) (bs : List Branch) (d : Data) → update_each gone (tree_locations (b ∷ bs)) d ≡ update_each gone (tree_locations bs) (edit (λ c. Some (nulled_below (next_branches b) c)) (first_step b) d)
 tree_each b bs d = each-append (branch_locations b) (tree_locations bs) d ∙ ap (update_each gone (tree_locations bs)) (branch_each b d)
-
-below_root_each : (ls : List Location) (d : Data) → update_each gone (below_root ls) d ≡ update_each gone ls d
-below_root_each [] d = refl
-below_root_each ([] ∷ ls) d = below_root_each ls d
-below_root_each ((s ∷ l) ∷ ls) d = below_root_each ls (update (s ∷ l) gone d)
-
-pub null_alike : (ls : List Location) → NullAlike (below_root ls) (once_in_order ls)
-null_alike ls d = sym (each_null (below_root ls) d) ∙ below_root_each ls d ∙ each_null ls d ∙ sym (topmost_once gone ls d)
 
 -- ---- a branch more, and a branch that goes on
 
@@ -227,38 +215,27 @@ tree_takes bs front b x c m up rest p is len got step more same grown some steps
 
 -- ---- the spots one after another
 
--- whatever follows, nulling by the ones is nulling by the others
-abbrev pub SaysAlike : List Location → List Location → Type 0
-SaysAlike ts ls = (more : List Location) (d : Data) → nulled (ts ++ more) d ≡ nulled (ls ++ more) d
+-- the root covers nothing
+root_aside : (p l : Location) → covers p (below_root (l ∷ [])) ≡ covers p (l ∷ [])
+root_aside p [] = refl
+root_aside p (s ∷ l) = refl
 
-pub alike_more : (ts ls ms : List Location) → SaysAlike ts ls → SaysAlike (ts ++ ms) (ls ++ ms)
-alike_more ts ls ms h more d =
-    ap (λ (xs : List Location). nulled xs d) (append_assoc ts ms more) ∙ h (ms ++ more) d ∙ ap (λ (xs : List Location). nulled xs d) (sym (append_assoc ls ms more))
-
-covered_some : (l m : Location) → is_covered_by l m ≡ true → below_root (m ∷ []) ≡ m ∷ []
-covered_some [] m h = cc
-covered_some (s ∷ l) [] h = cc
-covered_some (s ∷ l) (t ∷ m) h = refl
+pub cover_more : (ts ls : List Location) (l : Location) → SameCover ts ls → SameCover (ts ++ below_root (l ∷ [])) (ls ++ l ∷ [])
+cover_more ts ls l h p =
+    list_any-append (λ m. is_covered_by m p) ts (below_root (l ∷ [])) ∙ ap₂ (λ (x y : Bool). x || y) (h p) (root_aside p l) ∙ sym (list_any-append (λ m. is_covered_by m p) ls (l ∷ []))
 
 -- a location at or below the last one adds nothing
-pub alike_covered : (ts front ls : List Location) (l m : Location) → ts ≡ front ++ l ∷ [] → is_covered_by l m ≡ true → SaysAlike ts ls → SaysAlike ts (ls ++ below_root (m ∷ []))
-alike_covered ts front ls l m is below h more d =
-    ap (λ (xs : List Location). nulled (xs ++ more) d) is ∙ ap (λ (xs : List Location). nulled xs d) (append_assoc front (l ∷ []) more)
-    ∙ sym (covered (Some null) front more l m below d)
-    ∙ sym (ap (λ (xs : List Location). nulled xs d) (append_assoc front (l ∷ []) (m ∷ more))) ∙ sym (ap (λ (xs : List Location). nulled (xs ++ m ∷ more) d) is)
-    ∙ h (m ∷ more) d
-    ∙ sym (ap (λ (xs : List Location). nulled xs d) (append_assoc ls (m ∷ []) more)) ∙ sym (ap (λ (xs : List Location). nulled ((ls ++ xs) ++ more) d) (covered_some l m below))
+pub cover_covered : (ts front ls : List Location) (l m : Location) → ts ≡ front ++ l ∷ [] → is_covered_by l m ≡ true → SameCover ts ls → SameCover ts (ls ++ m ∷ [])
+cover_covered ts front ls l m is below h p =
+    ap (covers p) is ∙ sym (covers_no_more front [] l m p below) ∙ ap (covers p) (sym (append_assoc front (l ∷ []) (m ∷ [])) ∙ ap (λ (xs : List Location). xs ++ m ∷ []) (sym is))
+    ∙ list_any-append (λ k. is_covered_by k p) ts (m ∷ []) ∙ ap (λ (x : Bool). x || covers p (m ∷ [])) (h p) ∙ sym (list_any-append (λ k. is_covered_by k p) ls (m ∷ []))
 
-pub spot_more : (spots : List Spot) (i : ℕ) (x : Spot) (l : Location) → i < length spots → x ≡ get_or spots i x → l ≡ location_of x
-    → below_root (map location_of (take i spots)) ++ below_root (l ∷ []) ≡ below_root (map location_of (take (i + 1) spots))
-spot_more spots i x l within is at =
+pub spot_more : (spots : List Spot) (i : ℕ) (x : Spot) → i < length spots → x ≡ get_or spots i x → map location_of (take i spots) ++ location_of x ∷ [] ≡ map location_of (take (i + 1) spots)
+spot_more spots i x within is =
     let taken : take (i + 1) spots ≡ take i spots ++ x ∷ [] = rw add-one (take-suc spots i x within) ∙ ap (λ (y : Spot). take i spots ++ y ∷ []) (sym is) in
-    ap (λ (m : Location). below_root (map location_of (take i spots)) ++ below_root (m ∷ [])) at
-    ∙ sym (below_root-append (map location_of (take i spots)) (location_of x ∷ []))
-    ∙ ap below_root (sym (map-append location_of (take i spots) (x ∷ [])) ∙ ap (map location_of) (sym taken))
+    sym (ap (map location_of) taken ∙ map-append location_of (take i spots) (x ∷ []))
 
-pub spots_done : (spots : List Spot) (i : ℕ) (found : List Location) → i ≡ length spots → SaysAlike found (below_root (map location_of (take i spots))) → NullAlike found (once_in_order (map location_of spots))
+pub spots_done : (spots : List Spot) (i : ℕ) (found : List Location) → i ≡ length spots → SameCover found (map location_of (take i spots)) → NullAlike found (once_in_order (map location_of spots))
 spots_done spots i found end said d =
-    ap (λ (ls : List Location). nulled ls d) (sym (append-nil found)) ∙ said [] d
-    ∙ ap (λ (ls : List Location). nulled ls d) (append-nil (below_root (map location_of (take i spots))) ∙ ap (λ (n : ℕ). below_root (map location_of (take n spots))) end ∙ ap (λ (xs : List Spot). below_root (map location_of xs)) (take-length spots))
-    ∙ null_alike (map location_of spots) d
+    let whole : take i spots ≡ spots = ap (λ (n : ℕ). take n spots) end ∙ take-length spots in
+    topmost_same gone found (map location_of spots) d (subst (λ (xs : List Spot). SameCover found (map location_of xs)) whole said) ∙ sym (topmost_once gone (map location_of spots) d)

@@ -3,7 +3,8 @@ use Rattle.jsonpath_nodes.specs.place.Branches.{tree_locations, below_root, from
 use Rattle.jsonpath_nodes.specs.place.Location.{Location}
 use Rattle.jsonpath_nodes.specs.place.SpotPlace.{location_of, steps_of}
 use Rattle.jsonpath_nodes.specs.update.Topmost.{is_covered_by}
-use Rattle.jsonpath_nodes.proofs.update.BranchLemmas.{SaysAlike, alike_more, alike_covered, below_root_some, spot_more, spots_done}
+use Rattle.jsonpath_nodes.proofs.update.BranchLemmas.{cover_more, cover_covered, below_root_some, spot_more, spots_done}
+use Rattle.jsonpath_nodes.proofs.update.SetLemmas.{SameCover}
 use Rattle.jsonpath_nodes.proofs.update.at_once.location_tree.LocationTree.of_spots.Goals as goal
 use Rattle.jsonpath_nodes.proofs.update.at_once.location_tree.LocationTree.of_spots.Goals.{then-not-is_non_root_reversed_prefix_of+in_ok-add_location+in_ok-push_reversed_steps-2, else-not-is_non_root_reversed_prefix_of}
 
@@ -15,8 +16,8 @@ loop-spot-preserved c =
     let up = c.push_reversed_steps.new.up.items in
     let at : from_top up ≡ here = c.in_ok-push_reversed_steps.ensures ∙ ap (λ xs. steps_of c.steps.result ++ from_top xs) c.clear.ensures.items ∙ append-nil (steps_of c.steps.result) ∙ c.steps.ensures in
     let old : List Location = tree_locations c.loop-spot.branches.items in
-    let met : List Location = below_root (map location_of (take i spots)) in
-    let now : met ++ below_root (here ∷ []) ≡ below_root (map location_of (take (i + 1) spots)) = spot_more spots i c.spot-item.result here (omega (arith, c.loop-spot-test.true)) c.spot-item.is refl in
+    let met : List Location = map location_of (take i spots) in
+    let now : met ++ here ∷ [] ≡ map location_of (take (i + 1) spots) = spot_more spots i c.spot-item.result (omega (arith, c.loop-spot-test.true)) c.spot-item.is in
     let known = c.loop-spot.invariant in
     elim c.if-not-is_non_root_reversed_prefix_of.branch [
       | then-not-is_non_root_reversed_prefix_of+in_ok-add_location+in_ok-push_reversed_steps-2 w ↦
@@ -27,7 +28,7 @@ loop-spot-preserved c =
           let grown : tree_locations c.if-not-is_non_root_reversed_prefix_of.branches.items ≡ old ++ below_root (here ∷ []) =
           ap (λ v. tree_locations v.items) w.branches-is ∙ w.in_ok-add_location.ensures ∙ ap (λ (l : Location). old ++ below_root (l ∷ [])) slice in
           record {
-            said = subst (λ (ls : List Location). SaysAlike (tree_locations c.if-not-is_non_root_reversed_prefix_of.branches.items) ls) now (subst (λ (ts : List Location). SaysAlike ts (met ++ below_root (here ∷ []))) (sym grown) (alike_more old met (below_root (here ∷ [])) known.said));
+            said = subst (λ (ls : List Location). SameCover (tree_locations c.if-not-is_non_root_reversed_prefix_of.branches.items) ls) now (subst (λ (ts : List Location). SameCover ts (met ++ here ∷ [])) (sym grown) (cover_more old met here known.said));
             last = λ some.
                 let has : nat_eq (length top) 0 ≡ false = subst (λ v. nat_eq (length v.items) 0 ≡ false) w.top-is some in
                 let one : below_root (here ∷ []) ≡ from_top top ∷ [] = ap (λ (l : Location). below_root (l ∷ [])) (sym top_at) ∙ below_root_some top has in
@@ -41,8 +42,8 @@ loop-spot-preserved c =
           let below : is_covered_by (from_top top) here ≡ true =
           ap₂ is_covered_by (sym (ap from_top c.as_slice.ensures.value)) (sym (ap from_top c.as_slice-in-loop-spot.ensures.value ∙ at)) ∙ w.if-not-is_non_root_reversed_prefix_of.ensures.covered refl in
           record {
-            said = subst (λ (ls : List Location). SaysAlike (tree_locations c.if-not-is_non_root_reversed_prefix_of.branches.items) ls) now
-                (subst (λ (ts : List Location). SaysAlike ts (met ++ below_root (here ∷ []))) (sym stays) (alike_covered old end.0 met (from_top top) here end.1 below known.said));
+            said = subst (λ (ls : List Location). SameCover (tree_locations c.if-not-is_non_root_reversed_prefix_of.branches.items) ls) now
+                (subst (λ (ts : List Location). SameCover ts (met ++ here ∷ [])) (sym stays) (cover_covered old end.0 met (from_top top) here end.1 below known.said));
             last = λ some.
                 let still = known.last (subst (λ v. nat_eq (length v.items) 0 ≡ false) w.top-is some) in
                 (still.0, stays ∙ still.1 ∙ ap (λ v. still.0 ++ from_top v.items ∷ []) (sym w.top-is));
