@@ -64,19 +64,7 @@ fn samples_of_steps_below(rt: HostRuntime) -> Result<(), Fail> {
         assert_eq!(rt; found.len(), 1);
     }
     {
-        let found = ValueWalker::below_with_strs(alloc, &root, &["b", "a"])?;
-        assert_eq!(rt; found.len(), 2);
-    }
-    {
         let found = ValueWalker::all_with_num(alloc, &root, 0)?;
-        assert_eq!(rt; found.len(), 2);
-    }
-    {
-        let found = ValueWalker::below_with_nums(alloc, &root, &[1, 0])?;
-        assert_eq!(rt; found.len(), 4);
-    }
-    {
-        let found = ValueWalker::below_with_range(alloc, &root, None, Some(1), None)?;
         assert_eq!(rt; found.len(), 2);
     }
     Ok(())

@@ -1,24 +1,21 @@
 //! Laws of path texts and their trees, each the contract of a function that does nothing else.
 
 ghost use Rattle.std.specs.Prelude.{◌≡◌, ◌⊎◌, ℕ, suc, List, ◌∷◌, ◌++◌, length, Some, None, true, false};
-ghost use Rattle.std.specs.Str.{IsUtf8, chars};
+ghost use Rattle.std.specs.Str.{IsUtf8};
 ghost use Rattle.jsonpath_paths.specs.tree.Joined.{filter_text, joined_text, JoinsSides};
-ghost use Rattle.jsonpath_paths.specs.token.Kinds.{IsFirst, HasNone, all_pass, begins_none, ends_word, is_name};
+ghost use Rattle.jsonpath_paths.specs.token.Kinds.{IsFirst, HasNone, all_pass, begins_none, ends_word};
 ghost use Rattle.jsonpath_paths.specs.token.Tokens.{TakesToken};
 ghost use Rattle.jsonpath_paths.specs.text.TextPlace.{Place};
-ghost use Rattle.jsonpath_paths.specs.text.Spans.{IsSpan};
 ghost use Rattle.jsonpath_paths.specs.Spelling.{Spells, IsInGrammar};
 ghost use Rattle.jsonpath_paths.specs.token.Reading.{first};
-ghost use Rattle.jsonpath_paths.specs.text.Characters.{bytes_at, goes_on};
+ghost use Rattle.jsonpath_paths.specs.text.Characters.{goes_on};
 ghost use Rattle.jsonpath_paths.specs.tree.Tree.{Path, is_comparison};
-ghost use Rattle.jsonpath_paths.specs.tree.Visit.{path_tokens, MayReadPath};
+ghost use Rattle.jsonpath_paths.specs.tree.Visit.{path_tokens};
 ghost use Rattle.jsonpath_paths.specs.tree.WellFormed.{IsPath};
 ghost use Rattle.jsonpath_paths.specs.WholeText.{tree_of_text};
 ghost use Rattle.jsonpath_paths.specs.declared.token.tokens.FilterToken.{FilterToken};
 ghost use Rattle.jsonpath_paths.specs.declared.token.tokens.Kind.{Kind};
 ghost use Rattle.jsonpath_paths.specs.declared.token.tokens.Token.{Token};
-
-use crate::parser::path_parser::PathParser;
 
 /// The first token of a text is the longest front that is a token of some kind, and it is of that
 /// kind alone; where there is none, no front is a token. A text has one first token or none, so one
@@ -53,38 +50,6 @@ pub fn word_is_first_token()
 pub fn one_tree_per_text()
     ensures { (text : List ℕ) (p q : Path) → Spells text p → Spells text q → p ≡ q }
 {}
-
-/// The tree that a text spells has the forms of the grammar.
-///
-/// ```text
-/// laws::spelled_tree_is_well_formed();
-/// ```
-pub fn spelled_tree_is_well_formed()
-    ensures { (text : List ℕ) (p : Path) → Spells text p → IsPath p }
-{}
-
-/// At each span of the tree that a text spells stands a word or a quoted text, and the span cuts no
-/// character.
-///
-/// ```text
-/// laws::names_stand_at_spans();
-/// ```
-pub fn names_stand_at_spans()
-    ensures { (text : List ℕ) (p : Path) → IsUtf8 text → Spells text p
-        → MayReadPath (λ s. IsSpan text s.now × (is_name (chars (bytes_at text s.now)) ≡ true)) p }
-{}
-
-/// The text of a compiled path is in the grammar.
-///
-/// ```text
-/// let path = compile_path(alloc, "$.a")?;
-/// laws::compiled_path_is_in_grammar(&path);
-/// ```
-pub fn compiled_path_is_in_grammar(path: &PathParser<'_>)
-    ensures { IsInGrammar path.now }
-{
-    path.tree();
-}
 
 /// No two trees in the forms of the grammar have one token list.
 ///

@@ -64,7 +64,7 @@ impl ValueWalker {
     }
 
     /// A list of names: from each object its members of these names, in the list's order. It leads to children
-    /// alone; `below_with_strs` goes further. The name is the Rust crate's.
+    /// alone. The name is the Rust crate's.
     ///
     /// ```text
     /// let found = ValueWalker::all_with_strs(alloc, items.as_slice(), &["b", "a"])?;
@@ -161,23 +161,6 @@ impl ValueWalker {
         plain_step_from_all_below(alloc, spots, &PlainStep::Named(name))
     }
 
-    /// `..` before a list of names: from each object at or below each spot its members of these names, in the list's
-    /// order.
-    ///
-    /// ```text
-    /// let found = ValueWalker::below_with_strs(alloc, &root, &["b", "a"])?;
-    /// assert_eq!(rt; found.len(), 2);
-    /// ```
-    pub fn below_with_strs<'a>(
-        alloc: Global,
-        spots: &[Spot<'a>],
-        names: &[&str],
-    ) -> Result<Vec<Spot<'a>>, NoMemory>
-        ensures { IfOk result (λ found. LeadsBy (λ doc ls. step doc (listed (map (λ k. k.now) names.now)) (all_below doc ls)) spots.now found.items) }
-    {
-        plain_step_from_all_below(alloc, spots, &PlainStep::Listed(names))
-    }
-
     /// `..` before an index as a path writes it: the item there, if there is one, of each array at or below each
     /// spot.
     ///
@@ -193,41 +176,6 @@ impl ValueWalker {
         ensures { IfOk result (λ found. LeadsBy (λ doc ls. step doc (nth n) (all_below doc ls)) spots.now found.items) }
     {
         plain_step_from_all_below(alloc, spots, &PlainStep::Nth(n))
-    }
-
-    /// `..` before a union: from each array at or below each spot the items at these indexes, in the union's order.
-    ///
-    /// ```text
-    /// let found = ValueWalker::below_with_nums(alloc, &root, &[1, 0])?;
-    /// assert_eq!(rt; found.len(), 4);
-    /// ```
-    pub fn below_with_nums<'a>(
-        alloc: Global,
-        spots: &[Spot<'a>],
-        ns: &[i64],
-    ) -> Result<Vec<Spot<'a>>, NoMemory>
-        ensures { IfOk result (λ found. LeadsBy (λ doc ls. step doc (union ns.now) (all_below doc ls)) spots.now found.items) }
-    {
-        plain_step_from_all_below(alloc, spots, &PlainStep::Union(ns))
-    }
-
-    /// `..` before a range: from each array at or below each spot the items at `from`, `from + step` and so on, below
-    /// `to`. A missing `from` is 0, a missing `to` the length, a missing `step` 1. A `step` of 0 gives nothing.
-    ///
-    /// ```text
-    /// let found = ValueWalker::below_with_range(alloc, &root, None, Some(1), None)?;
-    /// assert_eq!(rt; found.len(), 2);
-    /// ```
-    pub fn below_with_range<'a>(
-        alloc: Global,
-        spots: &[Spot<'a>],
-        from: Option<i64>,
-        to: Option<i64>,
-        step: Option<u64>,
-    ) -> Result<Vec<Spot<'a>>, NoMemory>
-        ensures { IfOk result (λ found. LeadsBy (λ doc ls. step_word doc (range from to step) (all_below doc ls)) spots.now found.items) }
-    {
-        plain_step_from_all_below(alloc, spots, &PlainStep::Range(from, to, step))
     }
 
     /// Each spot and all below it, each value before its children.

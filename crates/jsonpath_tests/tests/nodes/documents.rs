@@ -66,5 +66,6 @@ pub(crate) fn union_below<'a>(
     indexes: &[i64],
 ) -> Vec<Spot<'a>> {
     let root = [Spot::root(rt.alloc(), doc)];
-    ValueWalker::below_with_nums(rt.alloc(), &root, indexes).expect(rt, "spots")
+    let below = ValueWalker::below(rt.alloc(), &root).expect(rt, "spots");
+    ValueWalker::next_with_nums(rt.alloc(), below.as_slice(), indexes).expect(rt, "spots")
 }

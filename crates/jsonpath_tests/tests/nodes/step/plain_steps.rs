@@ -59,7 +59,7 @@ fn steps_below(rt: HostRuntime) {
     let below = ValueWalker::below(alloc, &root).expect(&rt, "spots");
     check!(rt; below.len() == 5);
     shows(&rt, ValueWalker::all_with_str(alloc, &root, "b"), "2");
-    let listed = ValueWalker::below_with_strs(alloc, &root, &["b", "a"]);
+    let listed = ValueWalker::all_with_strs(alloc, below.as_slice(), &["b", "a"]);
     shows(&rt, listed, "[1,{\"b\":2}] 2");
 }
 
@@ -69,9 +69,10 @@ fn steps_into_lists_below(rt: HostRuntime) {
     let nested = document(&rt, "[[1,2],[3]]");
     let top = [Spot::root(alloc, &nested)];
     shows(&rt, ValueWalker::all_with_num(alloc, &top, -1), "[3] 2 3");
-    let union = ValueWalker::below_with_nums(alloc, &top, &[1, 0]);
+    let below = ValueWalker::below(alloc, &top).expect(&rt, "spots");
+    let union = ValueWalker::next_with_nums(alloc, below.as_slice(), &[1, 0]);
     shows(&rt, union, "[3] [1,2] 2 1 3");
-    let range = ValueWalker::below_with_range(alloc, &top, Some(0), Some(1), None);
+    let range = ValueWalker::next_with_range(alloc, below.as_slice(), Some(0), Some(1), None);
     shows(&rt, range, "[1,2] 1 3");
 }
 
