@@ -6,7 +6,6 @@
 mod page;
 mod row;
 mod selected;
-mod token_list;
 
 use anyhow::{Context, Result};
 use row::{Row, outcome_of};

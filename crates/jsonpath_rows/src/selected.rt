@@ -1,6 +1,5 @@
 //! The answers to a row that selects, each by another way.
 use crate::row::Row;
-use crate::token_list::tokens_of;
 use jsonpath_nodes::Spot;
 use jsonpath_select::{
     JsonPathError, JsonSelector, Parser, Selector, compile_path, list_to_text, read_document,
@@ -88,12 +87,11 @@ fn by_spots(alloc: Global, path: &str, input: &str) -> Result<String, JsonPathEr
 
 fn by_token_list(alloc: Global, path: &str, input: &str) -> Result<String, JsonPathError> {
     let compiled = compile_path(alloc, path)?;
-    let tokens = tokens_of(alloc, &compiled)?;
     let document = read_document(alloc, input.as_bytes())?;
-    if !tokens_fit(alloc, path, tokens.as_slice())? {
+    if !tokens_fit(alloc, path, compiled.tokens())? {
         return Err(JsonPathError::EmptyPath);
     }
-    let spots = select_tokens(alloc, &document, path, tokens.as_slice())?;
+    let spots = select_tokens(alloc, &document, path, compiled.tokens())?;
     text_of(alloc, spots.as_slice())
 }
 

@@ -5,6 +5,4 @@ pub mod SetMeaningLemmas
 pub mod SetWalkLemmas
 pub mod LeadingLemmas
 pub mod PieceLemmas
-pub mod WeightLemmas
-pub mod OnceEachLemmas
 pub mod StandApartLemmas

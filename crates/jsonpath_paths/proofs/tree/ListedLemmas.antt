@@ -1,16 +1,15 @@
 -- Each span in a tree that a text spells has a word or a quoted text.
-use Rattle.std.proofs.Common.{◌≡◌, ◌≤◌, ◌<◌, ◌+◌, ℕ, suc, Bool, true, false, not, ◌||◌, List, [], ◌∷◌, ◌++◌, length, drop, refl, sym, ap, ◌∙◌, arith, leb, ltb}
+use Rattle.std.proofs.Common.{◌≡◌, ◌≤◌, ◌<◌, ◌+◌, ℕ, suc, Bool, true, false, not, ◌||◌, List, [], ◌∷◌, ◌++◌, length, refl, sym, ap, ◌∙◌, arith, leb, ltb}
 use Rattle.std.specs.Prelude.{Contains, slice_index}
 use Rattle.std.specs.List.{list_all}
 use Rattle.std.specs.Str.{chars, IsUtf8, IsCharBoundary}
 use Rattle.std.proofs.lemmas.Bool.{and_from, le-leb, ltb-true}
 use Rattle.std.proofs.lemmas.Bool.Decides.{nat_tests}
 use Rattle.std.proofs.lemmas.List.Folds.{list_all-append}
-use lib.Utf8.{scalars, encodes}
 use denote.Ref.{Bor}
 use Rattle.jsonpath_paths.specs.token.Kinds.{is_name}
 use Rattle.jsonpath_paths.specs.text.Spans.{IsSpan, slice_at, is_boundary}
-use Rattle.jsonpath_paths.specs.text.Characters.{byte_len, bytes_at}
+use Rattle.jsonpath_paths.specs.text.Characters.{bytes_at}
 use Rattle.jsonpath_paths.specs.tree.Tree.{Path, path, PathSteps, no_steps, step_then, Inner, plain, filter, Condition, lone, compare, join, Term, at_path, literal}
 use Rattle.jsonpath_paths.specs.tree.Visit.{MayRead, MayReadPath, MayReadSteps, MayReadInner, MayReadCondition, MayReadTerm, one_step, path_tokens, step_tokens, inner_tokens, condition_tokens, term_tokens}
 use Rattle.jsonpath_paths.specs.declared.text.str_reader.StrRange.{StrRange}
@@ -18,12 +17,10 @@ use Rattle.jsonpath_paths.specs.declared.token.tokens.ParseToken.{ParseToken}
 use Rattle.jsonpath_paths.specs.declared.token.tokens.ParseToken.TheVariants as t
 use Rattle.jsonpath_paths.specs.Spelling.{Spells}
 use Rattle.jsonpath_paths.specs.Listed.{is_name_at, has_names_of_token, IsListOfText}
-use Rattle.jsonpath_paths.proofs.tree.SpanNameLemmas.{span_is, names_read}
+use Rattle.jsonpath_paths.proofs.tree.SpanNameLemmas.{names_read}
 use Rattle.jsonpath_paths.proofs.tree.WellSpelledLemmas.{path_well}
 
--- ---- the tokens of a text
-
-pub at_boundary : (text : List ℕ) (i : ℕ) → IsCharBoundary text i → is_boundary text i ≡ true
+at_boundary : (text : List ℕ) (i : ℕ) → IsCharBoundary text i → is_boundary text i ≡ true
 at_boundary text i h = and_from (leb i (length text)) _ (le-leb i (length text) h.0) (by_end (ltb i (length text)) refl)
   where
     byte : ℕ
@@ -37,23 +34,17 @@ at_boundary text i h = and_from (leb i (length text)) _ (le-leb i (length text) 
     by_end true e = by_byte (ltb byte 128) refl (ltb-true i (length text) e)
     by_end false e = refl
 
-module _ (text : List ℕ) where
-  -- what stands at the span of a token
-  pub slice_is : (pos : ℕ) (front later : List ℕ) → pos ≤ length text → scalars front ≡ true → scalars later ≡ true → IsUtf8 (drop pos text) → drop pos text ≡ encodes front ++ encodes later
-      → (chars (slice_at text (record { pos = pos; offset = byte_len front })) ≡ front) × (drop (pos + byte_len front) text ≡ encodes later) × (pos + byte_len front ≤ length text)
-  unfolding slice_at
-  slice_is pos front later within ok more u whole =
-      let here = span_is text pos front later within ok more u whole in
-      (rw (at_boundary text pos here.0.start, at_boundary text (pos + byte_len front) here.0.end) here.1, here.2, here.0.within)
+-- what stands at a span that lies in a text and cuts no character
+slice_is_bytes : (text : List ℕ) (s : StrRange) → IsSpan text s → slice_at text s ≡ bytes_at text s
+unfolding slice_at
+slice_is_bytes text s span = rw (at_boundary text s.pos span.start, at_boundary text (s.pos + s.offset) span.end) refl
 
+module _ (text : List ℕ) where
   abbrev IsNamed : StrRange → Type 0
   IsNamed s = is_name_at text s ≡ true
 
   sliced : (s : StrRange) → IsSpan text s → is_name (chars (bytes_at text s)) ≡ true → IsNamed s
-  unfolding slice_at
-  sliced s span h = rw (at_boundary text s.pos span.start, at_boundary text (s.pos + s.offset) span.end) h
-
-  -- ---- the list of a tree
+  sliced s span h = ap (λ bytes. is_name (chars bytes)) (slice_is_bytes text s span) ∙ h
 
   abbrev lent : StrRange → Bor StrRange
   lent s = record { ref_ptr = (0, 0); now = s }

@@ -17,10 +17,10 @@ use crate::parser::tree_parser::{Refusal, TreeParser};
 use crate::text::str_reader::{StrRange, StrReader};
 use crate::token::tokenizer::{Tokenizer, lexemes_up_to_refusal};
 use crate::token::tokens::{ParseToken, TokenError};
-use crate::tree::collector::Collector;
 use crate::tree::parser_node::ParserNode;
-use crate::tree::parser_node_visitor::{ParserNodeVisitor, visit_node};
+use crate::tree::parser_node_visitor::ParserNodeVisitor;
 use crate::tree::parser_token_handler::ParserTokenHandler;
+use crate::tree::token_list::token_list;
 use std::alloc::{AllocError, Global};
 use std::marker::Model;
 
@@ -91,7 +91,12 @@ impl<'a> PathParser<'a> {
         match parser.parse_whole_path() {
             Ok(tree) => {
                 if stop.is_at_end() {
-                    Ok(PathParser::with_token_list(alloc, input, tree, found.len())?)
+                    let tokens = token_list(alloc, &tree, found.len())?;
+                    Ok(PathParser {
+                        text: input,
+                        tree,
+                        tokens,
+                    })
                 } else {
                     Err(stop.error_at_refused_character_end())
                 }
@@ -101,24 +106,6 @@ impl<'a> PathParser<'a> {
                 Refusal::Refused => Err(error_at_refused_token_or_character(&parser, &stop, input)),
             },
         }
-    }
-
-    // The path with this text, which spells the tree, and with the tree's token list: at first there is room for so many
-    // tokens.
-    fn with_token_list(
-        alloc: Global,
-        text: &'a str,
-        tree: ParserNode,
-        room: usize,
-    ) -> Result<PathParser<'a>, AllocError>
-        requires spells { Spells text.now (path_of tree) }
-        requires spans { MayReadPath (λ s. IsSpan text.now s.now) (path_of tree) }
-        ensures { IfOk result (λ path. path ≡ text.now) }
-    {
-        let mut collector = Collector::with_capacity(alloc, room)?;
-        visit_node(&tree, &mut collector, &|_: &StrRange| ());
-        let tokens = collector.into_tokens()?;
-        Ok(PathParser { text, tree, tokens })
     }
 
     /// Gives the receiver the token list of the tree, in order, unless the receiver fails, with a
@@ -170,9 +157,8 @@ impl<'a> PathParser<'a> {
     /// The token list of the tree that the text spells. It takes no memory.
     ///
     /// ```text
-    /// let path = PathParser::compile(alloc, "$.*")?;
-    /// let tokens = [ParseToken::Absolute, ParseToken::In, ParseToken::All];
-    /// assert!(rt; path.tokens() == tokens.as_slice());
+    /// let path = PathParser::compile(alloc, "$..a")?;
+    /// assert!(rt; path.tokens().len() == 3);
     /// ```
     pub fn tokens(&self) -> &[ParseToken]
         ensures { IsListOfText self.now result.now }

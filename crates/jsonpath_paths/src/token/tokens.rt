@@ -328,10 +328,9 @@ impl FilterToken {
 /// One token of a path's token list, as a visitor hands it over. Spans keep their quotes and backslashes.
 ///
 /// ```text
-/// let mut collector = Collector::new(alloc);
-/// let _ = PathParser::compile(alloc, "$.*")?.parse(&mut collector);
+/// let path = PathParser::compile(alloc, "$.*")?;
 /// let tokens = [ParseToken::Absolute, ParseToken::In, ParseToken::All];
-/// assert!(rt; collector.tokens.as_slice() == tokens.as_slice());
+/// assert!(rt; path.tokens() == tokens.as_slice());
 /// ```
 #[derive(Debug, PartialEq, Eq, Drop)]
 pub enum ParseToken {

@@ -11,6 +11,7 @@ use crate::text::str_reader::StrRange;
 use crate::token::tokens::ParseToken;
 use crate::tree::parser_node::{Condition, Inner, ParserNode, ParserStep, Term};
 use crate::tree::parser_token_handler::ParserTokenHandler;
+use crate::tree::token_list::root_token;
 
 /// What hands the token list of a tree over to a receiver.
 ///
@@ -42,7 +43,7 @@ pub trait ParserNodeVisitor {
 // Hands over the tokens of a path: that of the root or the candidate, and those of the steps.
 #[cycle(visit)]
 #[tactic(auto, using(crate::proofs::tree::ViewLemmas::may_read_steps))]
-pub(crate) fn visit_node<V, H: ParserTokenHandler<V>, R: Fn(&StrRange) -> V>(
+fn visit_node<V, H: ParserTokenHandler<V>, R: Fn(&StrRange) -> V>(
     node: &ParserNode,
     handler: &mut H,
     reader: &R,
@@ -51,12 +52,7 @@ pub(crate) fn visit_node<V, H: ParserTokenHandler<V>, R: Fn(&StrRange) -> V>(
     requires reads { (s : Bor StrRange) (v : V) → R.post reader.now s v → H.takes handler.old s.now v }
     ensures { Handed H.has_failed H.tokens H.takes handler.old handler.new (path_tokens (path_of node.now)) }
 {
-    let root = if node.absolute {
-        ParseToken::Absolute
-    } else {
-        ParseToken::Relative
-    };
-    handler.handle(&root, reader);
+    handler.handle(&root_token(node.absolute), reader);
     for step in &node.steps {
         visit_step(step, handler, reader);
     }

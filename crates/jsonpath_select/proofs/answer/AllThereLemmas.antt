@@ -210,16 +210,6 @@ pub both_there : (doc : Data) (xs ys : List Location) → all_there doc xs ≡ t
 unfolding all_there
 both_there doc xs ys h k = all_both (is_there doc) xs ys h k
 
--- values stand there
-pub values_there : (doc : Data) (ls : List Location) (values : List Data) → map (at doc) ls ≡ map (λ d. Some d) values → all_there doc ls ≡ true
-unfolding all_there is_there
-values_there doc [] values e = refl
-values_there doc (l ∷ ls) [] e = cc
-values_there doc (l ∷ ls) (v ∷ values) e =
-    let here : at doc l ≡ Some v = cc in
-    let later : map (at doc) ls ≡ map (λ d. Some d) values = cc in
-    and_from (is_some (at doc l)) _ (ap is_some here) (values_there doc ls values later)
-
 pub root_there : (doc : Data) → all_there doc ([] ∷ []) ≡ true
 unfolding all_there is_there
 root_there doc = refl

@@ -55,12 +55,6 @@ module _ {M : Type 0} (located : Bool) (stand : M → Location) (content : M →
       let later : MarksStandAt located stand content doc ls ms = cc in
       (λ d is. let same : content m ≡ d = cc in subst HasNamesInOrder same h.0, named_in_order doc ls ms later h.1)
 
--- ---- two lists one after the other
-
-pub both_in_order : (doc : Data) (xs ys : List Location) → NamesInOrderAt doc xs → NamesInOrderAt doc ys → NamesInOrderAt doc (xs ++ ys)
-both_in_order doc [] ys h g = g
-both_in_order doc (x ∷ xs) ys h g = (h.0, both_in_order doc xs ys h.1 g)
-
 -- ---- a part of a list
 
 all_taken : (P : Location → Type 0) (n : ℕ) (ls : List Location) → AllByRecursion P ls → AllByRecursion P (take n ls)

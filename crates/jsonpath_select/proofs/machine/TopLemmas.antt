@@ -2,28 +2,19 @@
 use Rattle.std.proofs.Common.{◌≡◌, ℕ, true, List, [], ◌∷◌, ◌++◌, Option, sym, ap, ◌∙◌, append-nil}
 use Rattle.std.specs.Prelude.{filter, option_map, option_and_then}
 use Rattle.serde_json.specs.Data.{Data}
-use Rattle.jsonpath_paths.specs.tree.Tree.{PathSteps, Condition}
+use Rattle.jsonpath_paths.specs.tree.Tree.{Condition}
 use Rattle.jsonpath_nodes.specs.place.Location.{Location}
-use Rattle.jsonpath_select.specs.Meaning.{follow, holds}
-use Rattle.jsonpath_select.specs.plan.Code.{Instruction, leave, steps_code, condition_code}
+use Rattle.jsonpath_select.specs.Meaning.{holds}
+use Rattle.jsonpath_select.specs.plan.Code.{Instruction, leave, condition_code}
 use Rattle.jsonpath_select.specs.plan.Machine.{Tagged, tagged, places, spread, State, of_path, root_shared_by_candidates, kept_by_number, run_all, answering}
 use Rattle.jsonpath_select.specs.plan.NextFilter.{begun}
 use Rattle.jsonpath_select.specs.plan.Standing.{for_all}
-use Rattle.jsonpath_select.proofs.machine.RunLemmas.{tags-found, run_steps, run_condition}
+use Rattle.jsonpath_select.proofs.machine.RunLemmas.{tags-found, run_condition}
 use Rattle.jsonpath_select.proofs.tagged.TagLemmas.{kept-chosen, filter-spread}
 
 module _ (text : List ℕ) (doc : Data) where
   alone_is : (ls : List Location) → spread (λ _. ls) 0 ([] ∷ []) ≡ tagged 0 ls
   alone_is ls = append-nil (tagged 0 ls)
-
-  pub top_steps : (ss : PathSteps) (rest : List Instruction) (ls : List Location) → run_all text doc (steps_code ss ++ rest) (answering ls) ≡ run_all text doc rest (answering (follow text doc ss ls))
-  top_steps ss rest ls =
-      ap (λ ps. run_all text doc (steps_code ss ++ rest) (with_pairs ps)) (sym (alone_is ls))
-      ∙ run_steps text doc ss true (λ _. ls) rest root_shared_by_candidates [] []
-      ∙ ap (λ ps. run_all text doc rest (with_pairs ps)) (alone_is (follow text doc ss ls))
-    where
-      with_pairs : List Tagged → State
-      with_pairs ps = record { frames = root_shared_by_candidates ∷ []; operands = of_path (record { shared = true; pairs = ps }) ∷ [] }
 
   -- a filter of the path's own is decided
   pub top_decided : (c : Condition) (rest : List Instruction) (cs : List Location) → run_all text doc (condition_code c ++ leave ∷ rest) (begun cs) ≡ run_all text doc rest (answering (filter (holds text doc c) cs))

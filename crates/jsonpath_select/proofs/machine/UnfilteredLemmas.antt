@@ -6,7 +6,6 @@ use Rattle.jsonpath_nodes.specs.place.Location.{Location}
 use Rattle.jsonpath_select.specs.plan.Code.{plain_step}
 use Rattle.jsonpath_select.specs.plan.Machine.{Tagged, tagged, places, front_of_tag, Found, Operand, of_path, tags, literal, State, stepped, one, answering}
 use Rattle.jsonpath_select.specs.plan.Standing.{for_all}
-use Rattle.jsonpath_select.proofs.tagged.GroupLemmas.{places_tagged}
 
 pub own_front : (ls : List Location) → front_of_tag 0 (tagged 0 ls) ≡ ls
 own_front [] = refl
@@ -18,12 +17,3 @@ pub led_once : (text : List ℕ) (doc : Data) (leaves : Bool) (token : ParseToke
 led_once text doc leaves token cand fs os ls =
     ap (λ (ps : List Tagged). Some (record { frames = cand ∷ fs; operands = of_path (record { shared = true; pairs = ps }) ∷ os }))
     (append-nil (tagged 0 (stepped text doc leaves token (front_of_tag 0 (tagged 0 ls)))) ∙ ap (λ (ms : List Location). tagged 0 (stepped text doc leaves token ms)) (own_front ls))
-
-abbrev top_places : List Operand → List Location
-top_places [] = []
-top_places (of_path f ∷ os) = places f.pairs
-top_places (tags ts ∷ os) = []
-top_places (literal vs ∷ os) = []
-
-pub same_answers : (ks ls : List Location) → answering ks ≡ answering ls → ks ≡ ls
-same_answers ks ls e = sym (places_tagged 0 ks) ∙ ap (λ (s : State). top_places s.operands) e ∙ places_tagged 0 ls

@@ -53,10 +53,6 @@ module _ (text : List ℕ) (doc : Data) where
   follow-begins tree.no_steps whole front h = h
   follow-begins (tree.step_then leaves bracket inner rest) whole front h = follow-begins rest _ _ (inner_on-begins inner leaves whole front h)
 
-pub first_of_front : (whole front : List Location) → is_some_location front ≡ true → Begins whole front → take 1 whole ≡ take 1 front
-first_of_front whole [] some h = cc
-first_of_front whole (l ∷ front) some h = ap (take 1) h.1
-
 module _ (apart : (l m : Location) → location_cmp l m ≡ Equal → l ≡ m) (once_same : EachOnceKeepsMembers) (some_same : SomeOfASet) (text : List ℕ) (doc : Data) where
   pub first_of_pieces : (ss : PathSteps) (ls ms : List Location) → take 1 (follow text doc ss (ls ++ ms)) ≡ take 1 (follow text doc ss ls ++ follow text doc ss ms)
   first_of_pieces ss ls ms = by (follow text doc ss ls) refl

@@ -1,7 +1,9 @@
-use Rattle.std.proofs.Common.{◌≡◌, ◌∙◌, [], sym, ap, subst, rules}
+use Rattle.std.proofs.Common.{◌≡◌, ◌∙◌, [], refl, sym, ap, subst, rules}
 use Rattle.std.specs.Prelude.{IsTrue}
 use Rattle.jsonpath_paths.specs.text.TextPlace.{ahead}
 use Rattle.jsonpath_paths.specs.Grammar.{SpellsPath}
+use Rattle.jsonpath_paths.specs.Spelling.{Spells}
+use Rattle.jsonpath_paths.proofs.tree.ListedLemmas.{list_of_text}
 use Rattle.jsonpath_paths.specs.tree.View.{path_of}
 use Rattle.jsonpath_paths.proofs.tree.ReadableLemmas.{spans_spelled}
 use Rattle.jsonpath_paths.proofs.token.TokenizedLemmas.{spells_found, found_spelled}
@@ -14,21 +16,14 @@ returns-clause-only c = λ other spelled.
     let lexemes = ap (λ i. i.lexemes) c.new-parser.ensures ∙ (c.as_slice.ensures.value ∙ c.in_ok-found.ensures.lexemes) in
     c.in-Err.ensures.only c.in-Refused.is p (subst (λ t. SpellsPath t p c.new-parser.result.lexemes) (sym (ap (λ i. i.text) c.new-parser.ensures)) (subst (SpellsPath text p) (sym lexemes) (found_spelled text p spelled.1).1))
 
-pub with_token_list-requires-clause-spells : goal.with_token_list-requires-clause-spells
-with_token_list-requires-clause-spells c =
+pub invariant_of-result : goal.invariant_of-result
+invariant_of-result c =
     let text = c.args.input.now in
     let p = path_of c.in-Ok.tree in
     let found = c.in_ok-found.found.items in
     let spelled : SpellsPath text p found = search rules in
-    spells_found text p found (search rules) (search rules) spelled
-
-pub with_token_list-requires-clause-spans : goal.with_token_list-requires-clause-spans
-with_token_list-requires-clause-spans c =
-    let text = c.args.input.now in
-    let p = path_of c.in-Ok.tree in
-    let found = c.in_ok-found.found.items in
-    let spelled : SpellsPath text p found = search rules in
-    spans_spelled text p found (search rules) spelled
+    let whole : Spells text p = spells_found text p found (search rules) (search rules) spelled in
+    record { spells = whole; spans = spans_spelled text p found (search rules) spelled; list = list_of_text text p c.in_ok-tokens-in-Ok.tokens.items c.utf8.input whole (sym c.in_ok-tokens-in-Ok.ensures) }
 
 pub returns-then-is_at_end-clause-found : goal.returns-then-is_at_end-clause-found
 returns-then-is_at_end-clause-found c =
@@ -36,7 +31,7 @@ returns-then-is_at_end-clause-found c =
     let p = path_of c.in-Ok.tree in
     let found = c.in_ok-found.found.items in
     let spelled : SpellsPath text p found = search rules in
-    (search rules, (p, spells_found text p found (search rules) (search rules) spelled))
+    (refl, (p, spells_found text p found (search rules) (search rules) spelled))
 
 pub returns-in-Ok-clause-only : goal.returns-in-Ok-clause-only
 returns-in-Ok-clause-only c = λ other spelled.
