@@ -2,9 +2,10 @@
 //! what it holds is let go before the next.
 
 use jsonpath_nodes::{
-    Atom, Cmp, CmpEq, CmpGe, CmpGt, CmpLe, CmpLt, CmpNe, Descends, LocStep, Location, LocationTree,
-    Mark, NoMemory, PathStep, PlainStep, Selection, Spot, Stride, ValueWalker, compute_paths, holds, holds_atoms, laws,
-    replace_at, set_at_once, steps_on_marks, take_at_once, to_num, try_replace_at,
+    Atom, Cmp, CmpEq, CmpGe, CmpGt, CmpLe, CmpLt, CmpNe, Descends, LocStep, Location, Mark,
+    NoMemory, PathStep, PlainStep, Selection, Spot, Stride, ValueWalker, compute_paths, holds,
+    holds_atoms, laws, replace_at, set_at_once, steps_on_marks, take_at_once, to_num,
+    try_replace_at,
 };
 use jsonpath_paths::{Decimal, FilterToken};
 use serde_json::{Number, Value};
@@ -368,25 +369,6 @@ fn samples_of_targets(rt: HostRuntime) -> Result<(), Fail> {
         let spots = Spot::root(alloc, &document).below(alloc)?;
         let locations = compute_paths(alloc, spots.as_slice())?;
         assert_eq!(rt; locations.len(), 5);
-    }
-    Ok(())
-}
-
-#[test]
-fn samples_of_trees(rt: HostRuntime) -> Result<(), Fail> {
-    let alloc = rt.alloc();
-    {
-        let document = Value::from_str(alloc, "[1, [2, 3]]")?;
-        let spots = Spot::root(alloc, &document).below(alloc)?;
-        let tree = LocationTree::of_spots(alloc, spots.as_slice())?;
-    }
-    {
-        let mut document = Value::from_str(alloc, "[1, [2, 3]]")?;
-        let spots = Spot::root(alloc, &document).children(alloc)?;
-        let tree = LocationTree::of_spots(alloc, spots.as_slice())?;
-        drop(spots);
-        tree.put_null(&mut document);
-        assert!(rt; document.to_string(alloc)?.as_str() == "[null,null]");
     }
     Ok(())
 }

@@ -5,7 +5,6 @@ pub mod ThereLemmas
 pub mod OrderLemmas
 pub mod KeptLemmas
 pub mod GuardedNameLemmas
-pub mod LocationReadLemmas
 pub mod StepsLeftLemmas
 pub mod OrderedSpotLemmas
 pub mod CompleteLemmas

@@ -12,5 +12,4 @@ pub mod GroupLemmas
 pub mod PassLemmas
 pub mod ClearLemmas
 pub mod SetLemmas
-pub mod BranchLemmas
 pub mod MemberLemmas

@@ -4,7 +4,6 @@ pub mod Order
 pub mod SpotPlace
 pub mod Mark
 pub mod Owned
-pub mod Branches
 pub mod Coded
 pub mod LocationText
 pub mod NumbersWhere

@@ -4,4 +4,3 @@ pub mod Containers
 pub mod Groups
 pub mod Ascending
 pub mod OrderedSpots
-pub mod LocationReading

@@ -22,7 +22,6 @@ pub use step::descend::Descends;
 pub use step::plain_step::PlainStep;
 pub use step::stride::{Selection, Stride};
 pub use step::value_walker::ValueWalker;
-pub use update::at_once::location_tree::LocationTree;
 pub use update::at_once::set::set_at_once;
 pub use update::at_once::take::take_at_once;
 pub use update::each::{delete_at, replace_at};

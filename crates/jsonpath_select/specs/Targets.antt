@@ -2,7 +2,6 @@
 use Rattle.std.specs.Prelude.{◌≡◌, ℕ, List}
 use Rattle.serde_json.specs.Data.{Data}
 use Rattle.jsonpath_paths.specs.tree.Tree.{Path}
-use Rattle.jsonpath_nodes.specs.place.Branches.{NullAlike}
 use Rattle.jsonpath_nodes.specs.update.Calls.{UpdateCalls}
 use Rattle.jsonpath_nodes.specs.place.Location.{Location}
 use Rattle.jsonpath_nodes.specs.place.Order.{once_in_order}
@@ -18,10 +17,6 @@ targets text doc p = once_in_order (sel text doc p)
 -- the locations are the targets of the path that the text spells
 abbrev pub AreTargets : List ℕ → Data → List Location → Type 0
 AreTargets text doc locations = OfPath text (λ path. locations ≡ targets text doc path)
-
--- nulling at these is nulling at the targets of the path that the text spells
-abbrev pub AreNulls : List ℕ → Data → List Location → Type 0
-AreNulls text doc nulls = (locations : List Location) × AreTargets text doc locations × NullAlike nulls locations
 
 -- null stands at the topmost locations that the path selects below the root, and all else is as it was
 abbrev pub IsDeleted : List ℕ → Data → Data → Type 0

@@ -4,7 +4,6 @@ use Rattle.std.specs.declared.alloc.Global.{Global}
 use Rattle.serde_json.specs.Data.{Data}
 use Rattle.jsonpath_paths.specs.Spelling.{Spells, IsInGrammar}
 use Rattle.jsonpath_paths.specs.tree.Tree.{Path}
-use Rattle.jsonpath_nodes.specs.place.Branches.{NullAlike}
 use Rattle.jsonpath_nodes.specs.place.Location.{Location}
 use Rattle.jsonpath_nodes.specs.place.Order.{once_in_order}
 use Rattle.jsonpath_nodes.specs.update.Topmost.{nulled, taken}
@@ -24,10 +23,6 @@ pub record AreTargetsOfAll (texts : List (List ℕ)) (doc : Data) (locations : L
   pub all : List Location
   pub selected : AreSelected texts doc all
   pub are : locations ≡ once_in_order all
-
--- nulling at these is nulling at what the paths select
-abbrev pub AreNullsOfAll : List (List ℕ) → Data → List Location → Type 0
-AreNullsOfAll texts doc nulls = (locations : List Location) × AreTargetsOfAll texts doc locations × NullAlike nulls locations
 
 -- null stands at the topmost locations below the root that any of the paths selects in the document as it was
 pub record IsMasked (texts : List (List ℕ)) (before after : Data) : Type 0 where

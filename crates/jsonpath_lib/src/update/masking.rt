@@ -1,10 +1,10 @@
 //! Masking: null at what several paths select.
 ghost use Rattle.std.specs.Prelude.{◌≡◌, map, IfErr, OnOk, OnErr, IfOk};
 ghost use Rattle.serde_json.specs.View.{view};
-ghost use Rattle.jsonpath_lib.specs.update.Masked.{IsMasked, AreNullsOfAll, ArePathsRefused};
+ghost use Rattle.jsonpath_lib.specs.update.Masked.{IsMasked, ArePathsRefused};
 
-use crate::update::several_paths::{MaskFault, compile_or_give_back, select_paths_in_any_order};
-use jsonpath_nodes::LocationTree;
+use crate::update::several_paths::{MaskFault, compile_or_give_back, targets_of_all};
+use jsonpath_nodes::delete_at;
 use jsonpath_paths::PathParser;
 use jsonpath_select::JsonPathError;
 use serde_json::Value;
@@ -60,21 +60,7 @@ pub fn mask_at_paths(
     ensures refused { IfErr result (λ e. e ≡ JsonPathError.OutOfMemory) }
     ensures kept { OnErr result (value.new ≡ value.old) }
 {
-    let nulls = target_tree_of_all(alloc, value, paths)?;
-    nulls.put_null(value);
+    let locations = targets_of_all(alloc, value, paths)?;
+    delete_at(value, locations.as_slice());
     Ok(())
-}
-
-// The locations that any of the paths selects in the value, as a tree, which puts null at the topmost of them.
-fn target_tree_of_all(
-    alloc: Global,
-    value: &Value,
-    paths: &[PathParser<'_>],
-) -> Result<LocationTree, JsonPathError>
-    ensures ok { IfOk result (λ nulls. AreNullsOfAll paths.now (view value.now) nulls) }
-    ensures refused { IfErr result (λ e. e ≡ JsonPathError.OutOfMemory) }
-{
-    let spots = select_paths_in_any_order(alloc, value, paths)?;
-    let nulls = LocationTree::of_spots(alloc, spots.as_slice())?;
-    Ok(nulls)
 }

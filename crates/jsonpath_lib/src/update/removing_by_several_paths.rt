@@ -1,12 +1,10 @@
 //! Removing: what any of several paths selects is taken away.
 ghost use Rattle.std.specs.Prelude.{◌≡◌, map, IfErr, OnOk, OnErr, IfOk};
-ghost use Rattle.std.specs.List.Sorted.{IsStrictlySortedBy};
 ghost use Rattle.serde_json.specs.View.{view};
-ghost use Rattle.jsonpath_nodes.specs.place.Location.{location_cmp};
-ghost use Rattle.jsonpath_lib.specs.update.Masked.{AreRemoved, AreTargetsOfAll, ArePathsRefused};
+ghost use Rattle.jsonpath_lib.specs.update.Masked.{AreRemoved, ArePathsRefused};
 
-use crate::update::several_paths::{MaskFault, compile_or_give_back, select_paths_in_any_order};
-use jsonpath_nodes::{Location, compute_paths, take_at_once};
+use crate::update::several_paths::{MaskFault, compile_or_give_back, targets_of_all};
+use jsonpath_nodes::take_at_once;
 use jsonpath_paths::PathParser;
 use jsonpath_select::JsonPathError;
 use serde_json::Value;
@@ -66,19 +64,4 @@ pub fn remove_at_paths(
     let locations = targets_of_all(alloc, value, paths)?;
     take_at_once(value, locations.as_slice())?;
     Ok(())
-}
-
-// The locations that any of the paths selects in the value, each once, in document order.
-fn targets_of_all(
-    alloc: Global,
-    value: &Value,
-    paths: &[PathParser<'_>],
-) -> Result<Vec<Location>, JsonPathError>
-    ensures ok { IfOk result (λ found. AreTargetsOfAll paths.now (view value.now) found.items) }
-    ensures ordered { IfOk result (λ found. IsStrictlySortedBy location_cmp found.items) }
-    ensures refused { IfErr result (λ e. e ≡ JsonPathError.OutOfMemory) }
-{
-    let spots = select_paths_in_any_order(alloc, value, paths)?;
-    let found = compute_paths(alloc, spots.as_slice())?;
-    Ok(found)
 }

@@ -1,15 +1,16 @@
 //! Several paths: why an update by them is refused, how they are compiled beside the value that they are to change, and
 //! what they select together.
 ghost use Rattle.std.specs.Prelude.{◌≡◌, Some, List, map, IfErr, IfOk};
+ghost use Rattle.std.specs.List.Sorted.{IsStrictlySortedBy};
 ghost use Rattle.serde_json.specs.View.{view};
-ghost use Rattle.jsonpath_nodes.specs.place.Location.{Location};
+ghost use Rattle.jsonpath_nodes.specs.place.Location.{Location, location_cmp};
 ghost use Rattle.jsonpath_nodes.specs.place.Order.{once_in_order};
 ghost use Rattle.jsonpath_nodes.specs.place.SpotPlace.{location_of};
-ghost use Rattle.jsonpath_lib.specs.update.Masked.{AreSelected, ArePathsRefused, paths_fault_text};
+ghost use Rattle.jsonpath_lib.specs.update.Masked.{AreSelected, AreTargetsOfAll, ArePathsRefused, paths_fault_text};
 
 use crate::compiled::path_texts::{PathsFault, compile_paths, write_paths_fault};
-use jsonpath_nodes::Spot;
 use jsonpath_nodes::laws::{locations_once_in_order_ascend, steps_ignore_order_and_repeats};
+use jsonpath_nodes::{Location, Spot, compute_paths};
 use jsonpath_paths::PathParser;
 use jsonpath_select::{JsonPathError, select_path_in_any_order};
 use serde_json::Value;
@@ -89,8 +90,23 @@ pub(crate) fn compile_or_give_back<'a>(
     }
 }
 
+// The locations that any of the paths selects in the value, each once, in document order.
+pub(crate) fn targets_of_all(
+    alloc: Global,
+    value: &Value,
+    paths: &[PathParser<'_>],
+) -> Result<Vec<Location>, JsonPathError>
+    ensures ok { IfOk result (λ found. AreTargetsOfAll paths.now (view value.now) found.items) }
+    ensures ordered { IfOk result (λ found. IsStrictlySortedBy location_cmp found.items) }
+    ensures refused { IfErr result (λ e. e ≡ JsonPathError.OutOfMemory) }
+{
+    let spots = select_paths_in_any_order(alloc, value, paths)?;
+    let found = compute_paths(alloc, spots.as_slice())?;
+    Ok(found)
+}
+
 // Spots at what any of the paths selects in the value, as a set: in any order, with or without repeats.
-pub(crate) fn select_paths_in_any_order<'a>(
+fn select_paths_in_any_order<'a>(
     alloc: Global,
     value: &'a Value,
     paths: &[PathParser<'_>],

@@ -1,10 +1,10 @@
 -- Nulling and taking depend on the members of a list of locations alone.
-use Rattle.std.proofs.Common.{◌≡◌, List, [], ◌∷◌, Bool, true, false, inl, inr, ◌||◌, Ordering, Equal, is_eq, Option, Some, None, refl, sym, ap, ◌∙◌}
+use Rattle.std.proofs.Common.{◌≡◌, List, [], ◌∷◌, Bool, true, false, inl, inr, ◌||◌, Ordering, Equal, is_eq, Some, None, refl, sym, ap, ◌∙◌}
 use Rattle.std.proofs.Math.Bool.{or-true}
 use Rattle.std.specs.Ordering.{ordering_then}
-use Rattle.serde_json.specs.Data.{Data, null}
+use Rattle.serde_json.specs.Data.{null}
 use Rattle.jsonpath_nodes.specs.step.SameMembers.{SameMembers}
-use Rattle.jsonpath_nodes.specs.update.Topmost.{is_covered_by, with_answer_at_topmost}
+use Rattle.jsonpath_nodes.specs.update.Topmost.{is_covered_by}
 use Rattle.jsonpath_nodes.specs.place.Location.{Location, location_cmp}
 use Rattle.jsonpath_nodes.specs.place.Order.{once_in_order}
 use Rattle.jsonpath_nodes.specs.DocumentLaws.{SetsAlone, OnceInOrderKeepsMembers}
@@ -42,6 +42,3 @@ keeps_members ls l = (
   λ h. Contains-among l ls (from_contains l ls (sym (once_in_order-same ls l) ∙ to_contains l (once_in_order ls) (among-Contains l (once_in_order ls) h))),
   λ h. Contains-among l (once_in_order ls) (from_contains l (once_in_order ls) (once_in_order-same ls l ∙ to_contains l ls (among-Contains l ls h))),
 )
-
-pub topmost_once : (a : Option Data) (ls : List Location) (d : Data) → with_answer_at_topmost a (once_in_order ls) d ≡ with_answer_at_topmost a ls d
-topmost_once a ls d = topmost_same a (once_in_order ls) ls d (same_cover (once_in_order ls) ls (keeps_members ls))

@@ -1,7 +1,7 @@
 -- The text of a location: a path that selects just what stands there, as `$['store']['book'][0]`.
-use Rattle.std.specs.Prelude.{⊤, ℕ, ◌<◌, ◌^◌, ◌==◌, ◌||◌, List, [], ◌∷◌, ◌++◌, flat_map, codes, if◌then◌else◌}
+use Rattle.std.specs.Prelude.{ℕ, ◌==◌, ◌||◌, List, [], ◌∷◌, ◌++◌, flat_map, codes, if◌then◌else◌}
 use Rattle.std.specs.Fmt.{decimal}
-use Rattle.std.specs.Str.{chars, encode_utf8_all, IsUtf8}
+use Rattle.std.specs.Str.{chars, encode_utf8_all}
 use Rattle.jsonpath_paths.specs.text.Characters.{backslash, single_quote}
 use Rattle.jsonpath_nodes.specs.place.Location.{Step, name, index, Location}
 
@@ -26,12 +26,3 @@ location_chars l = codes "$" ++ steps_chars l
 -- its bytes
 abbrev pub location_text : Location → List ℕ
 location_text l = encode_utf8_all (location_chars l)
-
--- a step that a location holds: a name is UTF-8, an index has 64 bits
-abbrev pub CanBeHeld : Step → Type 0
-CanBeHeld (name k) = IsUtf8 k
-CanBeHeld (index i) = i < 2 ^ 64
-
-abbrev pub AllCanBeHeld : Location → Type 0
-AllCanBeHeld [] = ⊤
-AllCanBeHeld (s ∷ l) = CanBeHeld s × AllCanBeHeld l

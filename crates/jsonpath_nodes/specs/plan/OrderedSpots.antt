@@ -1,13 +1,16 @@
 -- Spots beside the steps to them.
-use Rattle.std.specs.Prelude.{◌≡◌, Option, Some, None, option_map, Bool, true}
+use Rattle.std.specs.Prelude.{◌≡◌, List, map, reverse, Option, Some, None, option_map, Bool, true}
 use Rattle.std.specs.Ordering.{is_lt}
 use Rattle.serde_json.specs.Data.{Data}
-use Rattle.jsonpath_nodes.specs.place.Branches.{from_top}
 use Rattle.jsonpath_nodes.specs.place.Location.{Location, location_cmp}
-use Rattle.jsonpath_nodes.specs.place.SpotPlace.{look, sight_of}
+use Rattle.jsonpath_nodes.specs.place.SpotPlace.{look, sight_of, step_of}
 use Rattle.jsonpath_nodes.specs.declared.place.document_order.OrderedSpot.{OrderedSpot}
 use Rattle.jsonpath_nodes.specs.declared.place.spot.PathStep.{PathStep}
 use Rattle.std.specs.Global.{Vec}
+
+-- the location whose steps are these, the last one first
+abbrev pub from_top : List PathStep → Location
+from_top up = reverse (map step_of up)
 
 abbrev pub ordered_spot_location : OrderedSpot → Location
 ordered_spot_location p = from_top p.up.items

@@ -5,13 +5,12 @@ ghost use Rattle.std.specs.Prelude.{◌≡◌, [], ◌∷◌, ◌++◌, List, ma
 ghost use Rattle.std.specs.List.{AllByRecursion, list_any};
 ghost use Rattle.std.specs.List.Sorted.{IsStrictlySortedBy};
 ghost use Rattle.std.specs.Ordering.{is_eq};
-ghost use Rattle.jsonpath_nodes.specs.place.Branches.{from_top};
 ghost use Rattle.serde_json.specs.Data.{Data};
 ghost use Rattle.jsonpath_nodes.specs.place.Location.{Location, location_cmp, is_same};
 ghost use Rattle.jsonpath_nodes.specs.place.NumbersWhere.{numbers_where};
 ghost use Rattle.jsonpath_nodes.specs.place.Order.{once_in_order};
 ghost use Rattle.jsonpath_nodes.specs.place.SpotPlace.{LeadsBy, StandAt, location_of, sight_of};
-ghost use Rattle.jsonpath_nodes.specs.plan.OrderedSpots.{IsShownIn, comes_behind, last_location, ordered_spot_location, ordered_spot_sight};
+ghost use Rattle.jsonpath_nodes.specs.plan.OrderedSpots.{IsShownIn, comes_behind, from_top, last_location, ordered_spot_location, ordered_spot_sight};
 ghost use Rattle.jsonpath_nodes.specs.step.SameMembers.{is_at_or_below, topmost};
 
 use crate::memory::NoMemory;

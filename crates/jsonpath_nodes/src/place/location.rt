@@ -9,7 +9,6 @@ ghost use Rattle.jsonpath_nodes.specs.place.Owned.{owned_step, owned_steps};
 ghost use Rattle.jsonpath_nodes.specs.update.Topmost.{begins_with};
 
 pub(crate) mod print;
-pub(crate) mod read;
 
 use std::alloc::AllocError;
 use std::cmp::Ordering;
@@ -32,14 +31,10 @@ pub enum LocStep {
 /// a location comes before those below it, else the first steps that differ decide.
 ///
 /// ```text
-/// let mut steps = Vec::new(alloc);
-/// steps.push(LocStep::Name(String::from_str(alloc, "a")?))?;
-/// let above = Location::from_steps(steps);
-/// let Some(below) = Location::parse(alloc, "$['a'][0]")? else {
-///     return Err(Fail::new("the text is no location's"));
-/// };
-/// assert!(rt; above < below);
-/// assert_eq!(rt; below.steps().len(), 2);
+/// let root = Location::from_steps(Vec::new(alloc));
+/// let item = Location::from_steps(vec![in alloc; LocStep::Index(0)]?);
+/// assert!(rt; root < item);
+/// assert_eq!(rt; item.steps().len(), 1);
 /// ```
 #[derive(Debug, Drop)]
 pub struct Location {

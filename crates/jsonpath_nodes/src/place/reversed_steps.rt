@@ -1,13 +1,13 @@
 //! Locations by their steps from the last one up, as spots give them, and how two of them compare.
 
-ghost use Rattle.std.specs.Prelude.{◌≡◌, ◌++◌, IfOk, OnOk};
-ghost use Rattle.jsonpath_nodes.specs.place.Branches.{from_top};
+ghost use Rattle.std.specs.Prelude.{◌≡◌, IfOk};
+ghost use Rattle.jsonpath_nodes.specs.plan.OrderedSpots.{from_top};
 ghost use Rattle.jsonpath_nodes.specs.place.Location.{step_cmp, location_cmp};
-ghost use Rattle.jsonpath_nodes.specs.place.SpotPlace.{location_of, step_of, steps_of};
+ghost use Rattle.jsonpath_nodes.specs.place.SpotPlace.{location_of, step_of};
 ghost use Rattle.jsonpath_nodes.specs.update.Topmost.{begins_with};
 
 use crate::memory::NoMemory;
-use crate::place::spot::{PathStep, Spot, Steps};
+use crate::place::spot::{PathStep, Spot};
 use std::alloc::Global;
 use std::cmp::Ordering;
 
@@ -19,23 +19,12 @@ pub(crate) fn reversed_steps<'a>(
     ensures { IfOk result (λ up. from_top up.items ≡ location_of spot.now) }
 {
     let mut up = Vec::new(alloc);
-    push_reversed_steps(spot.steps(), &mut up)?;
-    Ok(up)
-}
-
-// Adds the steps to a list, the last one first.
-pub(crate) fn push_reversed_steps<'a>(
-    steps: Steps<'_, 'a>,
-    up: &mut Vec<PathStep<'a>>,
-) -> Result<(), NoMemory>
-    ensures { OnOk result (from_top up.new.items ≡ steps_of steps.entry ++ from_top up.old.items) }
-{
-    let mut rest = steps;
+    let mut rest = spot.steps();
     while let Some((step, before)) = rest.split_last() {
         up.push(step)?;
         rest = before;
     }
-    Ok(())
+    Ok(up)
 }
 
 // Whether the second location is the first or stands below it. Both are given by their steps, the last step first.

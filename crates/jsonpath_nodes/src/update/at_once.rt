@@ -1,5 +1,4 @@
 //! Updates at all of a list of locations at once.
 
-pub(crate) mod location_tree;
 pub(crate) mod set;
 pub(crate) mod take;

@@ -4,14 +4,12 @@ ghost use Rattle.std.specs.List.Sorted.{IsStrictlySortedBy};
 ghost use Rattle.serde_json.specs.View.{view};
 ghost use Rattle.jsonpath_nodes.specs.place.Location.{location_cmp};
 ghost use Rattle.jsonpath_select.specs.AnyPath.{ArePartsOf};
-ghost use Rattle.jsonpath_select.specs.Targets.{IsDeleted, IsRemoved, IsSet, IsReplaced, AreTargets, AreNulls};
+ghost use Rattle.jsonpath_select.specs.Targets.{IsDeleted, IsRemoved, IsSet, IsReplaced, AreTargets};
 
 use crate::answer::select::spot_set_by_parts;
 use crate::compile::any_path::PathParts;
 use crate::error::JsonPathError;
-use jsonpath_nodes::{
-    Location, LocationTree, compute_paths, replace_at, set_at_once, take_at_once,
-};
+use jsonpath_nodes::{Location, compute_paths, delete_at, replace_at, set_at_once, take_at_once};
 use serde_json::Value;
 use std::alloc::Global;
 
@@ -31,22 +29,6 @@ pub(crate) fn targets_of(
     Ok(found)
 }
 
-// The locations that the path selects, as a tree, which puts null at the topmost of them. It takes less memory than a
-// list.
-fn target_tree_of(
-    alloc: Global,
-    value: &Value,
-    path: PathParts<'_>,
-) -> Result<LocationTree, JsonPathError>
-    requires { ArePartsOf path.text.now path }
-    ensures ok { IfOk result (λ nulls. AreNulls path.entry.text.now (view value.now) nulls) }
-    ensures refused { IfErr result (λ e. e ≡ JsonPathError.OutOfMemory) }
-{
-    let spots = spot_set_by_parts(alloc, value, path)?;
-    let nulls = LocationTree::of_spots(alloc, spots.as_slice())?;
-    Ok(nulls)
-}
-
 // Puts null at the topmost locations below the root that the path selects.
 pub(crate) fn put_null_at_targets(
     alloc: Global,
@@ -58,8 +40,8 @@ pub(crate) fn put_null_at_targets(
     ensures refused { IfErr result (λ e. e ≡ JsonPathError.OutOfMemory) }
     ensures kept { OnErr result (value.new ≡ value.old) }
 {
-    let nulls = target_tree_of(alloc, value, path)?;
-    nulls.put_null(value);
+    let locations = targets_of(alloc, value, path)?;
+    delete_at(value, locations.as_slice());
     Ok(())
 }
 

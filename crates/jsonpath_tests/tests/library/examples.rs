@@ -1,22 +1,8 @@
 //! Examples at public items that go on from something made before them, word for word, each in a test.
 
-use jsonpath_lib::{
-    LocationTree, Spot, compile_path, document_to_text, in_document_order, indexes_standing_among,
-    read_document, select_path, topmost_spots,
-};
+use jsonpath_lib::{Spot, compile_path, read_document, select_path};
+use jsonpath_nodes::{in_document_order, indexes_standing_among, topmost_spots};
 use std::test::Fail;
-
-#[test]
-fn example_of_location_tree(rt: HostRuntime) -> Result<(), Fail> {
-    let alloc = rt.alloc();
-    let mut document = read_document(alloc, b"[1, [2]]")?;
-    let spots = Spot::root(alloc, &document).children(alloc)?;
-    let tree = LocationTree::of_spots(alloc, spots.as_slice())?;
-    drop(spots);
-    tree.put_null(&mut document);
-    assert!(rt; document_to_text(alloc, &document)?.as_str() == "[null,null]");
-    Ok(())
-}
 
 #[test]
 fn example_of_in_document_order(rt: HostRuntime) -> Result<(), Fail> {

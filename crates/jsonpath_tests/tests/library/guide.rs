@@ -3,9 +3,8 @@
 use crate::answers::{fails, gives, says_some};
 use crate::outcomes::says;
 use jsonpath_lib::{
-    AnyPath, Compiled, Documents, JsonPathError, Location, compile_path, compile_paths, delete_at,
-    document_to_text, list_to_text, mask, read_document, replace_with, select, select_as,
-    select_path,
+    AnyPath, Compiled, Documents, JsonPathError, compile_path, compile_paths, document_to_text,
+    list_to_text, mask, read_document, replace_with, select, select_as, select_path,
 };
 use serde::Deserialize;
 use serde_json::Value;
@@ -84,15 +83,6 @@ fn first_price_stands_at(alloc: Global, text: &str) -> Result<Option<String>> {
     }
 }
 
-fn nulled_at(alloc: Global, text: &str, place: &str) -> Result<String> {
-    let mut document = read_document(alloc, text.as_bytes())?;
-    if let Some(location) = Location::parse(alloc, place)? {
-        delete_at(&mut document, &[location]);
-    }
-    let shown = document_to_text(alloc, &document)?;
-    Ok(shown)
-}
-
 const STORE: &str =
     "{\"store\":{\"bicycle\":{\"price\":1995},\"book\":[{\"price\":895},{\"price\":1299}]}}";
 
@@ -128,16 +118,6 @@ fn places_of_the_guide(rt: HostRuntime) {
     let alloc = rt.alloc();
     let place = first_price_stands_at(alloc, STORE);
     says_some(&rt, place, "$['store']['bicycle']['price']");
-    says(
-        &rt,
-        nulled_at(alloc, "{\"a\":[1,2]}", "$['a'][1]"),
-        "{\"a\":[1,null]}",
-    );
-    says(
-        &rt,
-        nulled_at(alloc, "{\"a\":[1,2]}", "$.a[1]"),
-        "{\"a\":[1,2]}",
-    );
 }
 
 #[test]

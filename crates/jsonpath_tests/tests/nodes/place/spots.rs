@@ -84,3 +84,27 @@ fn ordered_locations(rt: HostRuntime) {
         check!(rt; *path == at(&rt, want));
     }
 }
+
+#[test]
+fn steps_come_from_the_root_down(rt: HostRuntime) {
+    let alloc = rt.alloc();
+    let text = "[{\"a\":{\"b\":[0,[1]]}}]";
+    let document = Value::from_str(alloc, text).expect(&rt, "a document");
+    let below = Spot::root(alloc, &document)
+        .below(alloc)
+        .expect(&rt, "spots");
+    check!(rt; below.len() == 7);
+    for spot in &below {
+        let location = spot.location(alloc).expect(&rt, "a location");
+        let mut shown = String::from_str(alloc, "$").expect(&rt, "a text");
+        for step in spot.steps() {
+            let written = match step {
+                PathStep::Name(name) => write!(shown, "['{name}']"),
+                PathStep::Index(index) => write!(shown, "[{index}]"),
+            };
+            check!(rt; written.is_ok());
+        }
+        let text = location.to_string(alloc).expect(&rt, "a text");
+        check!(rt; shown.as_str() == text.as_str());
+    }
+}

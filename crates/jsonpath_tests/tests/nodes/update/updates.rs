@@ -2,7 +2,7 @@
 
 use crate::asserts::check;
 use crate::nodes::documents::{at, document, has_text, union_below};
-use jsonpath_nodes::{LocationTree, compute_paths, delete_at, replace_at, take_at_once, update_at};
+use jsonpath_nodes::{compute_paths, delete_at, replace_at, take_at_once, update_at};
 use serde_json::Value;
 
 #[test]
@@ -57,14 +57,4 @@ fn deletions(rt: HostRuntime) {
     let mut doc = document(&rt, "{\"a\":[9]}");
     delete_at(&mut doc, &[at(&rt, "a/0"), at(&rt, "")]);
     has_text(&rt, &doc, "{\"a\":[null]}");
-}
-
-#[test]
-fn nulls_along_a_tree(rt: HostRuntime) {
-    let mut doc = document(&rt, "{\"a\":[2,9,6]}");
-    let found = union_below(&rt, &doc, &[2, 0]);
-    let tree = LocationTree::of_spots(rt.alloc(), found.as_slice()).expect(&rt, "locations");
-    drop(found);
-    tree.put_null(&mut doc);
-    has_text(&rt, &doc, "{\"a\":[null,9,null]}");
 }

@@ -1,7 +1,6 @@
 use Rattle.std.proofs.Common.{◌≡◌, arith, refl, ap, sym, ◌∙◌, true}
-use Rattle.jsonpath_nodes.specs.place.Branches.{from_top}
 use Rattle.jsonpath_nodes.specs.place.SpotPlace.{location_of}
-use Rattle.jsonpath_nodes.specs.plan.OrderedSpots.{comes_behind, last_location}
+use Rattle.jsonpath_nodes.specs.plan.OrderedSpots.{comes_behind, from_top, last_location}
 use Rattle.jsonpath_nodes.proofs.step.InOrderLemmas.{next_behind, sorted_none, sorted_whole}
 use Rattle.jsonpath_nodes.proofs.place.document_order.are_ordered_without_repeats.Goals as goal
 
