@@ -202,18 +202,6 @@ step_there doc p ls = from_each_there doc (single_steps p) (λ d l e. singles_th
 pub flat_each_there : (doc : Data) (ls : List Location) → all_there doc (from_each doc flat ls) ≡ true
 flat_each_there doc ls = from_each_there doc flat (λ d l e. flat_there d) ls
 
-pub none_there : (doc : Data) → all_there doc [] ≡ true
-unfolding all_there
-none_there doc = refl
-
-pub both_there : (doc : Data) (xs ys : List Location) → all_there doc xs ≡ true → all_there doc ys ≡ true → all_there doc (xs ++ ys) ≡ true
-unfolding all_there
-both_there doc xs ys h k = all_both (is_there doc) xs ys h k
-
-pub root_there : (doc : Data) → all_there doc ([] ∷ []) ≡ true
-unfolding all_there is_there
-root_there doc = refl
-
 -- ---- a path
 
 module _ (all_locations_stand_below_root : BelowIsAll) where

@@ -5,7 +5,7 @@ use Rattle.serde_json.specs.Data.{Data}
 use Rattle.jsonpath_paths.specs.tree.Tree.{Condition}
 use Rattle.jsonpath_nodes.specs.place.Location.{Location}
 use Rattle.jsonpath_nodes.specs.place.Mark.{shown, look_kept, MarksStandAt}
-use Rattle.jsonpath_select.specs.plan.First.{IsCondition}
+use Rattle.jsonpath_select.specs.plan.First.{CodesOptionalCondition}
 use Rattle.jsonpath_select.specs.plan.NextFilter.{CodesCondition}
 use Rattle.jsonpath_select.specs.declared.machine.instruction.Instruction.{Instruction}
 
@@ -23,10 +23,6 @@ slice_stands located stand content doc cs marks k n h =
 
 -- ---- the condition of a filter, where there is one
 
-pub some_condition : (o : Option (Bor (List Instruction))) (is : Bor (List Instruction)) (f : Option Condition) → o ≡ Some is → IsCondition o f → (h : Condition) × (f ≡ Some h) × CodesCondition is.now h
-some_condition o is (Some h) e decides = (h, refl, subst (λ (p : Option (Bor (List Instruction))). IsCondition p (Some h)) e decides)
-some_condition o is None e decides = absurd (subst (λ (p : Option (Bor (List Instruction))). IsCondition p None) e decides)
-
-pub no_condition : (o : Option (Bor (List Instruction))) (f : Option Condition) → o ≡ None → IsCondition o f → f ≡ None
-no_condition o (Some h) e decides = absurd (subst (λ (p : Option (Bor (List Instruction))). IsCondition p (Some h)) e decides)
-no_condition o None e decides = refl
+pub some_condition : (o : Option (Bor (List Instruction))) (is : Bor (List Instruction)) (f : Option Condition) → o ≡ Some is → CodesOptionalCondition o f → (h : Condition) × (f ≡ Some h) × CodesCondition is.now h
+some_condition o is (Some h) e decides = (h, refl, subst (λ (p : Option (Bor (List Instruction))). CodesOptionalCondition p (Some h)) e decides)
+some_condition o is None e decides = absurd (subst (λ (p : Option (Bor (List Instruction))). CodesOptionalCondition p None) e decides)

@@ -1,10 +1,10 @@
 -- The machine on a path without filters.
-use Rattle.std.proofs.Common.{◌≡◌, ℕ, Bool, true, List, [], ◌∷◌, Some, refl, ap, sym, ◌∙◌, append-nil}
+use Rattle.std.proofs.Common.{◌≡◌, ℕ, Bool, true, List, [], ◌∷◌, Some, refl, ap, ◌∙◌, append-nil}
 use Rattle.serde_json.specs.Data.{Data}
 use Rattle.jsonpath_paths.specs.declared.token.tokens.ParseToken.{ParseToken}
 use Rattle.jsonpath_nodes.specs.place.Location.{Location}
 use Rattle.jsonpath_select.specs.plan.Code.{plain_step}
-use Rattle.jsonpath_select.specs.plan.Machine.{Tagged, tagged, places, front_of_tag, Found, Operand, of_path, tags, literal, State, stepped, one, answering}
+use Rattle.jsonpath_select.specs.plan.Machine.{Tagged, tagged, front_of_tag, Found, Operand, of_path, stepped, one}
 use Rattle.jsonpath_select.specs.plan.Standing.{for_all}
 
 pub own_front : (ls : List Location) → front_of_tag 0 (tagged 0 ls) ≡ ls

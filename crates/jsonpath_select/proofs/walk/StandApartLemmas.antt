@@ -1,14 +1,12 @@
 -- Plain steps from the root, and the filter behind them.
-use Rattle.std.proofs.Common.{◌≡◌, ℕ, suc, ◌+◌, ◌<◌, Bool, true, false, List, [], ◌∷◌, ◌++◌, map, length, take, drop, get_or, Some, Bor, cond, refl, sym, ap, ◌∙◌, subst, append-nil, append_assoc, drop-cons, arith}
+use Rattle.std.proofs.Common.{◌≡◌, ℕ, suc, ◌+◌, ◌<◌, Bool, true, false, List, [], ◌∷◌, ◌++◌, map, length, take, drop, get_or, Some, Bor, refl, sym, ap, ◌∙◌, subst, append-nil, append_assoc, drop-cons, arith}
 use Rattle.std.specs.Prelude.{option_and_then}
 use Rattle.std.specs.List.{list_all}
 use Rattle.std.proofs.lemmas.List.{map-append, take_more, take-append-drop, drop-drop}
 use Rattle.serde_json.specs.Data.{Data}
 use Rattle.jsonpath_paths.specs.declared.token.tokens.ParseToken.{ParseToken}
 use Rattle.jsonpath_nodes.specs.place.Location.{Location, at}
-use Rattle.jsonpath_nodes.specs.step.Steps.{step, all_below, flattened}
-use Rattle.jsonpath_nodes.specs.step.Strides.{plain_in, led_along}
-use Rattle.jsonpath_nodes.specs.declared.step.stride.Stride.{Stride}
+use Rattle.jsonpath_nodes.specs.step.Steps.{flattened}
 use Rattle.jsonpath_select.specs.plan.Code as code
 use Rattle.jsonpath_select.specs.plan.Machine.{Found, Operand, State, Tagged, tagged, of_path, front_of_tag, stepped, one, run_all}
 use Rattle.jsonpath_select.specs.plan.Ordered.{instruction_of}
@@ -104,8 +102,3 @@ module _ {M : Type 0} (located : Bool) (stand_of : M → Location) (content_of :
   shown_there text doc steps s t frames frames' operands found all h e shows more =
       let is = from_root text doc steps s.frames s.operands t all e in
       subst (λ (u : State). ShowsState located stand_of content_of text doc u frames' operands) (sym is) ((frames, found, more, shows, h.0), h.1)
-
--- one stride more
-pub led_more : (ss : List Stride) (s : Stride) (doc : Data) (ls : List Location) → led_along (ss ++ s ∷ []) doc ls ≡ step doc (plain_in s.selection) (cond s.leaves (all_below doc (led_along ss doc ls)) (led_along ss doc ls))
-led_more [] s doc ls = refl
-led_more (x ∷ ss) s doc ls = led_more ss s doc (step doc (plain_in x.selection) (cond x.leaves (all_below doc ls) ls))

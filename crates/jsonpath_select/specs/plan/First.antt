@@ -14,10 +14,10 @@ abbrev pub BeginAs : {M : Type 0} → Bool → (M → Location) → (M → Data)
 BeginAs b stand content doc ls marks = (front : List Location) × MarksStandAt b stand content doc front marks × (take 1 ls ≡ take 1 front)
 
 -- these are the instructions of the condition, if there is one
-abbrev pub IsCondition : Option (Bor (List Instruction)) → Option Condition → Type 0
-IsCondition (Some is) (Some f) = CodesCondition is.now f
-IsCondition None None = Unit {0}
-IsCondition _ _ = ⊥
+abbrev pub CodesOptionalCondition : Option (Bor (List Instruction)) → Option Condition → Type 0
+CodesOptionalCondition (Some is) (Some f) = CodesCondition is.now f
+CodesOptionalCondition None None = Unit {0}
+CodesOptionalCondition _ _ = ⊥
 
 -- the locations at which the condition holds, or all where there is none
 abbrev pub kept_by : List ℕ → Data → Option Condition → List Location → List Location

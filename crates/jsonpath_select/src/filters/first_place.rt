@@ -8,7 +8,7 @@ ghost use Rattle.jsonpath_paths.specs.tree.Tree.{Path, PathSteps};
 ghost use Rattle.jsonpath_nodes.specs.place.Location.{Location};
 ghost use Rattle.jsonpath_paths.specs.Listed.{IsListOf, IsSomePath};
 ghost use Rattle.jsonpath_select.specs.Meaning.{follow, sel};
-ghost use Rattle.jsonpath_select.specs.plan.First.{BeginAs, IsCondition, kept_by};
+ghost use Rattle.jsonpath_select.specs.plan.First.{BeginAs, CodesOptionalCondition, kept_by};
 ghost use Rattle.jsonpath_select.specs.plan.NextFilter.{CodesSteps};
 ghost use Rattle.jsonpath_select.specs.plan.Standing.{AreStanding, IsStanding};
 ghost use Rattle.jsonpath_paths.specs.tree.Tree.{Condition};
@@ -79,10 +79,10 @@ impl<'a, 't> Machine<'a, 't> {
         standing: Standing,
         starts: &[M],
     ) -> Result<Vec<M>, Halt>
-        requires is { (f : Option Condition) × IsCondition condition f }
+        requires is { (f : Option Condition) × CodesOptionalCondition condition f }
         requires steps { (ss : PathSteps) × CodesSteps left.now ss }
         requires there { (ls : List Location) × MarksStandAt M.located M.stand M.content (view self.now.root.now) ls starts.now × IsStanding standing ls }
-        ensures ok { IfOk result (λ found. (f : Option Condition) (ss : PathSteps) (ls : List Location) → IsCondition condition.entry f → CodesSteps left.now ss → MarksStandAt M.located M.stand M.content (view self.now.root.now) ls starts.now → IsStanding standing ls
+        ensures ok { IfOk result (λ found. (f : Option Condition) (ss : PathSteps) (ls : List Location) → CodesOptionalCondition condition.entry f → CodesSteps left.now ss → MarksStandAt M.located M.stand M.content (view self.now.root.now) ls starts.now → IsStanding standing ls
             → BeginAs M.located M.stand M.content (view self.now.root.now) (follow self.now.text.now (view self.now.root.now) ss (kept_by self.now.text.now (view self.now.root.now) f ls)) found.items) }
         ensures refused { IfErr result (λ e. M.located ≡ true → e ≡ OutOfMemory) }
     {
@@ -109,10 +109,10 @@ impl<'a, 't> Machine<'a, 't> {
         left: &[Instruction<'_>],
         slice: StandingMarks<M>,
     ) -> Result<Vec<M>, Halt>
-        requires is { (f : Option Condition) × IsCondition condition f }
+        requires is { (f : Option Condition) × CodesOptionalCondition condition f }
         requires steps { (ss : PathSteps) × CodesSteps left.now ss }
         requires there { (ls : List Location) × AreStanding M.located M.stand M.content (view self.now.root.now) ls slice }
-        ensures ok { IfOk result (λ found. (f : Option Condition) (ss : PathSteps) (ls : List Location) → IsCondition condition.entry f → CodesSteps left.now ss → AreStanding M.located M.stand M.content (view self.now.root.now) ls slice
+        ensures ok { IfOk result (λ found. (f : Option Condition) (ss : PathSteps) (ls : List Location) → CodesOptionalCondition condition.entry f → CodesSteps left.now ss → AreStanding M.located M.stand M.content (view self.now.root.now) ls slice
             → MarksStandAt M.located M.stand M.content (view self.now.root.now) (follow self.now.text.now (view self.now.root.now) ss (kept_by self.now.text.now (view self.now.root.now) f ls)) found.items) }
         ensures refused { IfErr result (λ e. M.located ≡ true → e ≡ OutOfMemory) }
     {

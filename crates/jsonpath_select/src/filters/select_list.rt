@@ -2,7 +2,7 @@
 //! the places stand to each other that lead to a filter tells, where it can, that no candidate is met twice, so that no
 //! repeats are looked for.
 
-ghost use Rattle.std.specs.Prelude.{◌≡◌, [], ◌∷◌, true, List, filter, IfOk, IfErr, IsTrue};
+ghost use Rattle.std.specs.Prelude.{◌≡◌, true, List, filter, IfOk, IfErr, IsTrue};
 ghost use Rattle.std.specs.List.{list_all};
 ghost use Rattle.serde_json.specs.View.{view};
 ghost use Rattle.jsonpath_paths.specs.tree.Tree.{Condition, Path, PathSteps};

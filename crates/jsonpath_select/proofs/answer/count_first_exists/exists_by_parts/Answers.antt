@@ -1,4 +1,4 @@
-use Rattle.std.proofs.Common.{◌==◌, length, refl, sym, ap, ◌∙◌}
+use Rattle.std.proofs.Common.{◌==◌, length, refl, ap, ◌∙◌}
 use Rattle.std.specs.Prelude.{not}
 use Rattle.serde_json.specs.View.{view}
 use Rattle.jsonpath_nodes.specs.place.SpotPlace.{location_of}

@@ -1,4 +1,4 @@
-use Rattle.std.proofs.Common.{◌-◌, List, [], ◌∷◌, Option, Some, None, take, drop, length, refl, sym, subst}
+use Rattle.std.proofs.Common.{◌-◌, List, [], ◌∷◌, Some, None, take, refl, sym, subst}
 use Rattle.std.proofs.lemmas.List.{take_rest}
 use Rattle.std.proofs.lemmas.Result.{IfOk-weaker}
 use Rattle.serde_json.specs.View.{view}

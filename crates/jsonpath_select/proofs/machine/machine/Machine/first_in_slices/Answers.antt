@@ -1,6 +1,5 @@
-use Rattle.std.proofs.Common.{◌≡◌, ◌++◌, ◌-◌, ◌≤◌, ◌==◌, true, false, List, [], Option, take, drop, length, map, refl, sym, ap, ◌∙◌, drop_of_length-le, arith}
+use Rattle.std.proofs.Common.{◌≡◌, ◌++◌, ◌-◌, ◌≤◌, ◌==◌, true, false, List, [], take, drop, length, map, refl, sym, ap, ◌∙◌, drop_of_length-le, arith}
 use Rattle.serde_json.specs.View.{view}
-use Rattle.jsonpath_paths.specs.tree.Tree.{Condition, PathSteps}
 use Rattle.jsonpath_nodes.specs.place.Location.{Location}
 use Rattle.jsonpath_nodes.specs.place.Mark.{shown}
 use Rattle.jsonpath_select.specs.Meaning.{follow}

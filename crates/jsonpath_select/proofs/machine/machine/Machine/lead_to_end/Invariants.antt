@@ -1,4 +1,4 @@
-use Rattle.std.proofs.Common.{◌≡◌, List, [], ◌∷◌, length}
+use Rattle.std.proofs.Common.{◌≡◌, List, length}
 use Rattle.serde_json.specs.View.{view}
 use Rattle.jsonpath_paths.specs.tree.Tree.{PathSteps}
 use Rattle.jsonpath_nodes.specs.place.Location.{Location}
