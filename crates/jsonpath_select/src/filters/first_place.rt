@@ -132,5 +132,9 @@ fn slice_end(from: usize, count: usize) -> usize
     ensures after { from < result }
     ensures within { result ≤ count }
 {
-    if from < count / 4 { from * 4 + 1 } else { count }
+    if from < count / 4 {
+        from * 4 + 1
+    } else {
+        count
+    }
 }

@@ -21,9 +21,9 @@ use crate::step::carried_mark::Carried;
 use crate::step::plain::marks_after_plain_step;
 use crate::tagged::marks::Found;
 use crate::tagged::shared_lists::marks_shared_by_candidates;
+use jsonpath_nodes::NoMemory;
 use jsonpath_nodes::laws::apart_locations_meet_candidates_once;
 use jsonpath_nodes::steps_on_marks::flattened_from_each;
-use jsonpath_nodes::NoMemory;
 use jsonpath_paths::ParseToken;
 
 // The plain steps, if the instructions begin with a path from the root on which such steps lead to a filter whose own

@@ -4,10 +4,10 @@ use crate::answers::document;
 use crate::asserts::check;
 use crate::outcomes::prints;
 use anyhow::Error as AnyError;
+use jsonpath_lib::layers::{ReaderError, StrReader};
 use jsonpath_lib::{
     AnyPath, JsonPathError, MaskFault, NoMemory, ParseFault, Parser, PathParser, PathsFault,
-    ReaderError, Selector, StrReader, TokenError, TryFault, compile, compile_path, compile_paths,
-    mask, select_as_str,
+    Selector, TokenError, TryFault, compile, compile_path, compile_paths, mask, select_as_str,
 };
 use serde_json::Value;
 use std::alloc::Global;

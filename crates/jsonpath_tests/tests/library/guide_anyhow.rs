@@ -4,8 +4,8 @@ use crate::answers::{fails, gives, says_some};
 use crate::outcomes::says;
 use anyhow::Result;
 use jsonpath_lib::{
-    AnyPath, Compiled, Documents, compile_path, compile_paths, document_to_text, list_to_text, mask,
-    read_document, replace_with, select, select_as, select_path,
+    AnyPath, Compiled, Documents, compile_path, compile_paths, document_to_text, list_to_text,
+    mask, read_document, replace_with, select, select_as, select_path,
 };
 use serde::Deserialize;
 use serde_json::Value;

@@ -2,9 +2,8 @@
 
 use crate::asserts::check;
 use crate::outcomes::prints;
-use jsonpath_lib::{
-    DocumentFault, Documents, Inside, JsonPathError, document_end_in_piece, first_document_len,
-};
+use jsonpath_lib::{DocumentFault, Documents, JsonPathError};
+use jsonpath_streams::{Inside, document_end_in_piece, first_document_len};
 use serde_json::Value;
 use std::process::Abort;
 use std::test::Fail;

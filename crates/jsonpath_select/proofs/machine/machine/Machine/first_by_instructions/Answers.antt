@@ -27,8 +27,10 @@ first_in_slices-requires g c = λ k.
       (refl, tt),
       (
         (Some n.0, parts.0),
-        ((n.1, subst (λ (is : List Instruction). CodesSteps is n.1) (sym (take_rest behind end)) parts.1),
-        (gathered doc way.leaves way.deep ks, subst (λ ms. MarksStandAt g.M.Mark.located g.M.Mark.stand g.M.Mark.content doc (gathered doc way.leaves way.deep ks) ms) (sym c.as_slice-starts.ensures.value) there.0, there.1)),
+        (
+          (n.1, subst (λ (is : List Instruction). CodesSteps is n.1) (sym (take_rest behind end)) parts.1),
+          (gathered doc way.leaves way.deep ks, subst (λ ms. MarksStandAt g.M.Mark.located g.M.Mark.stand g.M.Mark.content doc (gathered doc way.leaves way.deep ks) ms) (sym c.as_slice-starts.ensures.value) there.0, there.1),
+        ),
       ),
     )
 
@@ -46,8 +48,10 @@ first_in_slices-requires-in-None g c = λ k.
       (refl, tt),
       (
         (None, tt),
-        ((split.0, subst (λ (is : List Instruction). CodesSteps is split.0) (sym (take_rest left last)) split.1),
-        (ks, subst (λ ms. MarksStandAt g.M.Mark.located g.M.Mark.stand g.M.Mark.content doc ks ms) (sym c.as_slice.ensures.value) (c.in_ok-marks-in-None.ensures.ok doc ([] ∷ []) c.in_ok-root.ensures.0), tt)),
+        (
+          (split.0, subst (λ (is : List Instruction). CodesSteps is split.0) (sym (take_rest left last)) split.1),
+          (ks, subst (λ ms. MarksStandAt g.M.Mark.located g.M.Mark.stand g.M.Mark.content doc ks ms) (sym c.as_slice.ensures.value) (c.in_ok-marks-in-None.ensures.ok doc ([] ∷ []) c.in_ok-root.ensures.0), tt),
+        ),
       ),
     )
 
