@@ -107,7 +107,9 @@ for file in sorted(glob.glob("crates/*/src/**/*.rt", recursive=True)):
             if is_tested(sample) or kind == "!":
                 judge(sample and is_tested(sample), f"{file}:{number}: the sample stands in no test")
             else:
-                run.append((f"{file}:{number}", sample))
+                # The example of a law calls that of its own crate, which `jsonpath_lib` need not give out.
+                own = f"{file.split('/')[1]}::laws::" if file.endswith("/laws.rt") else "laws::"
+                run.append((f"{file}:{number}", [re.sub(r"\blaws::", own, it) for it in sample]))
 passed_alone, together, said = outcomes([sample for _, sample in run])
 for name, outcome in together:
     judge(outcome == "ok", f"checks/samples, {name}: {outcome}")

@@ -82,6 +82,13 @@ fn first_price_stands_at(alloc: Global, text: &str) -> Result<Option<String>> {
     }
 }
 
+fn nulled_at(alloc: Global, text: &str, place: &str) -> Result<String> {
+    let mut document = read_document(alloc, text.as_bytes())?;
+    compile_path(alloc, place)?.delete_in(alloc, &mut document)?;
+    let shown = document_to_text(alloc, &document)?;
+    Ok(shown)
+}
+
 const STORE: &str =
     "{\"store\":{\"bicycle\":{\"price\":1995},\"book\":[{\"price\":895},{\"price\":1299}]}}";
 
@@ -117,6 +124,8 @@ fn places_of_the_guide(rt: HostRuntime) {
     let alloc = rt.alloc();
     let place = first_price_stands_at(alloc, STORE);
     says_some(&rt, place, "$['store']['bicycle']['price']");
+    let nulled = nulled_at(alloc, "{\"a\":[1,2]}", "$['a'][1]");
+    says(&rt, nulled, "{\"a\":[1,null]}");
 }
 
 #[test]
@@ -124,5 +133,6 @@ fn refusals_come_through(rt: HostRuntime) {
     let alloc = rt.alloc();
     fails(&rt, sum_of_prices(alloc, "["));
     fails(&rt, without_secrets(alloc, "{"));
+    fails(&rt, nulled_at(alloc, "[1]", "$["));
     fails(&rt, slow_requests(alloc, "{\"ms\":501}\n{"));
 }
