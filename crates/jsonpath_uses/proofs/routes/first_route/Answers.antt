@@ -9,8 +9,8 @@ same_item [] i d e h = absurd (omega arith)
 same_item (x ∷ xs) zero d e h = refl
 same_item (x ∷ xs) (suc i) d e h = same_item xs i d e (omega arith)
 
-pub returns-then-exists-clause-found : goal.returns-then-exists-clause-found
-returns-then-exists-clause-found c =
+pub returns-then-branch-clause-found : goal.returns-then-branch-clause-found
+returns-then-branch-clause-found c =
     let told = c.in_ok-exists.ensures.ok in
     let rule : c.index-rules-number.result ≡ get_or c.args.rules.now c.loop-number.number [] = c.index-rules-number.is ∙ same_item c.args.rules.now c.loop-number.number _ [] c.loop-number-test.true in (
       search rules,
@@ -20,7 +20,7 @@ returns-then-exists-clause-found c =
         λ none.
             let size : length told.0 ≡ 0 = ap length none in
             let any = told.2 in
-            let branch = c.if-exists.true in
+            let branch = c.if-branch.true in
             grind (arith, common_steps),
       ),
     )
