@@ -55,7 +55,11 @@ impl<'t> Choice<'t> {
                 Ok(!names_are_distinct(self.alloc, self.text, spans.as_slice())?)
             }
             Inner::Token(ParseToken::Union(indexes)) => {
-                Ok(!indexes_select_distinct_items(self.alloc, indexes.as_slice())?)
+                let indexes = indexes.as_slice();
+                Ok(
+                    !ascend_from_front(indexes)
+                        && !indexes_select_distinct_items(self.alloc, indexes)?,
+                )
             }
             _ => Ok(false),
         }
@@ -116,6 +120,18 @@ impl<'t> Choice<'t> {
     fn is_path_better_by_sets(self, path: &ParserNode, from_root: bool) -> Result<bool, NoMemory> {
         Ok((from_root && path.absolute) || has_filter(path) || self.has_repeating_steps(path, 2)?)
     }
+}
+
+// Whether the indexes count from the front and ascend, as most do: they are then seen to differ without a set of them.
+fn ascend_from_front(indexes: &[i64]) -> bool {
+    let mut last = -1;
+    for index in indexes {
+        if *index <= last {
+            return false;
+        }
+        last = *index;
+    }
+    true
 }
 
 // Whether a step of the path is a filter.
