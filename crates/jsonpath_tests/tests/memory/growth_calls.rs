@@ -3,10 +3,11 @@
 use crate::asserts::check;
 use crate::memory::grown;
 use crate::outcomes::{NO_MEMORY, NO_PATH, NO_VALUE, is_refusal, refuses, works};
+use jsonpath_lib::layers::tokens_fit;
 use jsonpath_lib::{
     AnyPath, Compiled, JsonPathError, JsonSelectorMut, Parser, PathsFault, compile_path,
     compile_paths, document_to_text, error_of_parse_fault, list_to_text, mask_at_paths, path_error,
-    read_document, select_path, tokens_fit,
+    read_document, select_path,
 };
 use jsonpath_paths::{ParseToken, PathParser, StrRange, TokenError};
 use serde_json::Value;
