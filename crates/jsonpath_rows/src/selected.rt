@@ -88,10 +88,11 @@ fn by_spots(alloc: Global, path: &str, input: &str) -> Result<String, JsonPathEr
 fn by_token_list(alloc: Global, path: &str, input: &str) -> Result<String, JsonPathError> {
     let compiled = compile_path(alloc, path)?;
     let document = read_document(alloc, input.as_bytes())?;
-    if !tokens_fit(alloc, path, compiled.tokens())? {
+    let tokens = compiled.tokens();
+    if !tokens_fit(alloc, path, tokens)? {
         return Err(JsonPathError::EmptyPath);
     }
-    let spots = select_tokens(alloc, &document, path, compiled.tokens())?;
+    let spots = select_tokens(alloc, &document, path, tokens)?;
     text_of(alloc, spots.as_slice())
 }
 
