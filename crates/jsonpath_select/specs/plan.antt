@@ -13,3 +13,4 @@ pub mod Deciders
 pub mod Standing
 pub mod NextFilter
 pub mod First
+pub mod lending

@@ -1,4 +1,3 @@
 -- What selectors hold and give back.
 pub mod Held
 pub mod SelectorLends
-pub mod lending

@@ -12,7 +12,7 @@ use Rattle.jsonpath_lib.specs.contracts.selectors.held_document.HeldDocument.rem
 use Rattle.jsonpath_lib.specs.contracts.selectors.held_document.HeldDocument.remove.Key.{name as #self}
 use Rattle.jsonpath_lib.specs.contracts.selectors.held_document.HeldDocument.remove_in_place as g
 use Rattle.jsonpath_lib.specs.contracts.selectors.held_document.HeldDocument.remove_in_place.Key.{name as #in_place}
-use Rattle.jsonpath_select.specs.selectors.lending.ChainedCalls.{passed_on, refused_on, with_alloc, still_outlives}
+use Rattle.jsonpath_select.specs.plan.lending.ChainedCalls.{passed_on, refused_on, with_alloc, still_outlives}
 use Rattle.jsonpath_lib.proofs.selectors.HeldCallLemmas.{E, typed, args, row}
 use Rattle.jsonpath_lib.proofs.selectors.held_document.HeldDocument.remove_in_place.Met.{met}
 use Rattle.jsonpath_lib.proofs.selectors.held_document.HeldDocument.remove.Statement as stated

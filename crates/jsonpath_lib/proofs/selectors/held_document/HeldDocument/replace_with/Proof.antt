@@ -19,9 +19,9 @@ use Rattle.jsonpath_lib.specs.contracts.selectors.held_document.HeldDocument.rep
 use Rattle.jsonpath_lib.specs.contracts.selectors.held_document.HeldDocument.replace_with.Key.{name as #self}
 use Rattle.jsonpath_lib.specs.contracts.selectors.held_document.HeldDocument.replace_in_place as g
 use Rattle.jsonpath_lib.specs.contracts.selectors.held_document.HeldDocument.replace_in_place.Key.{name as #in_place}
-use Rattle.jsonpath_select.specs.selectors.lending.ChainedCalls.{Alloc, passed_on_called, refused_on_called, still_outlives}
-use Rattle.jsonpath_select.specs.selectors.lending.ChainedCode.{runs_lent}
-use Rattle.jsonpath_select.specs.selectors.lending.ChainedWithMore.{as_lent, with_one_more}
+use Rattle.jsonpath_select.specs.plan.lending.ChainedCalls.{Alloc, passed_on_called, refused_on_called, still_outlives}
+use Rattle.jsonpath_select.specs.plan.lending.ChainedCode.{runs_lent}
+use Rattle.jsonpath_select.specs.plan.lending.ChainedWithMore.{as_lent, with_one_more}
 use Rattle.jsonpath_lib.proofs.selectors.HeldCallLemmas.{E, typed, row}
 use Rattle.jsonpath_lib.proofs.selectors.held_document.HeldDocument.replace_in_place.Met.{met}
 use Rattle.jsonpath_lib.proofs.selectors.held_document.HeldDocument.replace_with.Statement as stated

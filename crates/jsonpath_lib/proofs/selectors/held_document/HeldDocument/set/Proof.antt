@@ -17,9 +17,9 @@ use Rattle.jsonpath_lib.specs.contracts.selectors.held_document.HeldDocument.set
 use Rattle.jsonpath_lib.specs.contracts.selectors.held_document.HeldDocument.set.Key.{name as #self}
 use Rattle.jsonpath_lib.specs.contracts.selectors.held_document.HeldDocument.set_in_place as g
 use Rattle.jsonpath_lib.specs.contracts.selectors.held_document.HeldDocument.set_in_place.Key.{name as #in_place}
-use Rattle.jsonpath_select.specs.selectors.lending.ChainedCalls.{Alloc, passed_on, refused_on, still_outlives}
-use Rattle.jsonpath_select.specs.selectors.lending.ChainedCode.{runs_two}
-use Rattle.jsonpath_select.specs.selectors.lending.ChainedWithMore.{as_typed_long, with_one_more}
+use Rattle.jsonpath_select.specs.plan.lending.ChainedCalls.{Alloc, passed_on, refused_on, still_outlives}
+use Rattle.jsonpath_select.specs.plan.lending.ChainedCode.{runs_two}
+use Rattle.jsonpath_select.specs.plan.lending.ChainedWithMore.{as_typed_long, with_one_more}
 use Rattle.jsonpath_lib.proofs.selectors.HeldCallLemmas.{E, typed, args, row}
 use Rattle.jsonpath_lib.proofs.selectors.held_document.HeldDocument.set_in_place.Met.{met}
 use Rattle.jsonpath_lib.proofs.selectors.held_document.HeldDocument.set.Statement as stated

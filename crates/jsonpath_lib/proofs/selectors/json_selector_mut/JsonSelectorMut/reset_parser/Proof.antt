@@ -16,9 +16,9 @@ use Rattle.jsonpath_lib.specs.contracts.selectors.json_selector_mut.JsonSelector
 use Rattle.jsonpath_lib.specs.contracts.selectors.json_selector_mut.JsonSelectorMut.reset_parser.Key.{name as #self}
 use Rattle.jsonpath_lib.specs.contracts.selectors.json_selector_mut.JsonSelectorMut.set_parser as g
 use Rattle.jsonpath_lib.specs.contracts.selectors.json_selector_mut.JsonSelectorMut.set_parser.Key.{name as #in_place}
-use Rattle.jsonpath_select.specs.selectors.lending.ChainedCalls.{Alloc, passed_on_two, refused_on_two, still_outlives}
-use Rattle.jsonpath_select.specs.selectors.lending.ChainedCode.{runs_moved}
-use Rattle.jsonpath_select.specs.selectors.lending.ChainedWithMore.{as_typed, with_one_more}
+use Rattle.jsonpath_select.specs.plan.lending.ChainedCalls.{Alloc, passed_on_two, refused_on_two, still_outlives}
+use Rattle.jsonpath_select.specs.plan.lending.ChainedCode.{runs_moved}
+use Rattle.jsonpath_select.specs.plan.lending.ChainedWithMore.{as_typed, with_one_more}
 use Rattle.jsonpath_lib.proofs.selectors.HeldCallLemmas.{E, typed}
 use Rattle.jsonpath_lib.proofs.selectors.json_selector_mut.JsonSelectorMut.set_parser.Met.{met}
 use Rattle.jsonpath_lib.proofs.selectors.json_selector_mut.JsonSelectorMut.reset_parser.Statement as stated

@@ -15,9 +15,9 @@ use Rattle.jsonpath_lib.specs.contracts.selectors.selector_mut.SelectorMut.str_p
 use Rattle.jsonpath_lib.specs.contracts.selectors.selector_mut.SelectorMut.str_path.Key.{name as #self}
 use Rattle.jsonpath_lib.specs.contracts.selectors.selector_mut.SelectorMut.set_path as g
 use Rattle.jsonpath_lib.specs.contracts.selectors.selector_mut.SelectorMut.set_path.Key.{name as #in_place}
-use Rattle.jsonpath_select.specs.selectors.lending.ChainedCalls.{Alloc, passed_on, refused_on}
-use Rattle.jsonpath_select.specs.selectors.lending.ChainedCode.{runs_two}
-use Rattle.jsonpath_select.specs.selectors.lending.ChainedWithMore.{as_typed, with_one_more}
+use Rattle.jsonpath_select.specs.plan.lending.ChainedCalls.{Alloc, passed_on, refused_on}
+use Rattle.jsonpath_select.specs.plan.lending.ChainedCode.{runs_two}
+use Rattle.jsonpath_select.specs.plan.lending.ChainedWithMore.{as_typed, with_one_more}
 use Rattle.jsonpath_lib.proofs.selectors.HeldCallLemmas.{E, typed}
 use Rattle.jsonpath_lib.proofs.selectors.selector_mut.SelectorMut.set_path.Met.{met}
 use Rattle.jsonpath_lib.proofs.selectors.selector_mut.SelectorMut.str_path.Statement as stated

@@ -18,9 +18,9 @@ use Rattle.jsonpath_select.specs.contracts.selectors.json_selector.JsonSelector.
 use Rattle.jsonpath_select.specs.contracts.selectors.json_selector.JsonSelector.reset_parser.Key.{name as #self}
 use Rattle.jsonpath_select.specs.contracts.selectors.json_selector.JsonSelector.set_parser as g
 use Rattle.jsonpath_select.specs.contracts.selectors.json_selector.JsonSelector.set_parser.Key.{name as #in_place}
-use Rattle.jsonpath_select.specs.selectors.lending.ChainedCalls.{Alloc, still_outlives, passed_on_two, refused_on_two}
-use Rattle.jsonpath_select.specs.selectors.lending.ChainedCode.{runs_moved}
-use Rattle.jsonpath_select.specs.selectors.lending.ChainedWithMore.{as_typed, with_one_more}
+use Rattle.jsonpath_select.specs.plan.lending.ChainedCalls.{Alloc, still_outlives, passed_on_two, refused_on_two}
+use Rattle.jsonpath_select.specs.plan.lending.ChainedCode.{runs_moved}
+use Rattle.jsonpath_select.specs.plan.lending.ChainedWithMore.{as_typed, with_one_more}
 use Rattle.jsonpath_select.proofs.error.JsonPathError.TheLaws as error_laws
 use Rattle.jsonpath_select.proofs.selectors.json_selector.JsonSelector.set_parser.Met.{met}
 use Rattle.jsonpath_select.proofs.selectors.json_selector.JsonSelector.reset_parser.Statement as stated

@@ -16,9 +16,9 @@ use Rattle.jsonpath_select.specs.contracts.selectors.selector.Selector.str_path 
 use Rattle.jsonpath_select.specs.contracts.selectors.selector.Selector.str_path.Key.{name as #self}
 use Rattle.jsonpath_select.specs.contracts.selectors.selector.Selector.set_path as g
 use Rattle.jsonpath_select.specs.contracts.selectors.selector.Selector.set_path.Key.{name as #in_place}
-use Rattle.jsonpath_select.specs.selectors.lending.ChainedCalls.{Alloc, still_outlives, passed_on, refused_on}
-use Rattle.jsonpath_select.specs.selectors.lending.ChainedCode.{runs_two}
-use Rattle.jsonpath_select.specs.selectors.lending.ChainedWithMore.{as_typed, with_one_more}
+use Rattle.jsonpath_select.specs.plan.lending.ChainedCalls.{Alloc, still_outlives, passed_on, refused_on}
+use Rattle.jsonpath_select.specs.plan.lending.ChainedCode.{runs_two}
+use Rattle.jsonpath_select.specs.plan.lending.ChainedWithMore.{as_typed, with_one_more}
 use Rattle.jsonpath_select.proofs.error.JsonPathError.TheLaws as error_laws
 use Rattle.jsonpath_select.proofs.selectors.selector.Selector.set_path.Met.{met}
 use Rattle.jsonpath_select.proofs.selectors.selector.Selector.str_path.Statement as stated

@@ -30,8 +30,8 @@ use Rattle.std.specs.declared.result.Result.TheVariants.{Ok, Err}
 use Rattle.std.specs.Borrow.{LendsIfOk}
 use Rattle.std.specs.contracts.result.Result as RS
 use Rattle.std.proofs.result.Made.{Ok-of, Err-of}
-use Rattle.jsonpath_select.specs.selectors.lending.Lending.{RefAt, lends_ok}
-use Rattle.jsonpath_select.specs.selectors.lending.LentForCall.{Answered, CallGives, Lent, lends, Loan, lent_at, left_at}
+use Rattle.jsonpath_select.specs.plan.lending.Lending.{RefAt, lends_ok}
+use Rattle.jsonpath_select.specs.plan.lending.LentForCall.{Answered, CallGives, Lent, lends, Loan, lent_at, left_at}
 
 module _ (m : ℕ) (os : List (Outlives (suc m))) (S : Lfts m → RattleType) (E : RattleType) (Ps : List (Slot (suc m))) (ks : Kepts Ps) where
   -- `&mut self`, at the first lifetime, which the type behind it does not name

@@ -23,8 +23,8 @@ use denote.Memory.{lone}
 use denote.RattleType.{RattleType}
 use denote.Ref.{MutRef}
 use Rattle.std.specs.contracts.result.Result as RS
-use Rattle.jsonpath_select.specs.selectors.lending.Lending.{and_true}
-use Rattle.jsonpath_select.specs.selectors.lending.LentForCall.{OkOrErr, answered_value, Answered, by_ok_or_err}
+use Rattle.jsonpath_select.specs.plan.lending.Lending.{and_true}
+use Rattle.jsonpath_select.specs.plan.lending.LentForCall.{OkOrErr, answered_value, Answered, by_ok_or_err}
 
 -- a `Result` of these types
 abbrev like : Ty → Ty → Ty → Ty

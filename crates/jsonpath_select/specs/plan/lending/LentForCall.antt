@@ -19,7 +19,7 @@ use denote.RattleType.{RattleType}
 use denote.Ref.{MutBor}
 use Rattle.std.specs.declared.result.Result.TheVariants.{Ok, Err}
 use Rattle.std.specs.contracts.result.Result as RS
-use Rattle.jsonpath_select.specs.selectors.lending.Lending.{RefAt, Back, lends_for_call, outcome_cases}
+use Rattle.jsonpath_select.specs.plan.lending.Lending.{RefAt, Back, lends_for_call, outcome_cases}
 
 -- an outcome is `Ok`, or `Err` with an error of this type
 abbrev pub OkOrErr : Ty → Val → Type 0

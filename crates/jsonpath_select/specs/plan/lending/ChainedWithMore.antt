@@ -30,10 +30,10 @@ use denote.Triple.Walked.{Stay, Stays, walk_of, Goes-spent_ref, walk_Meets}
 use Rattle.std.specs.Borrow.{LendsIfOk}
 use Rattle.std.specs.declared.result.Result.TheVariants.{Ok, Err}
 use Rattle.std.proofs.alloc.Global.TheLaws as global_laws
-use Rattle.jsonpath_select.specs.selectors.lending.Lending.{alone}
-use Rattle.jsonpath_select.specs.selectors.lending.Chained.{chains, in_place, stayed, G, chained}
-use Rattle.jsonpath_select.specs.selectors.lending.ChainedCalls.{Alloc, Said, asked, heard_long}
-use Rattle.jsonpath_select.specs.selectors.lending.LentForCall.{Answered, lent_at, left_at}
+use Rattle.jsonpath_select.specs.plan.lending.Lending.{alone}
+use Rattle.jsonpath_select.specs.plan.lending.Chained.{chains, in_place, stayed, G, chained}
+use Rattle.jsonpath_select.specs.plan.lending.ChainedCalls.{Alloc, Said, asked, heard_long}
+use Rattle.jsonpath_select.specs.plan.lending.LentForCall.{Answered, lent_at, left_at}
 
 -- of a parameter that is handed on, what is said of what it leaves is had
 abbrev handed : {n : ℕ} (s : Slot n) → Stay s yes

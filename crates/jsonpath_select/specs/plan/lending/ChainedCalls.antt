@@ -33,10 +33,10 @@ use Rattle.std.specs.declared.result.Result.TheVariants.{Ok, Err}
 use Rattle.std.specs.contracts.alloc.Global as global
 use Rattle.std.proofs.alloc.Calls.{Goes-blank}
 use Rattle.std.proofs.alloc.Global.TheLaws as global_laws
-use Rattle.jsonpath_select.specs.selectors.lending.Lending.{alone, lends_err}
-use Rattle.jsonpath_select.specs.selectors.lending.LentForCall.{lent_at, left_at}
-use Rattle.jsonpath_select.specs.selectors.lending.Chained.{chains, in_place, stayed, G, chained}
-use Rattle.jsonpath_select.specs.selectors.lending.ChainedCode.{of_one, runs_one}
+use Rattle.jsonpath_select.specs.plan.lending.Lending.{alone, lends_err}
+use Rattle.jsonpath_select.specs.plan.lending.LentForCall.{lent_at, left_at}
+use Rattle.jsonpath_select.specs.plan.lending.Chained.{chains, in_place, stayed, G, chained}
+use Rattle.jsonpath_select.specs.plan.lending.ChainedCode.{of_one, runs_one}
 
 abbrev pub Alloc : RattleType
 Alloc = global.the_row
