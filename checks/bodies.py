@@ -295,6 +295,7 @@ def main():
     bodies, unread = readable(files)
     crates = [it for it in uses if any(it == body.crate for body in bodies)]
     passed, failed = tries()
+    made_up = passed
     if unread:
         print("\n".join(unread))
         failed += len(unread)
@@ -314,6 +315,7 @@ def main():
     if not files:
         print("bodies: there are no wrong bodies")
         failed += 1
+    print(f"mutants rejected at their goals: {passed - made_up} of {len(files)} under clauses")
     print(f"{passed} passed, {failed} failed")
     return 0 if failed == 0 else 1
 

@@ -1,5 +1,5 @@
 #!/usr/bin/env bash
-# The caller that CALLING.md of `jsonpath_lib` shows is proved as it stands there, in a crate of its own above the libraries,
+# The caller that docs/CALLING.md shows is proved as it stands there, in a crate of its own above the libraries,
 # and is not proved without the proof file that stands beside it. Takes the libraries that `rt ci` built.
 # Last line: 'N passed, M failed'.
 set -u
@@ -9,7 +9,7 @@ PYTHONDONTWRITEBYTECODE=1 PYTHONPATH=checks exec python3 - << 'TEXT'
 import os, re, sys, tempfile
 import above
 
-page = above.text_of("crates/jsonpath_lib/CALLING.md")
+page = above.text_of("docs/CALLING.md")
 rows, source, proof = (re.search(rf"^```{kind}\n(.*?)^```$", page, re.MULTILINE | re.DOTALL)[1] for kind in ("text", "rust", "antt"))
 file = re.match(r"-- (proofs/\S+\.antt)\n", proof)[1]
 uses = {name: rest.split() for name, rest in re.findall(r"^(\w+):(.*)$", rows, re.MULTILINE)}
@@ -22,7 +22,9 @@ def judge(holds, what):
     if not holds:
         print(f"calling: {what}")
 
+library = above.text_of("docs/LIBRARY.md")
 for name in sorted(set(uses) & set(own)):
+    judge(f"\n{name}:{' ' * bool(own[name])}{' '.join(own[name])}\n" in library, f"docs/LIBRARY.md has other libraries of {name}")
     judge(uses[name] == own[name], f"crates.txt and the page say something else of {name}")
 functions = re.findall(r"^pub fn (\w+)", source, re.MULTILINE)
 judge(len(functions) >= 2, f"the page shows {len(functions)} functions alone")

@@ -2,6 +2,7 @@
 # Each wrong body of crates/NAME/must-fail/*.edit is refused at the goal that its file names in a line 'goal: FILE GOAL':
 # the file where the prover stops and the goal that it leaves open. Reads the log of `rt ci` that GATE_LOG names, as `./test` gives it. Without one it tries
 # the edits itself, which takes as long as in the gate. The comparison is first tried on a log made up here.
+# Each mutant has its row in docs/MUTANTS.md, and each row its mutant: `mutant_rows.py` compares them.
 # Last line: 'N passed, M failed'.
 set -u
 here=$(cd "$(dirname "${BASH_SOURCE[0]}")/.." && pwd)
@@ -67,10 +68,23 @@ if [ -z "$log" ]; then
     log=$work/log
     rt must-fail > "$log" 2>&1
 fi
+tried=$passed
+count=0
 for file in crates/*/must-fail/*.edit; do
     crate=${file#crates/}
     is_refused_at "$log" "${crate%%/*}/${file##*/}" "$(sed -n 's/^goal: //p' "$file")"
     tell $? "${why:-}"
+    count=$((count + 1))
 done
+echo "mutants rejected at their goals: $((passed - tried)) of $count edits"
+
+said=$(PYTHONDONTWRITEBYTECODE=1 python3 checks/mutant_rows.py)
+if [[ $(tail -n 1 <<< "$said") =~ ^([0-9]+)\ passed,\ ([0-9]+)\ failed$ ]]; then
+    passed=$((passed + BASH_REMATCH[1]))
+    failed=$((failed + BASH_REMATCH[2]))
+    head -n -1 <<< "$said"
+else
+    tell 1 "mutant_rows.py gave no counts"
+fi
 echo "$passed passed, $failed failed"
 [ "$failed" = 0 ]

@@ -4,9 +4,9 @@
 # file of its `proofs/`. What the toolchain writes for a type (`TheLaws`) is no such file.
 # No folder of sources has more than ten files beside `lib.rt` and `laws.rt`.
 # No contract of a public call or type cites a definition of `specs/plan`, nor does a definition that is no plan, but one.
-# docs/DEFINITIONS.md has each file of definitions, and says what each type is seen as. README's table of folders has each
-# folder of sources. Neither names a file or folder that is not there.
-# Each source that README, docs/ and CALLING.md name is there.
+# docs/DEFINITIONS.md has each file of definitions, and says what each type models. The table of folders of docs/ARCHITECTURE.md
+# has each folder of sources. Neither names a file or folder that is not there.
+# Each source that README, CONTRIBUTING and docs/ name is there.
 # No enum, struct, trait or definition of the product's libraries has the name of another one, but for a type and the one
 # definition in its crate that says what it is seen as.
 # Last line: 'N passed, M failed'.
@@ -347,8 +347,8 @@ folders_there() {
     done | sort
 }
 
-found=$(comm -3 <(folders_told README.md) <(folders_there crates/*))
-judge "$([ -z "$found" ]; echo $?)" "README.md tells of a folder that is not there, or of none that is: $found"
+found=$(comm -3 <(folders_told docs/ARCHITECTURE.md) <(folders_there crates/*))
+judge "$([ -z "$found" ]; echo $?)" "docs/ARCHITECTURE.md tells of a folder that is not there, or of none that is: $found"
 mkdir -p "$work/made_up/src/room/deep"
 printf '%s\n' '| Crate | Folders of `src` |' '|---|---|' '| `made_up` | `room` (places, as `hall` does), `room/deep` (ways) |' '' '| `made_up` | `door` |' > "$work/page.md"
 [ "$(comm -3 <(folders_told "$work/page.md") <(folders_there "$work/made_up"))" = 'made_up hall' ]
@@ -365,7 +365,7 @@ sources_nowhere() {
     done
 }
 
-found=$(sources_nowhere README.md docs/*.md crates/*/CALLING.md)
+found=$(sources_nowhere README.md CONTRIBUTING.md docs/*.md)
 judge "$([ -z "$found" ]; echo $?)" "a page names a source that is not there: $found"
 printf '%s\n' 'It stands in `src/lib.rt`, in `nothing.rt` and in `library/guide.rs`.' > "$work/page.md"
 [ "$(sources_nowhere "$work/page.md")" = 'nothing.rt' ]
@@ -378,7 +378,7 @@ found=$(for crate in "${PRODUCT[@]}"; do
         grep -q "^| .*\`$type\`.* | .* |$" docs/DEFINITIONS.md || echo "$type"
     done
 done)
-judge "$([ -z "$found" ]; echo $?)" "docs/DEFINITIONS.md does not say what these types are seen as: $found"
+judge "$([ -z "$found" ]; echo $?)" "docs/DEFINITIONS.md does not say what these types model: $found"
 
 # The definitions of files of specs, as 'FILE:NAME': at the margin, and the public ones in the blocks of `mutual` and `module`.
 # Fields of a record are none.

@@ -1,5 +1,5 @@
 #!/usr/bin/env bash
-# Installs the built program as a user does, and calls it by its name. Last line: 'N passed, M failed'.
+# Installs the built programs and their manuals as a user does, and calls one by its name. Last line: 'N passed, M failed'.
 set -u
 here=$(cd "$(dirname "${BASH_SOURCE[0]}")/.." && pwd)
 passed=0
@@ -9,7 +9,8 @@ chmod 755 "$work"
 trap 'rm -rf "$work"' EXIT
 mkdir "$work/bin" "$work/elsewhere" "$work/other" "$work/home"
 line=$'\n'
-where="install: jsonpath_run is in $work"
+# where FOLDER MANUALS: what is said of an installation.
+where() { printf 'install: %s\n' "jpath is in $work/$1" "jsonpath_run is in $work/$1" "the manuals are in $work/$2/man1"; }
 
 # Runs a command elsewhere, and keeps what it wrote and its status.
 tries() {
@@ -42,19 +43,25 @@ holds() {
 }
 
 # So that what is installed is built, and nothing is said of a build below.
-"$here/install" "$work/other" > /dev/null 2>&1 < /dev/null
+HOME=$work/first "$here/install" "$work/other" > /dev/null 2>&1 < /dev/null
+holds 'the manuals of a folder that is no bin are in the home' [ -f "$work/first/.local/share/man/man1/jpath.1" ]
 
 # Into a folder that isn't on the PATH, and into one that is.
 tries "$here/install" "$work/bin"
-judge 'a folder that is not on the PATH' 0 "*$where/bin${line}install: $work/bin isn't on the PATH. A line for *"
+judge 'a folder that is not on the PATH' 0 "$(where bin share/man)${line}install: $work/bin isn't on the PATH. A line for *"
 holds 'the program is the built one' cmp -s "$work/bin/jsonpath_run" "$here/crates/jsonpath_main/out/jsonpath_main"
+holds 'jpath is the built one' cmp -s "$work/bin/jpath" "$here/crates/jpath/out/jpath"
+for manual in jpath.1 jsonpath_run.1; do
+    holds "$manual is there" cmp -s "$work/share/man/man1/$manual" "$here/docs/$manual"
+done
 old=$(stat -c %i "$work/bin/jsonpath_run")
 PATH=$work/bin:$PATH tries "$here/install" "$work/bin"
-judge 'a folder on the PATH, once more' 0 "*$where/bin"
+judge 'a folder on the PATH, once more' 0 "$(where bin share/man)"
 holds 'it was replaced by another file' [ "$old" != "$(stat -c %i "$work/bin/jsonpath_run")" ]
 holds 'nothing is left beside it' [ "$(find "$work/bin" -name '.*' -not -path "$work/bin")" = '' ]
 PATH=$work/other:$work/bin:$PATH tries "$here/install" ../bin
-judge 'another one before it on the PATH, and a folder by a short name' 0 "*$where/bin${line}install: another jsonpath_run comes before it on the PATH: $work/other/jsonpath_run"
+others=$(printf 'install: another %s comes before it on the PATH: %s\n' jsonpath_run "$work/other/jsonpath_run" jpath "$work/other/jpath")
+judge 'others before them on the PATH, and a folder by a short name' 0 "$(where bin share/man)$line$others"
 
 # By its name, from another folder, with nothing of the checkout.
 printf '{"foo":{"bar":"baz"}}' > "$work/elsewhere/document"
@@ -68,7 +75,7 @@ holds "it needs the C library alone, and not: $needed" \
 
 # The default folder is made.
 HOME=$work/home tries "$here/install"
-judge 'no folder named' 0 "*$where/home/.local/bin${line}install: * isn't on the PATH*"
+judge 'no folder named' 0 "$(where home/.local/bin home/.local/share/man)${line}install: * isn't on the PATH*"
 holds 'it stands there' [ -x "$work/home/.local/bin/jsonpath_run" ]
 tries env -u HOME "$here/install"
 judge 'no folder named, and no HOME' 73 "install: HOME isn't set*"
@@ -79,8 +86,13 @@ judge 'no folder named, and a HOME that is a file' 73 "install: $work/file/.loca
 # What is refused, before anything is built or written.
 tries "$here/install" "$work/bin" "$work/other"
 judge 'two folders' 2 'install: usage: ./install \[FOLDER\]'
-tries "$here/install" --help
+tries "$here/install" --frob
 judge 'an option' 2 'install: usage: ./install \[FOLDER\]*'
+for words in -h --help; do
+    (cd "$work/elsewhere" && "$here/install" "$words") > "$work/help" 2> "$work/error"
+    holds "$words: what it does, and how long it takes" grep -q 'half an hour' "$work/help"
+    holds "$words: nothing on standard error" [ ! -s "$work/error" ]
+done
 tries "$here/install" ''
 judge 'an empty name' 2 'install: usage: ./install \[FOLDER\]*'
 tries "$here/install" "$work/nowhere"
@@ -94,12 +106,31 @@ judge 'a folder of the name of the program' 73 "*install: $work/taken/jsonpath_r
 holds 'that folder stays as it was' [ "$(find "$work/taken" -mindepth 1)" = "$work/taken/jsonpath_run" ]
 stranger=()
 [ "$(id -u)" != 0 ] || stranger=(setpriv --reuid=65534 --regid=65534 --clear-groups)
+env -u HOME "$here/install" "$work/other" > /dev/null 2> "$work/error" < /dev/null
+holds 'no place for the manuals: it is said, and the programs are there' grep -q "manuals can't be written" "$work/error"
 mkdir "$work/closed"
 chmod 555 "$work/closed"
 cp "$here/install" "$work/install"
 chmod 755 "$work/install"
 tries "${stranger[@]}" "$work/install" "$work/closed"
 judge 'a folder that cannot be written' 73 "install: $work/closed can't be written"
+
+# How long it takes is said before a build, and ./test says what it does.
+mkdir -p "$work/clone/docs"
+cp "$here/install" "$work/clone/"
+printf '#!/bin/sh\nexit 70\n' > "$work/clone/run"
+chmod 755 "$work/clone/run"
+tries "$work/clone/install" "$work/bin"
+judge 'a build to come' 70 'install: both programs are proved*half an hour*'
+holds './test --help' grep -q 'N passed' <<< "$("$here/test" --help)"
+tries "$here/test" frob
+judge 'a word for ./test' 2 'usage: ./test'
+
+# The manuals are formatted without a warning.
+for manual in jpath.1 jsonpath_run.1; do
+    holds "$manual has no warning" [ "$(groff -ww -man -Tutf8 "$here/docs/$manual" 2>&1 > /dev/null)" = '' ]
+    holds "$manual has lines" [ "$(man -l "$here/docs/$manual" 2> /dev/null | wc -l)" -gt 40 ]
+done
 
 echo "$passed passed, $failed failed"
 [ "$failed" = 0 ]

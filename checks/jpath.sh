@@ -100,13 +100,20 @@ wants("jpath '$.a' < a.json", 0, "1\n")
 wants("jpath '$.a' - a.json < a.json", 0, "1\n1\n")
 wants("jpath '$.a' none.json a.json", 4, "1\n", "jpath: none.json: *\n")
 wants("jpath '$.a' .", 4, "", "jpath: .: *\n")
-wants("jpath '$.a' bad.json a.json", 3, "1\n2\n", "jpath: bad.json:3:*: no JSON\n")
-wants("jpath -k '$.a' bad.json a.json", 3, "1\n2\n3\n1\n", "jpath: bad.json:3:*: no JSON\n")
+wants("jpath '$.a' bad.json a.json", 3, "1\n2\n", "jpath: bad.json:3:12: the rest of true, false or null is wanted\n")
+wants("jpath -k '$.a' bad.json a.json", 3, "1\n2\n3\n1\n", "jpath: bad.json:3:12: the rest of true, false or null is wanted\n")
 wants("jpath -c '$.a' bad.json", 3, "2\n", "jpath: bad.json:3:*\n")
-wants("jpath '$' ", 3, "", "jpath: -:1:*: the document ends too early\n", b'{"a":')
-wants("jpath '$' ", 3, "1\n", "jpath: -:2:*: no JSON\n", b"1\n1true\n")
+wants("jpath '$' ", 3, "", "jpath: -:1:6: the document ends too early\n", b'{"a":')
+wants("jpath '$' ", 3, "1\n", "jpath: -:2:2: a blank is wanted behind the document\n", b"1\n1true\n")
 wants("jpath '$' ", 3, "", "jpath: -:1:2: the text is no UTF-8\n", b'"\xff"')
-wants("jpath '$' big.json", 3, "", "jpath: big.json:1:*\n")
+wants("jpath '$' big.json", 3, "", "jpath: big.json:1:132: it nests deeper than 127 levels\n")
+for text, place, why in [(b"[1 2]", "1:4", "a comma or ] is wanted"), (b'{"a":1 "b"}', "1:8", "a comma or } is wanted"), (b'\n[1,\n]', "3:1", "a comma stands before the bracket"),
+                         (b'{"a":1,}', "1:8", "a comma stands before the bracket"), (b"[/* */1]", "1:2", "JSON has no comments"), (b"[NaN]", "1:2", "JSON has no NaN and no Infinity"),
+                         (b"[nan]", "1:3", "the rest of true, false or null is wanted"), (b'["\\ud800"]', "1:9", "half of a surrogate pair stands alone"), (b'["\\udc00"]', "1:6", "half of a surrogate pair stands alone"),
+                         (b'["\\x"]', "1:4", "a text has no such escape"), (b'["\t"]', "1:3", "a text has this control character by an escape alone"), (b"{1:2}", "1:2", "a name in quotes or } is wanted"),
+                         (b'{"a" 1}', "1:6", "a colon is wanted"), (b"[1.]", "1:4", "a digit is wanted"), (b"[01]", "1:3", "a comma or ] is wanted"), (b"[]]", "1:3", "a value is wanted"),
+                         (b'["\xc3\x28"]', "1:4", "the text is no UTF-8"), (b'["\\u00g0"]', "1:7", "a hexadecimal digit is wanted"), (b"[1e]", "1:4", "a digit or a sign is wanted")]:
+    wants("jpath -q '$.none'", 3, "", f"jpath: -:{place}: {why}\n", text)
 wants("jpath '$' ", 1, "", "", b"")
 wants("jpath '$' ", 0, '1\n2\n"a"\n"b"\n{}\n[]\n3\n', "", b'1 2"a""b"{}[]3')
 wants("jpath -H '$.a' < a.json", 0, "-:1\n")

@@ -75,5 +75,6 @@ for edit in "$here"/checks/memory/*.edit; do
         failed=$((failed + 1))
     fi
 done
+echo "mutants rejected by tests: $passed of $((passed + failed))"
 echo "$passed passed, $failed failed"
 [ "$failed" = 0 ]

@@ -71,7 +71,8 @@ wants 0 "[1]$line" '' "$members" select '$[?(@.m == 0)].m1'
 wants 2 '' "$usage" '{}' remove '$' '$'
 wants 1 '' "serde error: $line*" '' select '$'
 wants 2 '' "$usage" '' select
-wants 2 '' "$usage" '' 
+"$here/crates/jsonpath_main/out/jsonpath_main" > "$out" 2> "$err" < /dev/null
+judge "$?" 2 '' "$usage" 'no words'
 wants 2 '' "$usage" '{}' select '$' '$'
 wants 2 '' "$usage" '{}' choose '$'
 wants 1 '' "path error: ${line}Eof$line$line" '' check '$['

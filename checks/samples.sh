@@ -2,10 +2,10 @@
 # Compares what documents and comments show with what is tried. Each example at a public item runs as a test, which this
 # script makes of it and 'rt try' runs, or stands word for word in a test: of jsonpath_tests, or of checks/samples, which runs
 # beside, where examples of a type go on from one another. (Its files are named .rs, since the gate wants each .rt file in
-# a crate.) Each sample of a module's comment, of docs/GUIDE.md and of README stands so; each row of a path in README
-# stands in docs/PATHS.md, which jsonpath_rows replays. Each item that a library or jsonpath_run gives out has an example:
-# each function, type and trait, each method of a type's own, and each law. Each call of README's table of calls is one that
-# jsonpath_lib gives out, or a method of the types above it. Last line: 'N passed, M failed'.
+# a crate.) Each sample of a module's comment, and each function of docs/LIBRARY.md, stands so; its program, which is README's,
+# is run. Each row of a path in README stands in docs/PATHS.md, which jsonpath_rows replays, as docs/FROM-OTHERS.md. Each item that a library or jsonpath_run gives out has an example:
+# each function, type and trait, each method of a type's own, and each law. Each call of the table of calls of docs/LIBRARY.md is
+# one that jsonpath_lib gives out, or a method of the types above it. Last line: 'N passed, M failed'.
 set -u
 cd "$(dirname "${BASH_SOURCE[0]}")/.." || exit 1
 exec python3 - << 'TEXT'
@@ -71,8 +71,11 @@ def imports_of(samples):
             lines.append(f"use {library}::{{{', '.join(sorted({*wanted, *(['Fail'] if library == 'std::test' else [])}))}}};")
     return lines
 
-def outcomes(samples):
-    """Runs each sample as a test: the samples that end well, by their number, and what was said."""
+def is_program(sample):
+    return any(it.startswith("fn main(") for it in sample)
+
+def outcomes(samples, programs):
+    """Runs each sample and each program as a test: the samples that end well, by their number, and what was said."""
     with tempfile.TemporaryDirectory() as work:
         for name in ["HANDLES", "crates.txt", "crates"]:
             copy = shutil.copytree if os.path.isdir(name) else shutil.copy
@@ -87,6 +90,11 @@ def outcomes(samples):
             module = os.path.basename(file)[:-3]
             shutil.copy(file, f"{work}/crates/jsonpath_samples/src/{module}.rt")
             text += ["#[cfg(test)]", f"mod {module};"]
+        for number, program in enumerate(programs):
+            with open(f"{work}/crates/jsonpath_samples/src/program_{number}.rt", "w", encoding="utf-8") as it:
+                it.write("\n".join(["//! A program.", *(line.replace("fn main(", "pub fn main(") for line in program)]) + "\n")
+            text += ["#[cfg(test)]", f"mod program_{number};", "", "#[test]", f"fn runs_program_{number}(rt: HostRuntime) -> Result<(), Fail> {{"]
+            text += [f"    program_{number}::main(rt);", "    Ok(())", "}"]
         for number, sample in enumerate(samples):
             text += ["", "#[test]", f"fn sample_{number}(rt: HostRuntime) -> Result<(), Fail> {{", "    let alloc = rt.alloc();"]
             text += [f"    {it}" for it in sample] + ["    Ok(())", "}"]
@@ -110,7 +118,14 @@ for file in sorted(glob.glob("crates/*/src/**/*.rt", recursive=True)):
                 # The example of a law calls that of its own crate, which `jsonpath_lib` need not give out.
                 own = f"{file.split('/')[1]}::laws::" if file.endswith("/laws.rt") else "laws::"
                 run.append((f"{file}:{number}", [re.sub(r"\blaws::", own, it) for it in sample]))
-passed_alone, together, said = outcomes([sample for _, sample in run])
+PAGES = ["README.md", "docs/LIBRARY.md"]
+shown_programs = [sample for page in PAGES for _, kind, sample in samples_of(lines_of(page)) if kind == "rust" and is_program(sample)]
+passed_alone, together, said = outcomes([sample for _, sample in run], shown_programs)
+judge(len(shown_programs) == 2, f"the pages show {len(shown_programs)} programs")
+for number, program in enumerate(shown_programs):
+    judge(re.search(rf"^test runs_program_{number} \.\.\. ok$", said, re.MULTILINE), f"program {number} of the pages does not run")
+    for output in re.findall(r"// (\[.*)$", "\n".join(program), re.MULTILINE):
+        judge(said.count(f"{output}\n") >= len(shown_programs), f"program {number} of the pages does not print {output}")
 for name, outcome in together:
     judge(outcome == "ok", f"checks/samples, {name}: {outcome}")
 judge(len(together) >= 20, f"checks/samples has {len(together)} tests alone")
@@ -156,23 +171,23 @@ for library in LIBRARIES:
                 judge(has_example(lines, number), f"{file}:{number + 1}: there is no example at {item[2]}")
 judge(items >= 200, f"the libraries give out {items} items alone")
 
-# The guide: each sample stands in a test, and each function in both, with either error type.
+# The page of the library: each sample stands in a test, and each function in both, with either error type.
 programs = ["\n" + "\n".join(map(str.strip, lines_of(f"crates/jsonpath_tests/tests/library/{it}.rs"))) + "\n" for it in ("guide", "guide_anyhow")]
 shown_functions = 0
-for number, kind, sample in samples_of(lines_of("docs/GUIDE.md")):
-    if kind != "rust":
+for number, kind, sample in samples_of(lines_of("docs/LIBRARY.md")):
+    if kind != "rust" or is_program(sample):
         continue
     lines = "\n" + "\n".join(map(str.strip, sample)) + "\n"
     is_function = any(it.startswith("fn ") for it in sample)
     shown_functions += is_function
-    judge((all if is_function else any)(lines in it for it in programs), f"docs/GUIDE.md:{number}: the sample stands in no test")
-judge(shown_functions >= 8, f"docs/GUIDE.md shows {shown_functions} programs alone")
+    judge((all if is_function else any)(lines in it for it in programs), f"docs/LIBRARY.md:{number}: the sample stands in no test")
+judge(shown_functions >= 8, f"docs/LIBRARY.md shows {shown_functions} programs alone")
 
 def kinds_of(kind):
     """A type, and the traits that it has."""
     return [kind, *(trait for it, trait in traits if it == kind)]
 
-# README: the table of calls, rows of paths and samples of code.
+# The table of calls, and README's rows of paths.
 def faults_in_calls(lines):
     """What is wrong in the table of calls: cells without a call that no remark below explains, and calls that are not there."""
     faults, seen, given, head = [], 0, given_out("jsonpath_lib") & functions, []
@@ -195,9 +210,9 @@ def faults_in_calls(lines):
                         faults.append(f"{cells[0]}: {dot}{name}")
     return faults, seen
 
-faults, seen = faults_in_calls(lines_of("README.md"))
-judge(not faults, f"README.md, the table of calls: {'; '.join(faults)}")
-judge(seen >= 40, f"README.md has {seen} calls in its table alone")
+faults, seen = faults_in_calls(lines_of("docs/LIBRARY.md"))
+judge(not faults, f"docs/LIBRARY.md, the table of calls: {'; '.join(faults)}")
+judge(seen >= 40, f"docs/LIBRARY.md has {seen} calls in its table alone")
 made_up = ["| Wanted | path text | `PathCompiled`, `Node` | `PathSelector` | `SelectorMut` |", "|---|---|---|---|---|",
     "| any | `select` | `.exists` | *held* | `.select_as` |", "| set | `is_path` | `.set` | *lost* | |", "", "- *held*: it is.", "| set | `no_call` |"]
 judge(faults_in_calls(made_up) == (["set: is_path", "set: .set", "set: *lost*", "set: an empty cell"], 5), "the rule on calls does not tell its own cases apart")
@@ -215,15 +230,15 @@ def rows_of(file):
             rows.append(tuple(cells[:3]))
     return rows
 
-judge(lines_of("docs/PATHS.md") == lines_of("crates/jsonpath_rows/data/PATHS.md"), "docs/PATHS.md isn't the page that jsonpath_rows replays")
+for page in ["PATHS.md", "FROM-OTHERS.md"]:
+    judge(lines_of(f"docs/{page}") == lines_of(f"crates/jsonpath_rows/data/{page}"), f"docs/{page} isn't the page that jsonpath_rows replays")
 replayed = set(rows_of("docs/PATHS.md"))
 readme = rows_of("README.md")
 for row in readme:
     judge(row in replayed, f"README.md: docs/PATHS.md has no row {' '.join(row)}")
 judge(len(readme) >= 8, f"README.md has {len(readme)} rows of paths alone")
 for number, kind, sample in samples_of(lines_of("README.md")):
-    if kind == "rust":
-        judge(is_tested(sample), f"README.md:{number}: the sample stands in no test")
+    judge(kind != "rust" or is_program(sample), f"README.md:{number}: the sample is no program")
 
 print(f"{passed} passed, {failed} failed")
 sys.exit(failed != 0)

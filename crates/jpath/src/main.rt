@@ -1,4 +1,4 @@
-//! The program `jpath`: reads its words and runs what they ask for.
+//! The program `jpath`: parses its command line and does the task.
 #![tactic(auto)]
 
 mod run;

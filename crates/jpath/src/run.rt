@@ -1,12 +1,14 @@
-//! The run: what is asked for is done file by file, a table's header and the numbers of matches are written, and the
-//! exit status is answered.
+//! The run: the task is done file by file, a table's header and the numbers of matches are written, and the exit
+//! status is returned.
 
 mod document_visitor;
 mod one_document;
 
 use document_visitor::{DocumentVisitor, Stop};
 use jpath_core::{Ended, How, ReadFailure, add_header, visit_documents};
-use jpath_files::{FaultTellingReader, FaultTellingWriter, put_in_place};
+use jpath_files::{
+    FaultTellingReader, FaultTellingWriter, FileToEdit, Way, open_to_edit, put_in_place,
+};
 use jpath_tasks::{Task, Wanted};
 use jsonpath_streams::{Checked, IoFailed, Output};
 use std::alloc::Global;
@@ -23,7 +25,7 @@ struct Progress<'r, 'w, W> {
     has_failed: bool,
 }
 
-/// Does what is wanted with the documents of all files, writes what is held of the output, and answers the exit status.
+/// Does the task for the documents of all files, flushes the output, and returns the exit status.
 pub fn run_over_files<'r>(rt: &'r HostRuntime, wanted: &'r Wanted<'_>) -> u8 {
     let is_pipe_closed = Cell::new(false);
     let writer = Checked::new(FaultTellingWriter {
@@ -94,6 +96,9 @@ fn process_one_file<'r, W: Output>(
     name: &'r str,
     run: &mut Progress<'r, '_, W>,
 ) -> Result<(), Stop> {
+    if wanted.is_in_place {
+        return edit_one_file(rt, wanted, name, run);
+    }
     if name == "-" {
         return process_one_stream(rt, wanted, name, rt.stdin(), run);
     }
@@ -107,8 +112,8 @@ fn process_one_file<'r, W: Output>(
     }
 }
 
-// Does what is wanted with the documents of one open file or of standard input: writes its matches, or their number, or
-// puts the edited text into the file. Answers a `Stop` where the run is not to go on with the next file.
+// Does what is wanted with the documents of one open file or of standard input: writes its matches, or their number.
+// Answers a `Stop` where the run is not to go on with the next file.
 fn process_one_stream<'r, R: Read + Drop, W: Output>(
     rt: &'r HostRuntime,
     wanted: &Wanted<'_>,
@@ -116,29 +121,65 @@ fn process_one_stream<'r, R: Read + Drop, W: Output>(
     reader: R,
     run: &mut Progress<'r, '_, W>,
 ) -> Result<(), Stop> {
-    let held = run.visit.output.bytes.len();
-    run.visit.name = name;
-    let mut reader = Checked::new(FaultTellingReader { rt, name, reader });
-    let Ended { count, how } = visit_documents(rt.alloc(), &mut reader, &mut run.visit);
-    drop(reader);
-    if count > 0 {
-        run.has_found = true;
-    }
+    let Ended { count, how } = visit_one_stream(rt, name, reader, run);
     if let Task::Count(_) = wanted.task {
         add_count_line(rt.alloc(), wanted, name, count, &mut run.visit.output.bytes)?;
     }
-    if let How::ReadFailed(failure) = how {
+    stop_or_go_on(how)
+}
+
+// Edits one file in place: its edited text is put into the place of its content, where all its documents were read and
+// an edit selects something. A fault is told, and the file passed over. Answers a `Stop` where the run is not to go on
+// with the next file.
+fn edit_one_file<'r, W: Output>(
+    rt: &'r HostRuntime,
+    wanted: &Wanted<'_>,
+    name: &'r str,
+    run: &mut Progress<'r, '_, W>,
+) -> Result<(), Stop> {
+    let held = run.visit.output.bytes.len();
+    let way = match wanted.is_copied {
+        true => Way::IntoFile,
+        false => Way::NewFile,
+    };
+    match open_to_edit(rt, name, way) {
+        Ok(edited) => {
+            let Ended { count, how } = visit_one_stream(rt, name, &edited.file, run);
+            let is_edited = how == How::Whole && count > 0;
+            if is_edited && !put_text(rt, name, &edited, &run.visit.output.bytes, held) {
+                run.has_failed = true;
+            }
+            run.visit.output.bytes.truncate(held);
+            stop_or_go_on(how)
+        }
+        Err(fault) => {
+            let _ = eprintln!(rt; "jpath: {name}: {fault}");
+            run.has_failed = true;
+            Ok(())
+        }
+    }
+}
+
+// Visits the documents of one open file or of standard input, and answers how many matches they have and how the stream
+// ended; a fault is told.
+fn visit_one_stream<'r, R: Read + Drop, W: Output>(
+    rt: &'r HostRuntime,
+    name: &'r str,
+    reader: R,
+    run: &mut Progress<'r, '_, W>,
+) -> Ended<Stop> {
+    run.visit.name = name;
+    let mut reader = Checked::new(FaultTellingReader { rt, name, reader });
+    let ended = visit_documents(rt.alloc(), &mut reader, &mut run.visit);
+    drop(reader);
+    if ended.count > 0 {
+        run.has_found = true;
+    }
+    if let How::ReadFailed(failure) = ended.how {
         run.has_failed = true;
         tell_if_out_of_memory(rt, name, failure);
     }
-    if wanted.is_in_place {
-        let is_edited = how == How::Whole && count > 0;
-        if is_edited && !replace_file(rt, name, &run.visit.output.bytes, held) {
-            run.has_failed = true;
-        }
-        run.visit.output.bytes.truncate(held);
-    }
-    stop_or_go_on(how)
+    ended
 }
 
 // Tells that there is no memory to read a file. Where a read failed instead, that is told already.
@@ -160,12 +201,18 @@ fn stop_or_go_on(how: How<Stop>) -> Result<(), Stop> {
 
 // Puts the bytes behind the first `held`, the file's edited text, in the place of its content. Answers whether that is
 // done; a fault is told.
-fn replace_file(rt: &HostRuntime, name: &str, bytes: &Vec<u8>, held: usize) -> bool {
-    let edited = bytes.as_slice().get(held..).unwrap_or(b"");
-    match put_in_place(rt, name, edited) {
+fn put_text(
+    rt: &HostRuntime,
+    name: &str,
+    edited: &FileToEdit,
+    bytes: &Vec<u8>,
+    held: usize,
+) -> bool {
+    let text = bytes.as_slice().get(held..).unwrap_or(b"");
+    match put_in_place(rt, edited, text) {
         Ok(()) => true,
-        Err(error) => {
-            let _ = eprintln!(rt; "jpath: {name}: {error}");
+        Err(fault) => {
+            let _ = eprintln!(rt; "jpath: {name}: {fault}");
             false
         }
     }

@@ -1,4 +1,4 @@
-//! Edits by a path: the text of a document with what the path selects changed, and checked before it is handed on.
+//! Edits by a path: the text of a document with what the path selects changed, and checked before it is returned.
 
 ghost use Rattle.std.specs.Prelude.{◌≡◌, true, Some, IfOk};
 ghost use Rattle.std.specs.List.Sorted.{IsStrictlySortedBy};
@@ -21,25 +21,25 @@ use jsonpath_nodes::laws::spots_show_their_locations;
 use jsonpath_nodes::{Location, compute_paths};
 use std::alloc::Global;
 
-/// An edited document.
+/// The result of an edit: the edited text, and what the path selects.
 #[derive(Drop)]
 pub struct Edited {
     /// Its text.
     pub text: Vec<u8>,
-    /// How many places the path selects below the root.
+    /// How many locations the path selects below the root.
     pub targets: usize,
     /// Whether it selects the root, which is no target.
     pub selects_root: bool,
 }
 
-/// The text of a document with the topmost places that a path selects below the root changed, all at
-/// once. The text is the document's own. What gives way is the text of the value at each of these places,
-/// or, where it is taken, the member or item there, its name and colon, and blanks and at most one comma
-/// on either side; of a name that comes again, each member. Every other byte stays.
+/// The text of a document with the values changed that a path selects below the root (those in no other selected
+/// one), all at once. The text is the document's own. Replaced is the text of each such value; to remove it, that of
+/// the member or item: its name and colon, and blanks and at most one comma on either side; of a name that occurs
+/// again, each member. Every other byte stays.
 ///
-/// What was written is checked before it is handed on. It is refused as `EditDiffers`, which is never
-/// seen, where a part that gives way, read again, is not what stands at its place, or where the whole,
-/// read again, is not the changed document; and as `EditNests` where it nests too deep.
+/// The edited text is checked before it is returned. Errors: `EditDiffers`, which is never seen, if a replaced part,
+/// read again, is not the value at its location, or if the whole, read again, is not the changed document; and
+/// `EditNests` if it nests too deep.
 pub fn edit_text(
     alloc: Global,
     text: &str,

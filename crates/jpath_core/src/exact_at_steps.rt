@@ -1,4 +1,4 @@
-//! What stands in the exact tree where a spot's steps lead.
+//! The value of the exact tree at a node's location.
 
 ghost use Rattle.std.specs.Prelude.{◌≡◌, option_map, IfSome};
 ghost use Rattle.json.specs.Tree.{HasNumbers};
@@ -9,7 +9,7 @@ ghost use Rattle.jpath_edits.specs.ExactAt.{exact_child, exact_at};
 use json::Value as Exact;
 use jsonpath_nodes::{PathStep, Steps};
 
-/// The value of the exact tree where a spot's steps lead, if there is one. It takes no memory.
+/// The value of the exact tree at the location that these steps lead to, or `None`. It takes no memory.
 pub fn exact_value_at_steps<'v, 'a>(
     root: &'v Exact<'a>,
     steps: Steps<'_, '_>,

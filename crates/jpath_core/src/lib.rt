@@ -1,4 +1,4 @@
-//! What `jpath` writes for the paths that are asked for: lines, tables, edits.
+//! What `jpath` writes for paths: lines, tables, edits.
 #![tactic(auto)]
 
 mod edit;

@@ -1,5 +1,5 @@
-//! What a path selects in a document: found on its image, the copy on which paths are run, where other numbers in the
-//! same order may stand for the document's.
+//! What a path selects in a document: found in its image, the copy on which paths are run, in which the numbers may
+//! be replaced by others in the same order.
 
 ghost use Rattle.std.specs.Prelude.{◌≡◌, true, IfOk};
 ghost use Rattle.serde_json.specs.View.{view};
@@ -13,7 +13,8 @@ use jsonpath_select::{JsonPathError, select_path, select_tokens, tokens_fit};
 use serde_json::Value;
 use std::alloc::Global;
 
-/// Spots, in the document's image, at what a path selects in the document, in the path's order, with its repeats.
+/// The nodes, in the document's image, at the locations that a path selects in the document, in the path's order,
+/// with duplicates.
 pub fn select_in_document<'v>(
     alloc: Global,
     document: &'v Document<'_>,
@@ -24,8 +25,8 @@ pub fn select_in_document<'v>(
     select_in_image(alloc, &document.image, &document.numbers, query)
 }
 
-/// Spots at what a path selects in an image, or in a value of one, which is then the path's `$`. `numbers` says how the
-/// numbers stand in the image.
+/// The nodes that a path selects in an image, or in a value of one, which is then the path's `$`. `numbers` says how
+/// the image represents the numbers.
 pub fn select_in_image<'v>(
     alloc: Global,
     image: &'v Value,

@@ -1,4 +1,4 @@
-//! Changes of a document's text: what stands at places gives way, and every other byte stays.
+//! Changes of a document's text: the values at some locations are replaced, and every other byte stays.
 
 ghost use Rattle.std.specs.Prelude.{◌≡◌, IfOk};
 ghost use Rattle.json.specs.Value.{value_view};
@@ -13,12 +13,12 @@ use json::Value as Exact;
 use jsonpath_nodes::Location;
 use std::alloc::Global;
 
-/// What becomes of a target.
+/// What an edit does with the value at a target.
 #[derive(Clone, Copy, Debug, Drop)]
 pub enum Change<'c> {
-    /// This text takes its place.
+    /// Replaces it by this text.
     Put(&'c str),
-    /// It goes, with its comma and the blanks before it.
+    /// Removes it, with its comma and the blanks before it.
     Take,
 }
 
@@ -34,9 +34,9 @@ impl<'c> Change<'c> {
     }
 }
 
-/// The text with what stands at the topmost of these places below the root changed, all at once. `exact` is the exact
-/// tree of the text. The places stand in document order. Refused as `EditDiffers`, which is never seen, where a part
-/// that gives way, read again, is not what stands at its place.
+/// The text with the values changed that are at these locations below the root (those below no other of them), all
+/// at once. `exact` is the exact tree of the text. The locations are in document order. The error `EditDiffers`,
+/// which is never seen, means that a replaced part, read again, is not the value at its location.
 pub fn changed_text(
     alloc: Global,
     text: &str,

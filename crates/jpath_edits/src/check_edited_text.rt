@@ -41,10 +41,10 @@ fn document_with_change(
     }
 }
 
-/// Whether the bytes, read again, are the document of this text with the change made at the topmost of the places.
-/// `image` is the document as `serde_json` reads it, None where it refuses a number; then, and where it refuses a
-/// number of what is put, all numbers are taken for alike. False where the bytes are no UTF-8. Refused as
-/// `EditNests` where they are text that can't be read.
+/// Whether the bytes, read again, are the document of this text with the change made at these locations. `image` is
+/// the document as `serde_json` reads it, `None` if it rejects a number; then, and if it rejects a number of the new
+/// value, all numbers count as equal. False if the bytes are no UTF-8. The error `EditNests` means that they are
+/// text that can't be read.
 pub fn are_bytes_of_changed_document(
     alloc: Global,
     text: &str,

@@ -1,4 +1,4 @@
-//! What stands at a location of the exact tree.
+//! The value at a location of the exact tree.
 
 ghost use Rattle.std.specs.Prelude.{◌≡◌, option_map};
 ghost use Rattle.json.specs.Value.{value_view};

@@ -1,5 +1,5 @@
-//! Edits of a document's text: what stands at places of it, which parts of the text give way there, and what the edited
-//! text is, read again.
+//! Edits of a document's text: the values at some locations, the parts of the text that are replaced there, and what
+//! the edited text is, read again.
 #![tactic(auto)]
 
 mod change;

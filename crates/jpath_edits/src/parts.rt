@@ -1,4 +1,4 @@
-//! The parts of a document's text that give way where an edit changes it: how they are found, checked and replaced.
+//! The parts of a document's text that an edit replaces: how they are found, checked and replaced.
 
 pub(crate) mod check_parts;
 pub(crate) mod check_taken_parts;

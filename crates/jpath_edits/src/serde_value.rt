@@ -8,7 +8,7 @@ use jpath_texts::DocumentRefusal;
 use serde_json::Value;
 use std::alloc::Global;
 
-/// The value of a JSON text as `serde_json` reads it; None where it refuses the text.
+/// The value of a JSON text as `serde_json` reads it; `None` if that returns an error.
 pub fn serde_value_of_text(alloc: Global, text: &str) -> Result<Option<Value>, DocumentRefusal>
     ensures { IfOk result (λ found. option_map view found ≡ read text.now) }
 {

@@ -1,4 +1,4 @@
-//! Which of a list of locations are changed: those below the root, and the topmost of these.
+//! Which of a list of locations are changed: those below the root that are below no other of the list.
 
 ghost use Rattle.std.specs.Prelude.{◌≡◌, map, option_map, IfOk};
 ghost use Rattle.jsonpath_nodes.specs.step.SameMembers.{is_at_or_below, topmost};
@@ -7,7 +7,7 @@ ghost use Rattle.jpath_edits.specs.Changed.{below_root};
 use jsonpath_nodes::Location;
 use std::alloc::{AllocError, Global};
 
-/// The places without the root, which stands first if it is among them.
+/// The locations without the root, which is the first if it is among them.
 pub fn locations_below_root(places: &[Location]) -> &[Location]
     ensures { result.now ≡ below_root places.now }
 {

@@ -1,9 +1,9 @@
-//! Readers of files and a writer to standard output that tell their faults.
+//! Readers of files and a writer to standard output that print their errors.
 
 use std::cell::Cell;
 use std::io::{self, ErrorKind, Read, Write};
 
-/// A reader of a file that tells each fault on standard error, with the file's name, and answers it.
+/// A reader of a file that prints each error on standard error, with the file's name, and returns it.
 #[derive(Drop)]
 pub struct FaultTellingReader<'r, T, R> {
     pub rt: &'r T,
@@ -29,8 +29,8 @@ impl<'r, T: Eprint, R: Read> Read for FaultTellingReader<'r, T, R> {
     }
 }
 
-/// A writer to standard output that tells each fault of a write on standard error and answers it. A pipe that nobody
-/// reads any more is not told: `is_pipe_closed` is set.
+/// A writer to standard output that prints each error of a write on standard error and returns it. A closed pipe is
+/// not reported: `is_pipe_closed` is set.
 #[derive(Drop)]
 pub struct FaultTellingWriter<'r, 'c, T, W> {
     pub rt: &'r T,

@@ -1,4 +1,4 @@
-//! Standard output held back and written in large pieces.
+//! Standard output, buffered and written in large pieces.
 
 ghost use Rattle.std.specs.Prelude.{◌≡◌, ◌<◌, ◌≤◌, [], ◌++◌, drop, length, true, OnOk, OnErr};
 
@@ -9,7 +9,7 @@ use std::mem;
 // From so many bytes on, what is held is handed on.
 const ROOM: usize = 65536;
 
-/// What is written and not yet handed on, and where it goes.
+/// A buffer of output, and the writer that it goes to.
 #[derive(Drop)]
 pub struct HeldOutput<W> {
     pub writer: W,
@@ -17,7 +17,7 @@ pub struct HeldOutput<W> {
 }
 
 impl<W: Output> HeldOutput<W> {
-    /// An output to this writer that holds nothing.
+    /// An empty buffer before this writer.
     pub fn new(alloc: Global, writer: W) -> HeldOutput<W>
         ensures writer { result.writer ≡ writer }
         ensures nothing { result.bytes.items ≡ [] }
@@ -28,8 +28,8 @@ impl<W: Output> HeldOutput<W> {
         }
     }
 
-    /// Holds a text behind what is held: all of it, or nothing where memory is refused. Where nothing is held, the two
-    /// buffers change places and no byte is copied; else `text` keeps its bytes. So the caller clears it before the
+    /// Appends a text to the buffer: all of it, or nothing if memory runs out. If the buffer is empty, it changes
+    /// places with `text` and no byte is copied; else `text` keeps its bytes. So the caller clears it before the
     /// next text.
     pub fn hold_text(&mut self, text: &mut Vec<u8>) -> Result<(), AllocError>
         ensures ok { OnOk result (W.written self.new.writer ++ self.new.bytes.items ≡ (W.written self.old.writer ++ self.old.bytes.items) ++ text.old.items) }
@@ -42,8 +42,8 @@ impl<W: Output> HeldOutput<W> {
         self.bytes.extend_from_slice(text.as_slice())
     }
 
-    /// Hands all that is held to the writer once that is `ROOM` bytes (64 KB) or more. Where that fails, what was not
-    /// taken is still held.
+    /// Writes the buffer out once it has `ROOM` bytes (64 KB) or more. If that fails, what was not written is still
+    /// in the buffer.
     pub fn flush_if_full(&mut self) -> Result<(), IoFailed>
         ensures same { W.written self.new.writer ++ self.new.bytes.items ≡ W.written self.old.writer ++ self.old.bytes.items }
         ensures relieved { OnOk result (length self.new.bytes.items < ROOM) }
@@ -56,7 +56,7 @@ impl<W: Output> HeldOutput<W> {
         self.flush()
     }
 
-    /// Hands all that is held to the writer. Where that fails, what was not taken is still held.
+    /// Writes the buffer out. If that fails, what was not written is still in the buffer.
     pub fn flush(&mut self) -> Result<(), IoFailed>
         ensures same { W.written self.new.writer ++ self.new.bytes.items ≡ W.written self.old.writer ++ self.old.bytes.items }
         ensures flushed { OnOk result (self.new.bytes.items ≡ []) }

@@ -1,16 +1,18 @@
-//! How a refused document is told: its file, line and column, and why. It is handed in as a piece of a stream: its
-//! bytes, with the blanks before it.
+//! How an error of a document is reported: its file, line and column, and the reason. The document comes as a piece
+//! of a stream: its bytes, with the blanks before it.
 
-ghost use Rattle.std.specs.Prelude.{◌≤◌, length};
+ghost use Rattle.std.specs.Prelude.{◌≡◌, ◌≤◌, ◌<◌, ◌==◌, length, not, position, IfSome};
+ghost use Rattle.jsonpath_streams.specs.DocumentEnds.{is_json_whitespace};
+ghost use Rattle.jpath_files.specs.GivenUp.{len_through_first_line};
 
 use jpath_texts::{DocumentRefusal, LineColumn};
-use serde_json::Value;
+use json_recognizer::{Found, Wanted, find_end, start, wanted_at};
 use std::alloc::Global;
-use std::str;
+use std::fmt::{self, Display, Formatter};
 
-/// Tells on standard error why a piece of a stream, which begins at this place, is no document or is refused, with
-/// file, line and column. Answers how many bytes of the piece are given up with it: those up to the end of the line on
-/// which its first byte stands that is no blank.
+/// Prints on standard error why a piece of a stream, which begins at this position, is no document or can't be used,
+/// with file, line and column. Returns how many bytes of the piece are skipped with it: those up to the end of the
+/// line of its first byte that is no blank.
 pub fn tell_refused_document(
     rt: &(impl Eprint + Alloc<A = Global>),
     name: &str,
@@ -18,9 +20,10 @@ pub fn tell_refused_document(
     place: LineColumn,
     refusal: DocumentRefusal,
 ) -> usize
-    ensures { result ≤ length bytes.now }
+    ensures passed { result ≡ len_through_first_line bytes.now }
+    ensures within { result ≤ length bytes.now }
 {
-    let (at, why) = position_and_reason(rt.alloc(), bytes, refusal);
+    let (at, why) = position_and_reason(bytes, refusal);
     let line = place.line.saturating_add(at.line.saturating_sub(1));
     let column = if at.line <= 1 {
         place.column.saturating_add(at.column.saturating_sub(1))
@@ -31,60 +34,66 @@ pub fn tell_refused_document(
     len_through_first_nonblank_line(bytes)
 }
 
+// Why a piece is refused.
+#[derive(Drop)]
+enum Reason {
+    // What was wanted in the place of a byte.
+    Wanted(Wanted),
+    Sentence(&'static str),
+}
+
+impl Display for Reason {
+    fn fmt<W: fmt::Write>(&self, f: &mut Formatter<W>) -> fmt::Result {
+        match self {
+            Reason::Wanted(wanted) => write!(f, "{wanted}"),
+            Reason::Sentence(sentence) => f.write_str(*sentence),
+        }
+    }
+}
+
 // The line and column, both from 1 in the piece, at which a piece is refused, and why.
-fn position_and_reason(
-    alloc: Global,
-    bytes: &[u8],
-    refusal: DocumentRefusal,
-) -> (LineColumn, &'static str) {
+fn position_and_reason(bytes: &[u8], refusal: DocumentRefusal) -> (LineColumn, Reason) {
     let first = LineColumn {
         line: first_nonblank_line(bytes),
         column: 1,
     };
-    match refusal {
-        DocumentRefusal::HugeExponent => (
-            first,
-            "a number is compared whose exponent has more than 38 digits",
-        ),
-        DocumentRefusal::EditNests => (
-            first,
-            "the edited document would nest deeper than 127 levels",
-        ),
-        DocumentRefusal::EditDiffers => (
-            first,
-            "the edited text is another document than it should be, so it is not written",
-        ),
-        DocumentRefusal::OutOfMemory => (first, "out of memory"),
-        DocumentRefusal::NotADocument => match str::from_utf8(bytes) {
-            Ok(text) => position_and_reason_in_text(alloc, text, first),
-            Err(error) => (
-                line_and_column_of_byte(bytes, error.valid_up_to()),
-                "the text is no UTF-8",
-            ),
-        },
-    }
+    let sentence = match refusal {
+        DocumentRefusal::HugeExponent => {
+            "a number is compared whose exponent has more than 38 digits"
+        }
+        DocumentRefusal::EditNests => "the edited document would nest deeper than 127 levels",
+        DocumentRefusal::EditDiffers => {
+            "the edited text is another document than it should be, so it is not written"
+        }
+        DocumentRefusal::OutOfMemory => "out of memory",
+        DocumentRefusal::NotADocument => return position_and_reason_in_text(bytes, first),
+    };
+    (first, Reason::Sentence(sentence))
 }
 
-// The line and column in the piece at which `serde_json` refuses its text, and why. Where it refuses nothing, `first`
-// stands in their place.
-fn position_and_reason_in_text(
-    alloc: Global,
-    text: &str,
-    first: LineColumn,
-) -> (LineColumn, &'static str) {
-    match Value::from_str(alloc, text) {
-        Ok(_) => (first, "no JSON"),
-        Err(error) => {
-            let at = LineColumn {
-                line: error.line().max(1),
-                column: error.column().max(1),
-            };
-            let why = match error.is_eof() {
-                true => "the document ends too early",
-                false => "no JSON",
-            };
-            (at, why)
+// The line and column in the piece of the first byte that no document goes on with, and what was wanted there; or of its
+// end, where a document would go on. Where it is a document, `first` stands in their place.
+fn position_and_reason_in_text(bytes: &[u8], first: LineColumn) -> (LineColumn, Reason) {
+    let mut state = start();
+    match find_end(&mut state, bytes) {
+        Found::Refused(at) => (
+            line_and_column_of_byte(bytes, at),
+            Reason::Wanted(wanted_at(&state, bytes[at])),
+        ),
+        Found::Ends(len) => {
+            if len < bytes.len() {
+                (
+                    line_and_column_of_byte(bytes, len),
+                    Reason::Wanted(Wanted::End),
+                )
+            } else {
+                (first, Reason::Sentence("no JSON"))
+            }
         }
+        Found::GoesOn => (
+            line_and_column_of_byte(bytes, bytes.len()),
+            Reason::Sentence("the document ends too early"),
+        ),
     }
 }
 
@@ -117,19 +126,37 @@ fn line_and_column_of_byte(bytes: &[u8], at: usize) -> LineColumn {
 
 // How many bytes there are up to the end of the line on which the first byte stands that is no blank.
 fn len_through_first_nonblank_line(bytes: &[u8]) -> usize
-    ensures { result ≤ length bytes.now }
+    ensures passed { result ≡ len_through_first_line bytes.now }
+    ensures within { result ≤ length bytes.now }
 {
-    let mut has_begun = false;
-    for (at, byte) in bytes.iter().enumerate() {
-        match *byte {
-            b' ' | b'\t' | b'\r' => (),
-            b'\n' => {
-                if has_begun {
-                    return at.saturating_add(1);
-                }
-            }
-            _ => has_begun = true,
-        }
+    let Some(start) = first_nonblank(bytes) else {
+        return bytes.len();
+    };
+    match first_line_end(&bytes[start..]) {
+        Some(at) => start + at + 1,
+        None => bytes.len(),
     }
-    bytes.len()
+}
+
+// Where the first byte stands that is no blank.
+fn first_nonblank(bytes: &[u8]) -> Option<usize>
+    ensures at { result ≡ position (λ byte. not (is_json_whitespace byte)) bytes.now }
+    ensures within { IfSome result (λ at. at < length bytes.now) }
+{
+    bytes.iter().position(|byte| !is_blank(*byte))
+}
+
+// Where the first line ends.
+fn first_line_end(bytes: &[u8]) -> Option<usize>
+    ensures at { result ≡ position (λ byte. byte == 10) bytes.now }
+    ensures within { IfSome result (λ at. at < length bytes.now) }
+{
+    bytes.iter().position(|byte| *byte == b'\n')
+}
+
+// Whether the byte is one of the four blanks that JSON has between its parts.
+fn is_blank(byte: u8) -> bool
+    ensures { result ≡ is_json_whitespace byte }
+{
+    (byte == b' ') | (byte == b'\t') | (byte == b'\n') | (byte == b'\r')
 }

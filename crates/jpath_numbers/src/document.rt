@@ -1,4 +1,4 @@
-//! A document, as it stands in its text and as paths are run on it.
+//! A document, as it is in its text and as paths are run on it.
 
 ghost use Rattle.std.specs.Prelude.{◌≡◌, true, false, Some, IfOk, IfErr};
 ghost use Rattle.std.specs.List.{All};
@@ -21,18 +21,18 @@ use std::alloc::Global;
 /// A document: its exact tree, and its image, which paths are run on.
 #[derive(Drop)]
 pub struct Document<'a> {
-    /// Numbers by their digits, members in their order. It borrows the text.
+    /// The exact tree: numbers by their digits, members in their order. It borrows the text.
     pub exact: Exact<'a>,
-    /// The same values for paths, their numbers as `numbers` says.
+    /// The image, on which paths are run: the same values, with the numbers as `numbers` says.
     pub image: Value,
-    /// How the numbers stand in the image.
+    /// How the image represents the numbers.
     pub numbers: Numbers,
 }
 
 impl<'a> Document<'a> {
-    /// Reads a document from its text, for paths whose filters compare what `compared` says. Its tree borrows the text,
-    /// and `scratch`, where texts stand whose escapes were resolved. Refused with `NotADocument` where the text is no
-    /// JSON document, with `HugeExponent` where an exponent is too long to compare, and with `OutOfMemory`.
+    /// Reads a document from its text, for paths whose filters compare what `compared` says. Its tree borrows the
+    /// text, and `scratch`, which has the texts whose escapes were resolved. Errors: `NotADocument` if the text is
+    /// no JSON document, `HugeExponent` if an exponent is too long to compare, or `OutOfMemory`.
     pub fn read(
         alloc: Global,
         text: &'a str,
@@ -52,7 +52,7 @@ impl<'a> Document<'a> {
     }
 
     /// The document of an exact tree, which was read from this text, for paths whose filters compare what `compared`
-    /// says. Refused with `HugeExponent` where an exponent is too long to compare, and with `OutOfMemory`.
+    /// says. Errors: `HugeExponent` if an exponent is too long to compare, or `OutOfMemory`.
     pub fn of_exact_tree(
         alloc: Global,
         text: &str,

@@ -1,5 +1,5 @@
-//! Copies of a document on which paths compare numbers: `serde_json` values in which other numbers stand for the
-//! document's, in the same order.
+//! Copies of a document on which paths compare numbers: `serde_json` values in which the numbers are replaced by
+//! others in the same order.
 
 ghost use Rattle.std.specs.Prelude.{◌≡◌, true, false, IfOk, IfErr, IfSome, IsSome};
 ghost use Rattle.std.specs.List.{All};
@@ -89,9 +89,8 @@ fn copy_members_if_numbers_fit(
     Ok(Some(Value::Object(images)))
 }
 
-/// A copy of an exact tree as a `serde_json` value, each number replaced by the one that `numbers` puts in its stead.
-/// `numbers` must be `Ranked` or `Alike`: `Scaled` numbers may not fit, and for `AsRead`, which is no way to copy, each
-/// number would be 0.
+/// Copies an exact tree to a `serde_json` value, each number replaced as `numbers` says. `numbers` must be `Ranked`
+/// or `Alike`: `Scaled` numbers may not fit, and for `AsRead`, which is no way to copy, each number would be 0.
 pub fn copy_with_numbers(
     alloc: Global,
     exact: &Exact<'_>,

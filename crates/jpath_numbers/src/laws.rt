@@ -1,18 +1,18 @@
-//! Laws that callers cite. Each is the contract of an empty function.
+//! Lemmas that callers cite. Each is the contract of an empty function.
 
 ghost use Rattle.std.specs.Prelude.{◌≡◌, false};
 ghost use Rattle.jpath_numbers.specs.NumberKey.{OneKey};
 ghost use Rattle.jpath_numbers.specs.NumberPlaces.{KeepsTextOrder, is_alike};
 ghost use Rattle.jpath_numbers.specs.declared.numbers_in_copy.Numbers.{Numbers};
 
-/// One number has one key, whatever zeros, point and exponent it is written with: so equal numbers have
-/// equal ranks.
+/// Lemma: a number has one key, whatever zeros, point and exponent it is written with: so equal numbers have equal
+/// ranks.
 pub fn one_number_one_key()
     ensures { OneKey }
 {}
 
-/// A copy of a document, if its numbers are not all made alike (`Alike`), keeps the order of its numbers: what stands
-/// in it for any two of them compares as these two do, however many digits they are written with.
+/// Lemma: a copy of a document, if its numbers are not all equal (`Alike`), keeps the order of its numbers: the
+/// copies of any two of them compare as these two do, however many digits they are written with.
 pub fn copies_keep_order()
     ensures { (numbers : Numbers) → is_alike numbers ≡ false → KeepsTextOrder numbers }
 {}

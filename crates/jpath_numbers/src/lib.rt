@@ -1,5 +1,5 @@
-//! Numbers in exact order: those of documents, those of the paths that are asked for, and the copies of documents on
-//! which paths compare them.
+//! Numbers in exact order: those of documents, those of paths, and the copies of documents on which paths compare
+//! them.
 #![tactic(auto)]
 
 mod document;

@@ -12,10 +12,9 @@ use jsonpath_paths::Decimal;
 use std::alloc::{AllocError, Global};
 use std::cmp::Ordering;
 
-/// What orders numbers: keys are in the order of their numbers, and equal where the numbers are.
-/// The digits have no 0 in front and none at the end, and the number is 0.DIGITS times ten to the
-/// exponent. A negative number has its exponent negated, each digit taken from 9, and a mark above
-/// all digits at the end.
+/// A key by which numbers compare: keys are in the order of their numbers, and equal if the numbers are. The digits
+/// have no 0 in front and none at the end, and the number is 0.DIGITS times ten to the exponent. A negative number
+/// has its exponent negated, each digit subtracted from 9, and a last digit above all others.
 #[derive(Debug, Drop, PartialEq, Eq, PartialOrd, Ord)]
 pub struct NumberKey {
     side: i8,
@@ -24,7 +23,7 @@ pub struct NumberKey {
 }
 
 impl NumberKey {
-    /// The key of a number's text, or None where 128 bits don't hold its exponent.
+    /// Makes the key of a number's text; `None` if its exponent doesn't fit 128 bits.
     pub fn read(alloc: Global, text: &str) -> Result<Option<NumberKey>, AllocError>
         ensures { IfOk result (λ o. IfSome o (IsKeyOf text.now)) }
     {
@@ -36,7 +35,7 @@ impl NumberKey {
         }
     }
 
-    /// How the numbers of two keys compare: keys stand in the order of their numbers.
+    /// Compares two keys: in the order of their numbers.
     pub fn compare(&self, other: &NumberKey) -> Ordering
         ensures { (s t : List ℕ) → IsKeyOf s self.now → IsKeyOf t other.now → result ≡ text_cmp s t }
     {

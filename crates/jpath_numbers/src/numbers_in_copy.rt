@@ -1,8 +1,8 @@
-//! How the numbers of a document stand in its copy, which filters compare: exactly, however many digits they have.
+//! How a copy of a document, which filters compare, represents its numbers: exactly, however many digits they have.
 //!
-//! A path goes by the order of numbers alone. Where a document has a number that is no whole number of
-//! 64 bits, each of its numbers and each literal of a path is put elsewhere in the same order: all
-//! times one power of ten that makes them whole, or else each at its rank among them.
+//! A path depends on the order of numbers alone. If a document has a number that is not an integer of 64 bits, each
+//! of its numbers and each literal of a path is replaced by another in the same order: all times one power of ten
+//! that makes them integers, or else each by its rank among them.
 
 ghost use Rattle.std.specs.Prelude.{◌≡◌, false, IfOk, IfErr, IfSome, IsSome};
 ghost use Rattle.std.specs.List.{All};
@@ -22,21 +22,21 @@ use jsonpath_paths::{Decimal, ParseToken};
 use serde_json::Number;
 use std::alloc::Global;
 
-/// How the numbers of a document stand in what paths are run on.
+/// How the document copy that paths run on represents the numbers.
 #[derive(Drop)]
 pub enum Numbers {
-    /// As they are read.
+    /// Unchanged, as `serde_json` read them.
     AsRead,
-    /// Each times ten to this power, which is whole.
+    /// Each times ten to this power, which makes it an integer.
     Scaled(u32),
-    /// Each by its rank among these, which rise.
+    /// Each by its rank among these keys, which ascend.
     Ranked(Vec<NumberKey>),
-    /// All alike: nothing compares them.
+    /// All equal: nothing compares them.
     Alike,
 }
 
 impl Numbers {
-    /// Whether the numbers stand as they are read.
+    /// True if the document copy that paths run on has the numbers unchanged, as `serde_json` read them.
     pub fn is_as_read(&self) -> bool
         ensures { result ≡ is_as_read self.now }
     {

@@ -11,7 +11,7 @@ use jsonpath_paths::{
 };
 use std::alloc::Global;
 
-/// A path, compiled, with its token list.
+/// A compiled path, with its token list.
 #[derive(Drop)]
 pub struct Query<'a> {
     path: PathParser<'a>,
@@ -23,14 +23,14 @@ pub struct Query<'a> {
 /// What the filters of some paths compare.
 #[derive(Drop)]
 pub struct Compared {
-    /// Whether some filter compares what may be numbers: a side that is a text or a truth is none.
+    /// Whether some filter compares what may be numbers: a side that is a text or a boolean is none.
     pub is_any: bool,
-    /// The numbers that the paths are written with as sides of comparisons.
+    /// The numbers that the paths have as sides of comparisons.
     pub literals: Vec<Decimal>,
 }
 
 impl<'a> Query<'a> {
-    /// The path that a text spells. Refused exactly where the text is none, and with `OutOfMemory`.
+    /// Parses `text` as a path. Errors: a syntax error exactly if `text` is not a path, or `OutOfMemory`.
     pub fn compile(alloc: Global, text: &'a str) -> Result<Query<'a>, TokenError>
         ensures found { IfOk result (λ query. (query.path ≡ text.now) × IsInGrammar text.now) }
         ensures only { IfErr result (λ e. e ≢ OutOfMemory → IsInGrammar text.now → ⊥) }
@@ -68,7 +68,7 @@ impl<'a> Query<'a> {
 }
 
 impl Compared {
-    /// What the filters of these paths compare. Refused with `OutOfMemory` alone.
+    /// What the filters of these paths compare. The only error is `OutOfMemory`.
     pub fn of_queries(alloc: Global, queries: &[Query<'_>]) -> Result<Compared, TokenError>
         ensures any { IfOk result (λ compared. All (λ q. q.compares ≡ true → compared.is_any ≡ true) queries.now) }
         ensures added { IfOk result (λ compared. All (λ q. HasSides compared.literals.items q.tokens.items (length q.tokens.items)) queries.now) }
@@ -84,7 +84,7 @@ impl Compared {
         Ok(compared)
     }
 
-    /// Adds what the filters of one more path compare. Refused with `OutOfMemory` alone.
+    /// Adds what the filters of one more path compare. The only error is `OutOfMemory`.
     pub fn add_query(&mut self, query: &Query<'_>) -> Result<(), TokenError>
         ensures any { OnOk result (self.new.is_any ≡ (self.old.is_any || query.now.compares)) }
         ensures kept { OnOk result (KeepsLiterals self.old.literals.items self.new.literals.items) }

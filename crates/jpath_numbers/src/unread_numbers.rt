@@ -1,8 +1,8 @@
-//! Unread numbers, those that are no whole numbers of 64 bits: whether a document has one.
+//! Numbers that are not integers of 64 bits: whether a document has one.
 
 use json::Value as Exact;
 
-/// Whether a number that is no whole number of 64 bits stands in the value, at any depth.
+/// Whether the value contains, at any depth, a number that is not an integer of 64 bits.
 #[cycle(unread)]
 pub fn has_unread_number(value: &Exact<'_>) -> bool {
     match value {

@@ -1,4 +1,4 @@
-//! What the words of `jpath` ask for.
+//! The task that `jpath`'s command line asks for.
 #![tactic(auto)]
 
 mod task;

@@ -1,10 +1,13 @@
-//! The task that the words ask for: paths compiled, edits and tables read, words that contradict each other refused,
-//! and how lines are to look.
+//! The task that the command line asks for: paths compiled, edits and tables read, contradictory options rejected,
+//! and the layout of lines.
 
-ghost use Rattle.std.specs.Prelude.{◌≡◌, ◌&&◌, not, false, IfOk, OnOk};
+ghost use Rattle.std.specs.Prelude.{◌≡◌, ◌<◌, ◌&&◌, not, false, true, [], length, All, None, Some, IfOk, OnOk};
+ghost use Rattle.json.specs.Json.{Json};
 ghost use Rattle.json.specs.Tree.{HasNumbers};
 ghost use Rattle.json.specs.Value.{value_view};
-ghost use Rattle.jpath_tasks.specs.Asked.{is_edit, colored_by};
+ghost use Rattle.jpath_texts.specs.Exact.{exact_of};
+ghost use Rattle.jpath_texts.specs.Lines.{compact};
+ghost use Rattle.jpath_tasks.specs.Asked.{is_edit, colored_by, paths_of, files_of, shown_by, queries_of, AreOf, AreEditsOf, Covers, IsAsked, IsEditOf, IsOfMatches, IsValueText};
 
 use crate::word_faults::words_fault;
 use jpath_numbers::{Compared, Query};
@@ -14,7 +17,7 @@ use json::{Scratch, Value as Exact};
 use std::alloc::{AllocError, AllocFailed, Global};
 use std::slice;
 
-/// What is written for each document.
+/// What `jpath` writes for each document.
 #[derive(Drop)]
 pub enum Task<'a> {
     /// A line for each match.
@@ -23,7 +26,7 @@ pub enum Task<'a> {
     Array(Vec<Query<'a>>),
     /// The number of matches in each file.
     Count(Vec<Query<'a>>),
-    /// Nothing.
+    /// Nothing: only the exit status.
     Quiet(Vec<Query<'a>>),
     /// A row for each match of one path, a field for each of the others.
     Table(Table<'a>),
@@ -31,7 +34,7 @@ pub enum Task<'a> {
     Edits(Vec<Edit<'a>>),
 }
 
-/// The rows and columns that are asked for.
+/// A table: the path whose matches are its rows, and its columns.
 #[derive(Drop)]
 pub struct Table<'a> {
     pub rows: Query<'a>,
@@ -41,17 +44,17 @@ pub struct Table<'a> {
     pub has_header: bool,
 }
 
-/// An edit.
+/// An edit: a path, and what becomes of the values that it selects.
 #[derive(Drop)]
 pub struct Edit<'a> {
     pub query: Query<'a>,
     pub compared: Compared,
     pub words: EditWords<'a>,
-    /// The text that takes a target's place.
+    /// The JSON text that replaces a selected value.
     pub value: Vec<u8>,
 }
 
-/// All that the words ask for.
+/// Everything that the command line asks for: the task, how lines look, and the files.
 #[derive(Drop)]
 pub struct Wanted<'a> {
     pub task: Task<'a>,
@@ -62,11 +65,13 @@ pub struct Wanted<'a> {
     pub has_names: bool,
     pub keeps_going: bool,
     pub is_in_place: bool,
+    /// Whether what is edited in place is written into the file itself.
+    pub is_copied: bool,
 }
 
 impl<'a> Wanted<'a> {
-    /// Whether blanks between documents, and a byte order mark before the first, are written as they stand: with edits,
-    /// where the document is not laid out anew.
+    /// Whether blanks between documents, and a byte order mark before the first, are written as they are: with
+    /// edits, unless the document is laid out anew.
     pub fn keeps_blanks_between_documents(&self) -> bool
         ensures { result ≡ is_edit self.now.task && not self.now.look.is_pretty }
     {
@@ -74,16 +79,16 @@ impl<'a> Wanted<'a> {
     }
 }
 
-/// Why nothing is done.
+/// Why no document is read.
 #[derive(Drop)]
 pub enum Refused {
-    /// The words make no sense together; what to write.
+    /// The options make no sense together; the sentence says what to write.
     Words(&'static str),
-    /// A path is refused, which is told already.
+    /// A path has a syntax error, which is printed already.
     Told,
-    /// There is not enough memory.
+    /// Out of memory.
     OutOfMemory,
-    /// The paths were to be looked at alone, and are paths.
+    /// `--check`: only the paths were to be checked, and they are well formed.
     Checked,
 }
 
@@ -109,9 +114,9 @@ impl<T: Drop> From<AllocFailed<T>> for Refused {
     }
 }
 
-/// All that the words ask for: paths compiled, the task, the look of lines and the files. `Refused` where the words
-/// contradict each other, where a path is refused, which is told here with its place, or where the paths alone were to
-/// be checked.
+/// Everything that the command line asks for: paths compiled, the task, the layout of lines and the files. `Refused`
+/// if the options contradict each other, if a path has a syntax error, which is printed here with its position, or
+/// if only the paths were to be checked.
 pub fn wanted_of_words<'a>(
     rt: &(impl Eprint + Alloc<A = Global>),
     words: &Words<'a>,
@@ -121,7 +126,11 @@ pub fn wanted_of_words<'a>(
     ensures names { IfOk result (λ wanted. wanted.has_names ≡ words.now.flags.with_filename) }
     ensures goes_on { IfOk result (λ wanted. wanted.keeps_going ≡ words.now.flags.keep_going) }
     ensures in_place { IfOk result (λ wanted. wanted.is_in_place ≡ words.now.flags.in_place) }
+    ensures copied { IfOk result (λ wanted. wanted.is_copied ≡ words.now.flags.copy) }
     ensures unchecked { OnOk result (words.now.flags.check ≡ false) }
+    ensures files { IfOk result (λ wanted. wanted.files.items ≡ files_of words.now) }
+    ensures task { IfOk result (λ wanted. IsAsked words.now wanted.task) }
+    ensures compared { IfOk result (λ wanted. All (Covers wanted.compared) (queries_of wanted.task)) }
 {
     let alloc = rt.alloc();
     if let Some(sentence) = words_fault(words) {
@@ -149,6 +158,10 @@ fn wanted_with_task<'a>(
     ensures names { IfOk result (λ wanted. wanted.has_names ≡ flags.now.with_filename) }
     ensures goes_on { IfOk result (λ wanted. wanted.keeps_going ≡ flags.now.keep_going) }
     ensures in_place { IfOk result (λ wanted. wanted.is_in_place ≡ flags.now.in_place) }
+    ensures files { IfOk result (λ wanted. wanted.files.items ≡ files.entry.items) }
+    ensures task { IfOk result (λ wanted. wanted.task ≡ task.entry) }
+    ensures compared { IfOk result (λ wanted. All (Covers wanted.compared) (queries_of wanted.task)) }
+    ensures copied { IfOk result (λ wanted. wanted.is_copied ≡ flags.now.copy) }
 {
     let compared = compared_by_task(alloc, &task)?;
     Ok(Wanted {
@@ -163,10 +176,11 @@ fn wanted_with_task<'a>(
         has_names: flags.with_filename,
         keeps_going: flags.keep_going,
         is_in_place: flags.in_place,
+        is_copied: flags.copy,
     })
 }
 
-/// Whether lines are coloured: as the option says or, where it is `auto`, on a terminal where NO_COLOR is not set.
+/// Whether lines are coloured: as `--color` says or, if it is `auto`, on a terminal, unless NO_COLOR is set.
 pub fn wants_color(flags: &Flags, is_terminal: bool, has_no_color: bool) -> bool
     ensures { result ≡ colored_by flags.now.color is_terminal has_no_color }
 {
@@ -182,7 +196,10 @@ pub fn wants_color(flags: &Flags, is_terminal: bool, has_no_color: bool) -> bool
 fn paths_and_files<'a>(
     alloc: Global,
     words: &Words<'a>,
-) -> Result<(Vec<&'a str>, Vec<&'a str>), Refused> {
+) -> Result<(Vec<&'a str>, Vec<&'a str>), Refused>
+    ensures paths { IfOk result (λ found. found.0.items ≡ paths_of words.now) }
+    ensures files { IfOk result (λ found. found.1.items ≡ files_of words.now) }
+{
     if !words.paths.is_empty() || !words.edits.is_empty() {
         let paths = Vec::from_slice(alloc, words.paths.as_slice())?;
         return Ok((paths, Vec::from_slice(alloc, words.rest.as_slice())?));
@@ -204,7 +221,10 @@ fn read_task<'a>(
     rt: &(impl Eprint + Alloc<A = Global>),
     words: &Words<'a>,
     paths: &[&'a str],
-) -> Result<Task<'a>, Refused> {
+) -> Result<Task<'a>, Refused>
+    requires { paths.now ≡ paths_of words.now }
+    ensures { IfOk result (IsAsked words.now) }
+{
     let flags = words.flags;
     if !words.edits.is_empty() {
         return Ok(Task::Edits(read_edits(rt, words.edits.as_slice())?));
@@ -216,7 +236,9 @@ fn read_task<'a>(
 }
 
 // What the flags ask to be written of these paths' matches: their number, nothing, an array, or lines.
-fn task_of_matches<'a>(flags: &Flags, queries: Vec<Query<'a>>) -> Task<'a> {
+fn task_of_matches<'a>(flags: &Flags, queries: Vec<Query<'a>>) -> Task<'a>
+    ensures { IsOfMatches flags.now queries.entry.items result }
+{
     if flags.count {
         Task::Count(queries)
     } else if flags.quiet {
@@ -229,7 +251,9 @@ fn task_of_matches<'a>(flags: &Flags, queries: Vec<Query<'a>>) -> Task<'a> {
 }
 
 // What the line of a match shows, by the flags: its place, place and value, or its value.
-fn what_is_shown(flags: &Flags) -> Shown {
+fn what_is_shown(flags: &Flags) -> Shown
+    ensures { result ≡ shown_by flags.now }
+{
     if flags.locations {
         Shown::Places
     } else if flags.with_locations {
@@ -243,7 +267,9 @@ fn what_is_shown(flags: &Flags) -> Shown {
 fn read_edits<'a>(
     rt: &(impl Eprint + Alloc<A = Global>),
     words: &[EditWords<'a>],
-) -> Result<Vec<Edit<'a>>, Refused> {
+) -> Result<Vec<Edit<'a>>, Refused>
+    ensures { IfOk result (λ edits. AreEditsOf words.now edits.items) }
+{
     let mut edits = Vec::new(rt.alloc());
     for edit in words {
         edits.push(read_edit(rt, *edit)?)?;
@@ -255,7 +281,9 @@ fn read_edits<'a>(
 fn read_edit<'a>(
     rt: &(impl Eprint + Alloc<A = Global>),
     words: EditWords<'a>,
-) -> Result<Edit<'a>, Refused> {
+) -> Result<Edit<'a>, Refused>
+    ensures { IfOk result (IsEditOf words.entry) }
+{
     let query = compile_or_tell(rt, words.path())?;
     let compared = compared_by_queries(rt.alloc(), slice::from_ref(&query))?;
     let value = text_of_edit_value(rt, words)?;
@@ -271,7 +299,9 @@ fn read_edit<'a>(
 fn text_of_edit_value(
     rt: &(impl Eprint + Alloc<A = Global>),
     edit: EditWords<'_>,
-) -> Result<Vec<u8>, Refused> {
+) -> Result<Vec<u8>, Refused>
+    ensures { IfOk result (λ text. IsValueText edit.entry text.items) }
+{
     let alloc = rt.alloc();
     match edit {
         EditWords::Set(_, json) => text_of_json_value(rt, json),
@@ -284,7 +314,9 @@ fn text_of_edit_value(
 fn text_of_json_value(
     rt: &(impl Eprint + Alloc<A = Global>),
     json: &str,
-) -> Result<Vec<u8>, Refused> {
+) -> Result<Vec<u8>, Refused>
+    ensures { IfOk result (λ text. (tree : Json) × (exact_of json.now ≡ Some tree) × (text.items ≡ compact tree)) }
+{
     let alloc = rt.alloc();
     let mut scratch = Scratch::new(alloc);
     match read_exact_tree(alloc, json, &mut scratch) {
@@ -301,6 +333,7 @@ fn text_of_json_value(
 // The compact text of a JSON value: without blanks, numbers in their own digits.
 fn compact_value_text(alloc: Global, value: &Exact<'_>) -> Result<Vec<u8>, Refused>
     requires { HasNumbers (value_view value.now) }
+    ensures { IfOk result (λ text. text.items ≡ compact (value_view value.now)) }
 {
     let mut text = Vec::new(alloc);
     add_compact_value(alloc, &mut text, value)?;
@@ -314,7 +347,12 @@ fn read_table<'a>(
     rows: &'a str,
     paths: &[&'a str],
     flags: &Flags,
-) -> Result<Table<'a>, Refused> {
+) -> Result<Table<'a>, Refused>
+    ensures rows { IfOk result (λ table. table.rows.path ≡ rows.now) }
+    ensures columns { IfOk result (λ table. length table.columns.items ≡ length paths.now) }
+    ensures names { IfOk result (λ table. length table.names.items ≡ length paths.now) }
+    ensures header { IfOk result (λ table. table.has_header ≡ flags.now.header) }
+{
     let (names, columns) = read_columns(rt, paths)?;
     let rows = compile_or_tell(rt, rows)?;
     Ok(Table {
@@ -334,7 +372,10 @@ fn read_table<'a>(
 fn read_columns<'a>(
     rt: &(impl Eprint + Alloc<A = Global>),
     texts: &[&'a str],
-) -> Result<(Vec<&'a str>, Vec<Query<'a>>), Refused> {
+) -> Result<(Vec<&'a str>, Vec<Query<'a>>), Refused>
+    ensures names { IfOk result (λ found. length found.0.items ≡ length texts.now) }
+    ensures columns { IfOk result (λ found. length found.1.items ≡ length texts.now) }
+{
     let alloc = rt.alloc();
     let mut names = Vec::new(alloc);
     let mut columns = Vec::new(alloc);
@@ -361,7 +402,9 @@ fn split_column_name(text: &str) -> (&str, &str) {
 fn compile_all_or_tell<'a>(
     rt: &(impl Eprint + Alloc<A = Global>),
     paths: &[&'a str],
-) -> Result<Vec<Query<'a>>, Refused> {
+) -> Result<Vec<Query<'a>>, Refused>
+    ensures { IfOk result (λ queries. AreOf queries.items paths.now) }
+{
     let mut queries = Vec::new(rt.alloc());
     for path in paths {
         queries.push(compile_or_tell(rt, *path)?)?;
@@ -373,7 +416,9 @@ fn compile_all_or_tell<'a>(
 fn compile_or_tell<'a>(
     rt: &(impl Eprint + Alloc<A = Global>),
     path: &'a str,
-) -> Result<Query<'a>, Refused> {
+) -> Result<Query<'a>, Refused>
+    ensures { IfOk result (λ query. query.path ≡ path.now) }
+{
     match Query::compile(rt.alloc(), path) {
         Ok(query) => {
             warn_of_mixed_connectives(rt, path);
@@ -388,7 +433,9 @@ fn compile_or_tell<'a>(
 
 // What the filters of a task's paths compare: whether numbers, and which are written as sides. Nothing for edits: each
 // edit has its own.
-fn compared_by_task(alloc: Global, task: &Task<'_>) -> Result<Compared, Refused> {
+fn compared_by_task(alloc: Global, task: &Task<'_>) -> Result<Compared, Refused>
+    ensures { IfOk result (λ compared. All (Covers compared) (queries_of task.now)) }
+{
     match task {
         Task::Lines(queries, _)
         | Task::Array(queries)
@@ -406,7 +453,9 @@ fn compared_by_task(alloc: Global, task: &Task<'_>) -> Result<Compared, Refused>
 }
 
 // What the filters of these paths compare: whether numbers, and which are written as sides.
-fn compared_by_queries(alloc: Global, queries: &[Query<'_>]) -> Result<Compared, Refused> {
+fn compared_by_queries(alloc: Global, queries: &[Query<'_>]) -> Result<Compared, Refused>
+    ensures { IfOk result (λ compared. All (Covers compared) queries.now) }
+{
     match Compared::of_queries(alloc, queries) {
         Ok(compared) => Ok(compared),
         Err(_) => Err(Refused::OutOfMemory),

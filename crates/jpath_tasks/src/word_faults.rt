@@ -1,5 +1,5 @@
-//! Words that contradict each other, or beside which one is missing: a sentence that says what to write. That there is
-//! no path is said in `task.rt`.
+//! Options that contradict each other, or beside which one is missing: a sentence that says what to write. A missing
+//! path is reported in `task.rt`.
 
 use jpath_words::Words;
 
@@ -72,7 +72,10 @@ fn table_fault(words: &Words<'_>, has_form: bool) -> Option<&'static str> {
 fn in_place_fault(words: &Words<'_>) -> Option<&'static str> {
     let flags = words.flags;
     if !flags.in_place {
-        return None;
+        return match flags.copy {
+            true => Some("--copy goes with -i"),
+            false => None,
+        };
     }
     if words.edits.is_empty() {
         return Some("-i goes with an edit: --set, --set-text, --null or --remove");

@@ -1,4 +1,4 @@
-//! The exact tree of a JSON text, as it stands: numbers by their digits, members in their order.
+//! The exact tree of a JSON text: numbers by their digits, members in their order.
 
 ghost use Rattle.std.specs.Prelude.{◌≡◌, Some, IfOk, IfErr};
 ghost use Rattle.json.specs.Tree.{HasNumbers};
@@ -12,9 +12,9 @@ use std::alloc::Global;
 
 const MAX_DEPTH: usize = 127;
 
-/// The exact tree of a JSON text: numbers by their digits, members in their order, repeated names kept. It borrows the
-/// text, and `scratch`, where texts stand whose escapes were resolved. Refused with `NotADocument` where the text is no
-/// JSON document or nests deeper than 127 levels, and with `OutOfMemory`.
+/// Reads the exact tree of a JSON text: numbers by their digits, members in their order, repeated names included. It
+/// borrows the text, and `scratch`, which has the texts whose escapes were resolved. Errors: `NotADocument` if the
+/// text is no JSON document or nests deeper than 127 levels, or `OutOfMemory`.
 pub fn read_exact_tree<'a>(
     alloc: Global,
     text: &'a str,

@@ -1,4 +1,5 @@
-//! JSON texts as they stand: the documents of a stream, the exact tree of a text, and how its values are written.
+//! JSON texts with all their detail: the documents of a stream, the exact tree of a text, and how its values are
+//! written.
 #![tactic(auto)]
 
 mod exact_tree;

@@ -1,4 +1,4 @@
-//! Why nothing is written for a document: refusals of reading, of numbers and of edits.
+//! Why nothing is written for a document: errors of reading, of numbers and of edits.
 
 use std::alloc::{AllocError, AllocFailed};
 
@@ -11,8 +11,8 @@ pub enum DocumentRefusal {
     HugeExponent,
     /// The edited document would nest too deep to be read again.
     EditNests,
-    /// What an edit changes in a text is not what stands at its targets, or the edited text, read again, is
-    /// not what the edit leaves. It is never seen.
+    /// What an edit replaces in a text is not what is at its targets, or the edited text, read again, is not the
+    /// changed document. It is never seen.
     EditDiffers,
     /// There is not enough memory.
     OutOfMemory,

@@ -1,4 +1,4 @@
-//! The command line: the options that `jpath` takes, declared for `clap`, and what is found of them.
+//! The command line of `jpath`: its options, declared for `clap`, and how it is parsed.
 
 ghost use Rattle.std.specs.Prelude.{◌≡◌, ◌<◌};
 ghost use Rattle.jpath_words.specs.Words.{path_of};
@@ -57,7 +57,14 @@ const OTHERS: [Flag; 4] = [
 ];
 
 // Where an edited document goes.
-const IN_PLACE: [Flag; 1] = [(Some('i'), "in-place", "The edited document goes into FILE")];
+const IN_PLACE: [Flag; 2] = [
+    (Some('i'), "in-place", "The edited document goes into FILE"),
+    (
+        None,
+        "copy",
+        "With -i: it is copied into FILE, and no new file takes its place",
+    ),
+];
 
 // An edit: its name, what stands behind it, and what help says of it.
 type EditOption = (&'static str, &'static [&'static str], &'static str);
@@ -78,21 +85,21 @@ const EDITS: [EditOption; 4] = [
     ("remove", &PATH, "Nothing at each place that PATH selects"),
 ];
 
-/// An edit, as it is written.
+/// An edit option with its arguments.
 #[derive(Clone, Copy, Debug, Drop)]
 pub enum EditWords<'a> {
-    /// The value of a JSON text at each place that the path selects.
+    /// `--set PATH JSON`: the value of a JSON text in place of each value that the path selects.
     Set(&'a str, &'a str),
-    /// A text at each of them.
+    /// `--set-text PATH TEXT`: a text in place of each of them.
     SetText(&'a str, &'a str),
-    /// Null at each of them.
+    /// `--null PATH`: null in place of each of them.
     Null(&'a str),
-    /// Nothing at each of them.
+    /// `--remove PATH`: removes each of them.
     Remove(&'a str),
 }
 
 impl<'a> EditWords<'a> {
-    /// The path whose places change.
+    /// The path whose selected values are edited.
     pub fn path(&self) -> &'a str
         ensures { result.now ≡ path_of self.now }
     {
@@ -103,7 +110,7 @@ impl<'a> EditWords<'a> {
     }
 }
 
-/// When lines are coloured.
+/// When output is coloured, the argument of `--color`.
 #[derive(Clone, Copy, Debug, Drop, PartialEq, Eq)]
 pub enum Color {
     Auto,
@@ -111,7 +118,7 @@ pub enum Color {
     Never,
 }
 
-/// Which options are there.
+/// Which options without arguments are set.
 #[derive(Clone, Copy, Debug, Drop)]
 pub struct Flags {
     pub raw: bool,
@@ -124,6 +131,7 @@ pub struct Flags {
     pub with_filename: bool,
     pub keep_going: bool,
     pub in_place: bool,
+    pub copy: bool,
     pub csv: bool,
     pub tsv: bool,
     pub header: bool,
@@ -131,7 +139,7 @@ pub struct Flags {
     pub color: Color,
 }
 
-/// The words, taken apart.
+/// The parsed command line: options, paths, edits and the remaining words.
 #[derive(Drop)]
 pub struct Words<'a> {
     pub flags: Flags,
@@ -140,23 +148,22 @@ pub struct Words<'a> {
     pub rows: Option<&'a str>,
     /// The edits, in their order.
     pub edits: Vec<EditWords<'a>>,
-    /// The words that belong to no option.
+    /// The words that belong to no option: the path and the files.
     pub rest: Vec<&'a str>,
 }
 
-/// What is found in the words that the program is called with.
+/// The result of parsing the command line: the options and words, or the status with which to exit.
 #[derive(Drop)]
 pub enum ParseOutcome<'a> {
-    /// The words, taken apart.
+    /// The parsed command line.
     Words(Words<'a>),
-    /// Help or the version was asked for and is written, or a word was refused and that is told: the program ends with
-    /// this status.
+    /// Help or the version was asked for and is printed, or an option was wrong and the error is printed: the
+    /// program ends with this status.
     Ended(u8),
 }
 
-/// Takes apart the words that the program is called with, the first of which is its name: which options, paths and
-/// files they give. Help, the version, and why a word is refused are written here; the program then ends with the
-/// status that is answered.
+/// Parses the command line, whose first word is the program's name: options, paths and files. Help, the version, and
+/// errors are printed here; the program then ends with the status that is returned.
 pub fn parse_words<'a>(
     rt: &(impl Print + Eprint + Alloc<A = Global>),
     words: &'a [String],
@@ -321,6 +328,7 @@ fn read_flags(matches: &ArgMatches<'_>) -> Flags {
         with_filename: matches.get_flag("with-filename"),
         keep_going: matches.get_flag("keep-going"),
         in_place: matches.get_flag("in-place"),
+        copy: matches.get_flag("copy"),
         csv: matches.get_flag("csv"),
         tsv: matches.get_flag("tsv"),
         header: matches.get_flag("header"),

@@ -1,4 +1,4 @@
-//! What to write in place of a refused path, as a sentence, and a warning about `&&` beside `||`.
+//! Hints on what to write in place of a path with a syntax error, and a warning about `&&` beside `||`.
 
 use jsonpath_paths::{PathParser, Token, Tokenizer};
 use std::alloc::{AllocError, Global};
@@ -20,8 +20,8 @@ const NO_BACKWARDS: &str = "a range has no negative step: it never runs backward
 
 const PARENTHESES: &str = "a filter's condition stands in parentheses: [?(@.price < 10)]";
 
-/// A sentence that says what to write in place of a path text that is refused at this byte, or an empty text where
-/// nothing is known to help.
+/// A sentence on what to write in place of a path text with a syntax error at this byte, or an empty text if no hint
+/// is known.
 pub fn hint_for_refused_path(alloc: Global, path: &str, at: usize) -> Result<String, AllocError> {
     if !path.starts_with('$') {
         return hint_to_begin_with_root(alloc, path);
@@ -135,8 +135,8 @@ fn hint_to_quote_name(alloc: Global, rest: &str) -> Result<String, AllocError> {
     }
 }
 
-/// Warns on standard error where `&&` and `||` stand side by side in a path: they have one rank, and group to the
-/// right.
+/// Warns on standard error if `&&` and `||` are side by side in a path: they have the same precedence, and group to
+/// the right.
 pub fn warn_of_mixed_connectives(rt: &(impl Eprint + Alloc<A = Global>), path: &str) {
     if let Ok(true) = has_mixed_connectives(rt.alloc(), path) {
         let _ = eprintln!(rt;

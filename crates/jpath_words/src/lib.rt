@@ -1,4 +1,4 @@
-//! The words that `jpath` takes, and what it says of a path that is refused, or that mixes `&&` and `||`.
+//! The command line of `jpath`, and its messages about a path with a syntax error, or one that mixes `&&` and `||`.
 #![tactic(auto)]
 
 mod command_line;

@@ -1,12 +1,12 @@
-//! How a refused path is told: its text, a caret under the place, and a hint.
+//! How a syntax error in a path is printed: the text, a caret under the position, and a hint.
 
 use crate::hints::hint_for_refused_path;
 use jsonpath_paths::{PathParser, TokenError, Tokenizer};
 use std::alloc::{AllocError, Global};
 use unicode_width::UnicodeWidthStr;
 
-/// Tells on standard error why a path text is refused: the text, a caret under the place, and a hint, if there is one;
-/// or that memory was refused.
+/// Prints a syntax error on standard error: the path text, a caret under the position, and a hint, if there is one;
+/// or that memory ran out.
 pub fn tell_refused_path(rt: &(impl Eprint + Alloc<A = Global>), path: &str, error: &TokenError) {
     if let TokenError::OutOfMemory = error {
         let _ = eprintln!(rt; "jpath: out of memory");

@@ -9,12 +9,8 @@ use std::time::{Duration, Instant};
 /// A call of the library.
 #[derive(Clone, Copy)]
 pub enum Action {
-    /// The values that the compiled path selects.
-    Select,
-    /// The spots of these values: the values with their locations.
-    Spots,
-    /// What is told of these values without a list of them.
-    Tell(Asked),
+    /// A question about what the compiled path selects.
+    Ask(Asked),
     /// Null put at what the compiled path selects.
     Delete,
     /// What the compiled path selects taken away.
@@ -23,9 +19,13 @@ pub enum Action {
     Compile,
 }
 
-/// What is asked of the values that a path selects.
+/// What is asked of a document.
 #[derive(Clone, Copy)]
 pub enum Asked {
+    /// The values that the path selects.
+    Values,
+    /// The nodes: the values with their locations.
+    Spots,
     /// How many they are.
     Count,
     /// The first of them.
@@ -38,11 +38,11 @@ impl Action {
     /// The action that a word names.
     pub fn of(word: &str) -> Option<Action> {
         match word {
-            "select" => Some(Action::Select),
-            "spots" => Some(Action::Spots),
-            "count" => Some(Action::Tell(Asked::Count)),
-            "first" => Some(Action::Tell(Asked::First)),
-            "exists" => Some(Action::Tell(Asked::Exists)),
+            "select" => Some(Action::Ask(Asked::Values)),
+            "spots" => Some(Action::Ask(Asked::Spots)),
+            "count" => Some(Action::Ask(Asked::Count)),
+            "first" => Some(Action::Ask(Asked::First)),
+            "exists" => Some(Action::Ask(Asked::Exists)),
             "delete" => Some(Action::Delete),
             "remove" => Some(Action::Remove),
             "compile" => Some(Action::Compile),
@@ -51,8 +51,8 @@ impl Action {
     }
 }
 
-/// The time that so many calls take together, and the number of results of one: of the values or spots that the path
-/// selects, 1 where there is a first or any, and 1 for a compiled path. Reading the clock, and the copies of the
+/// The time that so many calls take together, and the number of results of one: of the values or nodes that the path
+/// selects, 1 if there is a first or any, and 1 for a compiled path. Reading the clock, and the copies of the
 /// document that are updated, are outside the time of an update.
 pub fn measure(
     rt: &HostRuntime,
@@ -62,48 +62,14 @@ pub fn measure(
     count: u64,
 ) -> Result<(Duration, usize)> {
     match action {
-        Action::Select => measure_select(rt, path, document, count),
-        Action::Spots => measure_spots(rt, path, document, count),
-        Action::Tell(asked) => measure_told(rt, asked, path, document, count),
+        Action::Ask(asked) => measure_answers(rt, asked, path, document, count),
         Action::Delete => measure_update(rt, path, document, count, false),
         Action::Remove => measure_update(rt, path, document, count, true),
         Action::Compile => measure_compile(rt, path, count),
     }
 }
 
-fn measure_select(
-    rt: &HostRuntime,
-    path: &str,
-    document: &Value,
-    count: u64,
-) -> Result<(Duration, usize)> {
-    let alloc = rt.alloc();
-    let path = compile_path(alloc, path)?;
-    let mut results = 0;
-    let start = Instant::now(rt)?;
-    for _ in 0..count {
-        results = black_box(path.select(alloc, document)?).len();
-    }
-    Ok((start.elapsed(rt)?, results))
-}
-
-fn measure_spots(
-    rt: &HostRuntime,
-    path: &str,
-    document: &Value,
-    count: u64,
-) -> Result<(Duration, usize)> {
-    let alloc = rt.alloc();
-    let path = compile_path(alloc, path)?;
-    let mut results = 0;
-    let start = Instant::now(rt)?;
-    for _ in 0..count {
-        results = black_box(path.select_spots(alloc, document)?).len();
-    }
-    Ok((start.elapsed(rt)?, results))
-}
-
-fn measure_told(
+fn measure_answers(
     rt: &HostRuntime,
     asked: Asked,
     path: &str,
@@ -115,18 +81,21 @@ fn measure_told(
     let mut results = 0;
     let start = Instant::now(rt)?;
     for _ in 0..count {
-        results = black_box(told(alloc, asked, document, &path)?);
+        results = black_box(results_of(alloc, asked, document, &path)?);
     }
     Ok((start.elapsed(rt)?, results))
 }
 
-fn told(
+// How many results the answer has.
+fn results_of(
     alloc: Global,
     asked: Asked,
     document: &Value,
     path: &PathParser<'_>,
 ) -> Result<usize, JsonPathError> {
     match asked {
+        Asked::Values => Ok(black_box(path.select(alloc, document)?).len()),
+        Asked::Spots => Ok(black_box(path.select_spots(alloc, document)?).len()),
         Asked::Count => path.count(alloc, document),
         Asked::First => Ok(usize::from(path.first(alloc, document)?.is_some())),
         Asked::Exists => Ok(usize::from(path.exists(alloc, document)?)),

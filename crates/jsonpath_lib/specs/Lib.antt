@@ -1,5 +1,4 @@
 pub mod update
-pub mod selectors
 pub mod compiled
 pub mod stream
 pub mod functions

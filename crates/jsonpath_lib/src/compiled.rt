@@ -1,5 +1,5 @@
-//! Compiled paths kept for many documents: `Compiled`, which owns its text, `PathCompiled`, which borrows it, and
-//! `CompiledPath`, which keeps a refusal in place of the path where its text is none; and several path texts compiled
+//! Compiled paths for many documents: `Compiled`, which owns its text, `PathCompiled`, which borrows it, and
+//! `CompiledPath`, which stores the error in place of the path if its text is none; and several path texts compiled
 //! in order, by `compile_paths`.
 
 pub(crate) mod kept_path;

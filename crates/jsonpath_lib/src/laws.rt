@@ -1,6 +1,6 @@
-//! The laws that callers cite, each the contract of a function that does nothing. A caller's proof has a law where the
-//! caller's body calls it, as `laws::one_selection_per_text();`; the call does nothing when it runs. The crates below
-//! have more, in modules of this name.
+//! The lemmas that callers cite, each the contract of a function that does nothing. A caller's proof has a lemma if
+//! the caller's body calls it, as `laws::one_selection_per_text();`; the call does nothing when it runs. The crates
+//! below have more, in modules of this name.
 
 ghost use Rattle.std.specs.Prelude.{◌≡◌, ℕ, List, Option, option_map};
 ghost use Rattle.std.specs.Fn.{Called};
@@ -30,9 +30,9 @@ pub use jsonpath_select::laws::{
 };
 use serde_json::Value;
 
-/// A path that selects one location alone, where something stands there, has it as its one target: deleting by it is
-/// the single update that puts null there, removing the one that takes away what stands there. Both leave all else, and
-/// at the root they change nothing; `putting_at_one_location` says what a single update leaves.
+/// Lemma: if a path selects one location alone and that exists, deleting by it is the single update that puts null
+/// there, and removing is the one that removes the value there. Both leave all else, and at the root they change
+/// nothing; `putting_at_one_location` says what a single update leaves.
 ///
 /// ```text
 /// laws::deletes_and_removes_selected_location();
@@ -49,10 +49,9 @@ pub fn deletes_and_removes_selected_location()
     putting_at_one_location();
 }
 
-/// Replacing by a path that selects one location alone, with a closure that gives one answer, whatever it is handed, is
-/// the single update there: it puts that answer in place, or takes away what stands there where the answer is none, and
-/// leaves all else. At the root it changes nothing. This call does
-/// nothing: the closure that it is handed is not called.
+/// Lemma: replacing by a path that selects one location alone, with a closure that always returns the same, is the
+/// single update there: `Some` replaces the value, `None` removes it, and all else stays. At the root it changes
+/// nothing. This call does nothing: its closure is not called.
 ///
 /// ```text
 /// laws::replaces_selected_location(on);
@@ -68,7 +67,8 @@ pub fn replaces_selected_location<F: FnMut(Value) -> Option<Value>>(closure: &F)
     updates_put_one_answer_in_turn(closure);
 }
 
-/// Masking by several paths goes by which paths there are: neither their order nor repeats matter.
+/// Lemma: the result of masking by several paths depends on the set of paths alone, neither on their order nor on
+/// repeats.
 ///
 /// ```text
 /// laws::masks_in_any_order();
@@ -81,7 +81,8 @@ pub fn masks_in_any_order()
     nulling_and_taking_ignore_order();
 }
 
-/// Removing by several paths goes by which paths there are: neither their order nor repeats matter.
+/// Lemma: the result of removing by several paths depends on the set of paths alone, neither on their order nor on
+/// repeats.
 ///
 /// ```text
 /// laws::removes_in_any_order();

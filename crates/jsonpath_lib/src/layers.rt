@@ -1,5 +1,5 @@
-//! What the library is made of, for whoever builds on it: characters, tokens, token lists and trees of path texts and
-//! their visitors; steps, comparisons and single updates on documents; bytes that come and go.
+//! What the library is made of, for code that builds on it: characters, tokens, token lists and syntax trees of path
+//! texts and their visitors; steps, comparisons and single updates on documents; readers and writers.
 
 pub use jsonpath_nodes::{
     Atom, Cmp, CmpEq, CmpGe, CmpGt, CmpLe, CmpLt, CmpNe, ValueWalker, abs_index, compute_paths,

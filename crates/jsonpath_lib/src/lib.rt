@@ -1,14 +1,13 @@
 //! JSONPath: values of a JSON document selected, replaced, nulled and removed by a path.
 //!
-//! The crate gives out what the crates below it offer to callers: compiled paths, documents, and the
-//! selectors. The module `layers` has what these are made of. `docs/PATHS.md` has every form of a path.
+//! The crate re-exports what the crates below it offer to callers: compiled paths, documents, and the selectors. The
+//! module `layers` has what these are made of. `docs/PATHS.md` has every form of a path.
 //!
 //! # Guide
 //!
-//! Each sample stands word for word in a test, in `tests/library/uses.rs`, and each
-//! example at an item runs as a test that `checks/samples.sh` makes of it. Calls that take memory
-//! are handed an allocator first and answer a `Result`. `text` is a JSON text, `document` and
-//! `message` are a `Value`, as `read_document` makes one.
+//! Each sample is word for word in a test, in `tests/library/uses.rs`, and each example at an item runs as a test
+//! that `checks/samples.sh` makes of it. Calls that take memory have an allocator as their first argument and return
+//! a `Result`. `text` is a JSON text, `document` and `message` are a `Value`, as `read_document` makes one.
 //!
 //! Columns are extracted as text, or typed:
 //!
@@ -20,7 +19,7 @@
 //! assert_eq!(rt; books[1].price, 1299);
 //! ```
 //!
-//! Values are masked by several paths, each by the document as handed in. A refusal gives it back:
+//! Values are masked by several paths, each applied to the original document. An error gives the document back:
 //!
 //! ```text
 //! let masked = match mask(alloc, document, &["$.a.b", "$.c[0]"]) {
@@ -58,7 +57,7 @@
 //! }
 //! ```
 //!
-//! A selector holds a path and a value, and its calls chain:
+//! A selector has a path and a value, and its calls chain:
 //!
 //! ```text
 //! let mut held = SelectorMut::new();
@@ -83,10 +82,7 @@ pub use compiled::path_or_refusal::{CompiledPath, compile};
 pub use compiled::path_texts::{PathsFault, compile_paths};
 pub use functions::selecting::{select, select_as, select_as_str};
 pub use functions::updates::{delete, replace_with};
-pub use selectors::held_document::HeldDocument;
-pub use selectors::json_selector_mut::JsonSelectorMut;
 pub use selectors::path_selector::{PathSelector, PathSelectorAs, selector, selector_as};
-pub use selectors::selector_mut::SelectorMut;
 pub use stream::documents::{DocumentFault, Documents};
 pub use update::masking::{mask, mask_at_paths};
 pub use update::removing_by_several_paths::{remove_at_paths, remove_by_path_texts};
@@ -96,7 +92,8 @@ pub use update::several_paths::MaskFault;
 pub use jsonpath_nodes::{LocStep, Location, NoMemory, PathStep, Spot, Steps, StepsFromRoot};
 pub use jsonpath_paths::{Decimal, PathParser, TokenError};
 pub use jsonpath_select::{
-    AnyPath, JsonPathError, JsonSelector, Node, ParseFault, Parser, PathParts, Selector, TryFault,
-    compile_path, document_to_text, error_of_parse_fault, list_to_text, list_to_typed, path_error,
-    read_document, select_path, select_path_in_any_order,
+    AnyPath, HeldPair, JsonPathError, JsonSelector, JsonSelectorMut, Node, ParseFault, Parser,
+    PathParts, Selector, SelectorMut, TryFault, compile_path, document_to_text,
+    error_of_parse_fault, list_to_text, list_to_typed, path_error, read_document, select_path,
+    select_path_in_any_order,
 };

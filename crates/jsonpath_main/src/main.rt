@@ -1,4 +1,4 @@
-//! The program: hands its words, standard input and standard output to `run`.
+//! The program: calls `run` with its words, standard input and standard output.
 #![tactic(auto)]
 
 use jsonpath_run::{Checked, Fault, run};

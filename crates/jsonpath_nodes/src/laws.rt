@@ -1,9 +1,9 @@
-//! Laws of documents, locations, steps and updates, each the contract of a function that does nothing else.
+//! Lemmas about documents, locations, steps and updates. Each is the contract of a function that does nothing else.
 //!
-//! The candidates meant here are those of a filter whose own `@`, one in no deeper filter, has a step: from a location,
-//! what is no array and is reached from it through arrays alone; those from a list of locations are listed each once.
-//! Locations are disjoint where none is another or stands below another,
-//! and apart where no two are the same, or one the other with indexes alone behind it.
+//! The candidates meant here are those of a filter that uses a relative query with at least one segment (an `@`, in
+//! no deeper filter, that is followed by a step): the non-array values left after flattening nested arrays; from a
+//! list of locations each is listed once. Locations are disjoint if none is equal to another or below another. They
+//! are apart if no two are equal, and none leads to another by indexes alone.
 
 ghost use Rattle.std.specs.Prelude.{◌≡◌, List, map, Option, option_map};
 ghost use Rattle.std.specs.Fn.{Called};
@@ -23,7 +23,7 @@ ghost use Rattle.jsonpath_nodes.specs.step.Separate.{ApartHasNoRepeatFlat, OneIs
 
 use serde_json::{Map, Value};
 
-/// The locations at or below the root of a document are exactly those where it has a value.
+/// Lemma: the locations at or below the root of a document are exactly those at which it has a value.
 ///
 /// ```text
 /// laws::all_locations_stand_below_root();
@@ -32,7 +32,7 @@ pub fn all_locations_stand_below_root()
     ensures { BelowIsAll }
 {}
 
-/// The locations at or below the root of a document stand in document order, each once.
+/// Lemma: the locations at or below the root of a document are in document order, each once.
 ///
 /// ```text
 /// laws::locations_below_root_ascend();
@@ -41,8 +41,8 @@ pub fn locations_below_root_ascend()
     ensures { BelowAscends }
 {}
 
-/// The locations of any list, taken each once and in document order, ascend strictly, and are exactly the members of
-/// the list.
+/// Lemma: a list of locations put in document order, each once, ascends strictly and has exactly the members of the
+/// list.
 ///
 /// ```text
 /// laws::locations_once_in_order_ascend();
@@ -52,7 +52,7 @@ pub fn locations_once_in_order_ascend()
     ensures members { OnceInOrderKeepsMembers }
 {}
 
-/// Locations that compare equal are the same.
+/// Lemma: locations that compare equal are the same.
 ///
 /// ```text
 /// laws::equal_locations_are_same();
@@ -61,7 +61,7 @@ pub fn equal_locations_are_same()
     ensures { (l m : Location) → location_cmp l m ≡ Equal → l ≡ m }
 {}
 
-/// Spots that stand at a list of locations of a document have these locations, in this order.
+/// Lemma: nodes at a list of locations of a document have these locations, in this order.
 ///
 /// ```text
 /// laws::spots_show_their_locations();
@@ -70,8 +70,8 @@ pub fn spots_show_their_locations()
     ensures { (doc : Data) (ls : List Location) (spots : List Spot) → StandAt doc ls spots → map location_of spots ≡ ls }
 {}
 
-/// Nulling puts null at each topmost location below the root that leads somewhere, and changes nothing beside them. It
-/// is the same as putting null at each location in turn.
+/// Lemma: nulling puts null at each location below the root that exists and has no ancestor in the list, and changes
+/// nothing beside them. It is the same as putting null at each location in turn.
 ///
 /// ```text
 /// laws::nulling_at_topmost();
@@ -82,8 +82,8 @@ pub fn nulling_at_topmost()
     ensures in_turn { NullsInTurn }
 {}
 
-/// A single update that puts a value changes what stands at its location, and nothing beside it. Where
-/// nothing stands, and at the root, a single update changes nothing.
+/// Lemma: a single update that puts a value changes the value at its location, and nothing beside it. If the
+/// location doesn't exist, or is the root, nothing changes.
 ///
 /// ```text
 /// laws::putting_at_one_location();
@@ -94,8 +94,8 @@ pub fn putting_at_one_location()
     ensures nowhere { ChangesNothing }
 {}
 
-/// A run of single updates by a closure that gives one answer, whatever it is handed, puts that answer at
-/// each location in turn. The closure is not called.
+/// Lemma: a run of single updates by a closure that always returns the same value puts that value at each location
+/// in turn. The closure is not called.
 ///
 /// ```text
 /// let on = &mut |_old: Value| Some(Value::Bool(true));
@@ -107,8 +107,8 @@ pub fn updates_put_one_answer_in_turn<F: FnMut(Value) -> Option<Value>>(_closure
         → (ls : List Location) (before after : Data) (f g : F) → RunsWith F.FnMut ls before f g after → after ≡ update_each answer ls before }
 {}
 
-/// At locations in document order, each once, taking at once is taking at each in turn, from the last one back to the
-/// first.
+/// Lemma: at locations in document order, each once, removing the values all at once is the same as removing them
+/// one after another, from the last location back to the first.
 ///
 /// ```text
 /// laws::taking_at_once_is_in_turn();
@@ -117,7 +117,8 @@ pub fn taking_at_once_is_in_turn()
     ensures { TakesFromTheBack }
 {}
 
-/// Nulling and taking depend on which locations there are, and neither on their order nor on repeats.
+/// Lemma: the results of nulling and of removing depend on the set of locations alone, neither on their order nor on
+/// repeats.
 ///
 /// ```text
 /// laws::nulling_and_taking_ignore_order();
@@ -126,9 +127,10 @@ pub fn nulling_and_taking_ignore_order()
     ensures { SetsAlone }
 {}
 
-/// Where steps, descents and the candidates of a filter lead, and which locations pass a test, is as a set decided by
-/// which locations there are, and neither by their order nor by repeats; so is whether any passes. Dropping repeats
-/// keeps the set. Lists of one set are the same list once they are put in document order, each location once.
+/// Lemma: the sets of nodes that steps, descents and filters' candidates lead to depend on the set of locations that
+/// they start from alone, neither on their order nor on repeats; so do the set of locations that pass a test, and
+/// whether any does. Two lists of the same locations become equal when they are put in document order, each location
+/// once.
 ///
 /// ```text
 /// laws::steps_ignore_order_and_repeats();
@@ -144,7 +146,8 @@ pub fn steps_ignore_order_and_repeats()
     ensures one_list { OneListOfASet }
 {}
 
-/// A descent from some locations of a document finds, as a set, what a descent from the topmost of them finds.
+/// Lemma: applying `..` to a set of nodes gives the same set of nodes as applying it to those with no ancestor in
+/// the set.
 ///
 /// ```text
 /// laws::topmost_descend_to_same_set();
@@ -154,8 +157,8 @@ pub fn topmost_descend_to_same_set()
     ensures step { DescentOfTheTopmost }
 {}
 
-/// Where no location lies below another and no answer takes anything away, a run of single updates leaves
-/// each answer in its place, and all beside as it was.
+/// Lemma: if no location lies below another and the closure removes nothing, then after a run of single updates each
+/// location has the closure's result for it, and all else is as it was.
 ///
 /// ```text
 /// laws::replacements_stay_in_place();
@@ -164,8 +167,8 @@ pub fn replacements_stay_in_place()
     ensures { RunsInPlace }
 {}
 
-/// The candidates after `..*` from locations of a document, none of which is another or stands below another, are met
-/// in a descent from one location after the other, each once: none is met from two.
+/// Lemma: for disjoint locations of a document, the candidates of a filter after `..` are found by one descent from
+/// each location after the other, each once: no two descents find the same.
 ///
 /// ```text
 /// laws::candidates_of_disjoint_in_descents();
@@ -174,9 +177,9 @@ pub fn candidates_of_disjoint_in_descents()
     ensures { DisjointInOneDescent }
 {}
 
-/// Locations with as many steps each, without repeats, are disjoint. Disjoint ones are apart, and what lies at or below
-/// them in a document has no repeat. A step that selects no child of a value twice leads from disjoint locations to
-/// disjoint ones, `*` where the names ascend at each of them; a filter keeps it so, and their candidates are disjoint.
+/// Lemma: distinct locations of equal depth are disjoint. Disjoint locations are apart, and no location lies at or
+/// below two of them. A step that selects no child of a value twice leads from disjoint locations to disjoint ones
+/// (`*` if the names ascend at each of them); a filter's result is disjoint, too, and so are its candidates.
 ///
 /// ```text
 /// laws::steps_keep_locations_disjoint();
@@ -190,8 +193,8 @@ pub fn steps_keep_locations_disjoint()
     ensures candidates { CandidatesStayDisjoint }
 {}
 
-/// Locations that are apart have no repeat, and none of their candidates is met from two of them. One location alone is
-/// apart, and the candidates from any locations are.
+/// Lemma: locations that are apart are distinct, and no candidate is found from two of them. A single location is
+/// apart, and so are the candidates from any locations.
 ///
 /// ```text
 /// laws::apart_locations_meet_candidates_once();
@@ -203,10 +206,10 @@ pub fn apart_locations_meet_candidates_once()
     ensures no_repeat { ApartHasNoRepeat }
 {}
 
-/// A name leads from a list without repeats to one that is apart, and so do a list of different names, and `..` before
-/// a name from one location of a document. Each other step but `*` that selects no child of a value twice leads so from
-/// a list that is apart: an index, a range, and a union of different indexes that count from the front. What a filter
-/// keeps stays apart.
+/// Lemma: a name leads from distinct locations to ones that are apart; so do a list of different names, and `..`
+/// before a name from one location of a document. From locations that are apart, so does each other step but `*`
+/// that selects no child of a value twice: an index, a slice, and a list of different indexes that count from the
+/// front. A filter's result stays apart.
 ///
 /// ```text
 /// laws::steps_keep_locations_apart();
@@ -221,9 +224,9 @@ pub fn steps_keep_locations_apart()
     ensures kept { KeptStandApart }
 {}
 
-/// What lies at or below one location of a document has no repeat. Every step that selects no child of a value twice
-/// leads from a list without repeats to one without, and a filter keeps it so. `*` does where the names ascend at each
-/// location of the list, each other step in whatever document.
+/// Lemma: the locations at or below one location of a document are distinct. Every step that selects no child of a
+/// value twice leads from distinct locations to distinct ones, and so does a filter; `*` does if the names ascend at
+/// each location.
 ///
 /// ```text
 /// laws::steps_lead_without_repeats();
@@ -236,8 +239,8 @@ pub fn steps_lead_without_repeats()
     ensures kept { KeptHasNoRepeat }
 {}
 
-/// What a value stands for is a document: in each of its objects the names ascend strictly. The function
-/// goes over the value and answers nothing.
+/// Lemma: the document that a value models is well formed: in each of its objects the names ascend strictly. The
+/// function walks over the value and returns nothing.
 ///
 /// ```text
 /// laws::value_is_document(json);
@@ -273,7 +276,7 @@ fn object_is_document(members: &Map<String, Value>)
     }
 }
 
-/// The names of a value that is an object ascend strictly. The function looks at no value below and answers
+/// Lemma: if the value is an object, its names ascend strictly. The function looks at no value below and returns
 /// nothing.
 ///
 /// ```text

@@ -1,4 +1,4 @@
-//! Where values stand in a document.
+//! Locations, and nodes: values of a document with their locations.
 
 pub(crate) mod document_order;
 pub(crate) mod location;

@@ -1,8 +1,7 @@
-//! The steps of a path on marks: references to values, or spots.
+//! The steps of a path on `Mark`s: references to values, or `Spot`s.
 //!
-//! A call on a list of marks gives what its step leads to from each, in the order of the marks, repeats kept; some
-//! calls take one mark.
-//! The only refusal is `NoMemory`, and then nothing is given.
+//! A call on a list returns what its step selects from each of its nodes, in their order, with duplicates; some
+//! calls take one node. The only error is `NoMemory`, and then nothing is added.
 
 ghost use Rattle.std.specs.Prelude.{[], ◌∷◌, IfOk, OnOk};
 ghost use Rattle.jsonpath_nodes.specs.place.Location.{flat};
@@ -19,7 +18,7 @@ use crate::step::plain_step::PlainStep;
 use crate::step::stride::{Stride, listed_names, plain_step_of_selection};
 use std::alloc::Global;
 
-/// What a step that needs no condition leads to from each mark: the children that it selects there.
+/// Applies a plain step, one without a condition, to each node: the children that it selects there.
 ///
 /// ```text
 /// let items = steps_on_marks::plain_step_from_each(alloc, &[&document], &PlainStep::Every)?;
@@ -68,7 +67,7 @@ fn selected_children_of_each<'a, M: Mark<'a>>(
     Ok(found)
 }
 
-/// The member of this name of each mark's value, where that is an object that has one. The name is taken as it is.
+/// The member of this name of each node that is an object and has one. The name is taken literally.
 ///
 /// ```text
 /// let found = steps_on_marks::named_member_from_each(alloc, &[&document], "a")?;
@@ -89,7 +88,7 @@ pub fn named_member_from_each<'a, M: Mark<'a>>(
     Ok(found)
 }
 
-/// Adds the member of this name of one mark's value, where that is an object that has one. The name is taken as it is.
+/// Adds the member of this name to a list, if the node is an object that has one. The name is taken literally.
 ///
 /// ```text
 /// let mut found: Vec<&Value> = Vec::new(alloc);
@@ -109,7 +108,7 @@ pub fn add_named_member<'a, M: Mark<'a>>(
     Ok(())
 }
 
-/// What a step leads to from each mark and from all below it, each value before its children.
+/// Applies a plain step to each node and to all its descendants, each before its children.
 ///
 /// ```text
 /// let found = steps_on_marks::plain_step_from_all_below(alloc, &[&document], &PlainStep::Named("a"))?;
@@ -130,7 +129,7 @@ pub fn plain_step_from_all_below<'a, M: Descends<'a>>(
     Ok(found)
 }
 
-/// What a stride leads to from each mark: what it selects of the mark alone, or of all below it too.
+/// Applies a `Stride` to each node: to the node alone, or to all its descendants too.
 ///
 /// ```text
 /// let second = Stride {
@@ -156,8 +155,8 @@ pub fn stride_from_each<'a, M: Descends<'a>>(
     }
 }
 
-/// What is no array and is reached from each mark through arrays alone, repeats kept: the candidates of a
-/// filter whose own `@` has a step, from marks no two of which reach the same.
+/// Flattens nested arrays: the non-array values left in each node, with duplicates. If no two nodes reach the same
+/// value, these are the candidates of a filter that uses a relative query with at least one segment.
 ///
 /// ```text
 /// let found = steps_on_marks::flattened_from_each(alloc, &[&document])?;
@@ -177,8 +176,8 @@ pub fn flattened_from_each<'a, M: Descends<'a>>(
     Ok(found)
 }
 
-/// The candidates of a filter whose own `@` has a step, from one mark: what is no array and is reached from it through
-/// arrays alone, each location once.
+/// The candidates, from one node, of a filter that uses a relative query with at least one segment: the non-array
+/// values left after flattening nested arrays, each once.
 ///
 /// ```text
 /// let found = steps_on_marks::flattened_from_mark(alloc, &&document)?;
@@ -193,8 +192,9 @@ pub fn flattened_from_mark<'a, M: Descends<'a>>(alloc: Global, mark: &M) -> Resu
     Ok(found)
 }
 
-/// The candidates of a filter after `..`, whose own `@` has a step, from one mark: what is no array and is reached
-/// through arrays alone from what stands below it, each location once, at its first place, found in one descent.
+/// The candidates, from one node, of a filter after `..` that uses a relative query with at least one segment: the
+/// non-array values left after flattening nested arrays among the descendants, each once, where it comes first,
+/// found in one descent.
 ///
 /// ```text
 /// let found = steps_on_marks::candidates_below_mark(alloc, &&document)?;

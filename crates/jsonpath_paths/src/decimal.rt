@@ -37,9 +37,8 @@ pub(crate) fn is_whole_part_in_range(negative: bool, whole: u64) -> bool
 }
 
 impl Decimal {
-    /// The number with this whole part and this many units of 10^-18 behind the point, or its
-    /// negative. `None` where `units` is 10^18 or more, and for a negative number where `whole` is
-    /// above 2^63.
+    /// The number with this whole part and this many units of 10^-18 after the point, or its negative. `None` if
+    /// `units` is 10^18 or more, or for a negative number if `whole` is above 2^63.
     ///
     /// ```text
     /// let price = Decimal::of_parts(false, 8, 950_000_000_000_000_000);
@@ -57,7 +56,7 @@ impl Decimal {
         Some(decimal_of_parts_in_range(negative, whole, units))
     }
 
-    /// This whole number as a decimal.
+    /// An integer as a decimal.
     ///
     /// ```text
     /// assert!(rt; Decimal::of_i64(-3).units() == -3_000_000_000_000_000_000);
@@ -70,7 +69,7 @@ impl Decimal {
         }
     }
 
-    /// This whole number, which is not negative, as a decimal.
+    /// An unsigned integer as a decimal.
     ///
     /// ```text
     /// assert!(rt; Decimal::of_u64(18_446_744_073_709_551_615) > Decimal::of_i64(0));

@@ -1,4 +1,4 @@
-//! Laws of path texts and their trees, each the contract of a function that does nothing else.
+//! Lemmas about path texts and their syntax trees. Each is the contract of a function that does nothing else.
 
 ghost use Rattle.std.specs.Prelude.{◌≡◌, ◌⊎◌, ℕ, suc, List, ◌∷◌, ◌++◌, length, Some, None, true, false};
 ghost use Rattle.std.specs.Str.{IsUtf8};
@@ -17,9 +17,8 @@ ghost use Rattle.jsonpath_paths.specs.declared.token.tokens.FilterToken.{FilterT
 ghost use Rattle.jsonpath_paths.specs.declared.token.tokens.Kind.{Kind};
 ghost use Rattle.jsonpath_paths.specs.declared.token.tokens.Token.{Token};
 
-/// The first token of a text is the longest front that is a token of some kind, and it is of that
-/// kind alone; where there is none, no front is a token. A text has one first token or none, so one
-/// token is taken from a place, with one place behind it.
+/// Lemma: the first token of a text is its longest prefix that is a token of some kind, and it is of that kind
+/// alone; if there is none, no prefix is a token. A text has at most one first token, and so one position after it.
 ///
 /// ```text
 /// laws::longest_front();
@@ -32,7 +31,7 @@ pub fn longest_front()
     ensures one_token { (from to other : Place) (t u : Token) → TakesToken from t to → TakesToken from u other → (t ≡ u) × (to ≡ other) }
 {}
 
-/// A text that begins with a word, and not with a dollar sign, has this word, up to where it ends, as its first token.
+/// Lemma: if a text begins with a word, and not with a dollar sign, its first token is this word, as far as it goes.
 ///
 /// ```text
 /// laws::word_is_first_token();
@@ -42,7 +41,7 @@ pub fn word_is_first_token()
         → IsFirst (c ∷ cs ++ rest) Kind.Key (suc (length cs)) }
 {}
 
-/// A text spells at most one tree.
+/// Lemma: a text has at most one syntax tree.
 ///
 /// ```text
 /// laws::one_tree_per_text();
@@ -51,7 +50,7 @@ pub fn one_tree_per_text()
     ensures { (text : List ℕ) (p q : Path) → Spells text p → Spells text q → p ≡ q }
 {}
 
-/// No two trees in the forms of the grammar have one token list.
+/// Lemma: no two syntax trees in the forms of the grammar have the same token list.
 ///
 /// ```text
 /// laws::one_tree_per_token_list();
@@ -60,8 +59,8 @@ pub fn one_tree_per_token_list()
     ensures { (p q : Path) → IsPath p → IsPath q → path_tokens p ≡ path_tokens q → p ≡ q }
 {}
 
-/// A text spells exactly the tree that is computed from it, so a caller that has a fixed text finds
-/// its tree by `refl`.
+/// Lemma: a text parses to exactly the syntax tree that is computed from it, so the tree of a fixed text is proved
+/// by `refl`.
 ///
 /// ```text
 /// laws::spelled_tree();
@@ -71,8 +70,8 @@ pub fn spelled_tree()
     ensures only { (text : List ℕ) (p : Path) → Spells text p → tree_of_text text ≡ Some p }
 {}
 
-/// Where `$[?(a)]` and `$[?(b)]` are paths, the tree of `$[?((a) && (b))]` joins their two
-/// conditions, which are the same there but for where they stand; so does that of `||`.
+/// Lemma: if `$[?(a)]` and `$[?(b)]` are paths, the tree of `$[?((a) && (b))]` joins their two conditions, unchanged
+/// but for their positions in the text; the same of `||`.
 ///
 /// ```text
 /// laws::connective_joins_conditions();

@@ -1,4 +1,4 @@
-//! The tree of a path, and its token list.
+//! The syntax tree of a path, and its token list.
 
 pub(crate) mod clone;
 pub(crate) mod items;

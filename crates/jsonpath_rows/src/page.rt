@@ -1,8 +1,8 @@
 //! The rows of a page of documentation, in the tables whose head has a cell `Path`, `Words` or `Refused`.
 //!
-//! `Path` is a path to select by, `Words` are the program's words, each in code of its own; `Document` is
-//! the input, and `Answer` what is written, or `refused:` and the message. `Refused` is a path that
-//! `check` refuses with the message of `Where`; beside it `Path` may be empty.
+//! `Path` is a path to select by, `Words` are the program's words, each in code of its own; `Document` is the input,
+//! and `Answer` the output, or `refused:` and the message. `Refused` is a path for which `check` fails with the
+//! message of `Where`; beside it `Path` may be empty.
 use crate::row::Row;
 use anyhow::{Context, Result};
 use std::alloc::Global;

@@ -5,7 +5,7 @@ use serde::Deserialize;
 use std::alloc::{AllocError, Global};
 use std::fmt;
 
-/// Without an error text, that of `serde_json` is wanted, of which the first line alone is promised.
+/// Without an error text, that of `serde_json` is wanted, of which only the first line is fixed.
 #[derive(Drop, Deserialize)]
 pub struct Row {
     pub words: Vec<String>,
@@ -54,7 +54,7 @@ impl fmt::Display for Outcome {
     }
 }
 
-/// Runs the words of a row over its input.
+/// Runs the program `jsonpath_run` on the words and the input of a row.
 pub fn outcome_of(alloc: Global, row: &Row) -> Result<Outcome, AllocError> {
     let words = row
         .words

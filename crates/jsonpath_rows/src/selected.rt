@@ -15,9 +15,9 @@ pub enum Method {
     JsonSelector,
     /// `Selector`, its values.
     Selector,
-    /// `Selector`, its spots.
+    /// `Selector`, its nodes.
     SelectorSpots,
-    /// `tokens_fit` and `select_tokens` on the list that the path hands over.
+    /// `tokens_fit` and `select_tokens` on the path's token list.
     TokenList,
 }
 

@@ -5,8 +5,7 @@ ghost use Rattle.jsonpath_run.specs.Fault.{status_of, fault_text};
 use jsonpath_select::JsonPathError;
 use std::fmt;
 
-/// Why the program gives no answer. `Display` prints what stands on standard error, before a line
-/// end.
+/// Why the program gives no answer. `Display` prints the message for standard error, without the line end.
 ///
 /// ```text
 /// let text = format!(in alloc; "{}", Fault::Io)?;
@@ -14,18 +13,16 @@ use std::fmt;
 /// ```
 #[derive(Debug, Drop)]
 pub enum Fault {
-    /// The words are none that the program knows, or too few or too many, or one of them is no
-    /// text.
+    /// The words are no call: an unknown command, too few or too many words, or one that is no UTF-8.
     Usage,
-    /// A path, the input or the answer is refused, or memory was.
+    /// A path or the input has an error, the answer can't be printed, or memory ran out.
     Refused(JsonPathError),
     /// A read or a write failed.
     Io,
 }
 
 impl Fault {
-    /// The exit status: 1 where something is refused, 2 for the wrong words, 3 where a read or a
-    /// write failed.
+    /// The exit status: 1 for `Refused`, 2 for the wrong words, 3 if a read or a write failed.
     ///
     /// ```text
     /// assert_eq!(rt; Fault::Usage.status(), 2);

@@ -1,10 +1,10 @@
-//! The law that words and an input have one output at most. It is the contract of a function that does nothing.
+//! The lemma that words and an input have at most one output. It is the contract of a function that does nothing.
 ghost use Rattle.std.specs.Prelude.{◌≡◌, ℕ, List};
 ghost use Rattle.jsonpath_run.specs.Output.{IsOutput};
 
 use jsonpath_paths::laws::one_tree_per_text;
 
-/// Words and an input have one output at most.
+/// Lemma: words and an input have at most one output.
 ///
 /// ```text
 /// one_output_per_input();

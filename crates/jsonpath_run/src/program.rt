@@ -18,14 +18,12 @@ use serde_json::Value;
 use std::alloc::Global;
 use std::mem::forget;
 
-/// Carries out the words, which are without the program's name: compiles the paths, reads the input
-/// to its end where the command needs it, makes the answer, and writes it with a line end. Answers
-/// the exit status 0.
+/// Runs the program on its words, without the program's name: compiles the paths, reads the input to its end if the
+/// command needs it, and writes the answer with a line end. Returns the exit status 0.
 ///
-/// Refused with `Usage` exactly where the words are no call, and then nothing is read. Refused with
-/// `Refused` where a path isn't in the grammar, and then nothing is read; where the whole input has
-/// no answer; and where memory was refused. In all these cases nothing is written. Refused with
-/// `Io` where a read failed, and then nothing is written; and where a write failed, and then a
+/// Errors: `Usage` exactly if the words are no call, and then nothing is read; `Refused` if a path isn't in the
+/// grammar, and then nothing is read, if the whole input has no answer, or if memory ran out. In all these cases
+/// nothing is written. `Io` if a read failed, and then nothing is written; or if a write failed, and then a
 /// beginning of the answer, possibly empty, is written.
 ///
 /// ```text

@@ -36,12 +36,11 @@ pub enum Command {
 pub struct Call<'w, 'a> {
     /// What is asked for.
     pub command: Command,
-    /// The texts of the paths, in the words' order. They may be no paths.
+    /// The texts of the paths, in the words' order. They may have syntax errors.
     pub paths: &'w [&'a str],
 }
 
-/// The command and the paths that the words ask for; they are without the program's name. `None` where they are no
-/// call.
+/// Parses the words, without the program's name, to a command and its paths. `None` if they are no call.
 ///
 /// ```text
 /// assert!(rt; parse_call(&["select", "$.a"]).is_some());

@@ -1,3 +1,4 @@
--- What selectors hold and give back.
+-- What selectors hold and give back, and what updates of it leave.
 pub mod Held
-pub mod SelectorLends
+pub mod HeldChanges
+pub mod PairLends

@@ -1,5 +1,5 @@
-//! What a path selects: spots, values, locations and the first, as text and as typed values; updates at what is
-//! selected; documents read and printed.
+//! What a path selects: nodes, values, locations and the first value, as text and as typed values; updates of what
+//! is selected; documents read and printed.
 
 pub(crate) mod count_first_exists;
 pub(crate) mod document;

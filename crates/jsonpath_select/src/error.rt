@@ -13,7 +13,7 @@ use std::alloc::{AllocError, AllocFailed, Global};
 use std::error::Error;
 use std::fmt;
 
-/// Why a call was refused. `Display` and `Debug` print the same text.
+/// The error of a call. `Display` and `Debug` print the same text.
 ///
 /// ```text
 /// let refused = match compile_path(alloc, "$[") {
@@ -28,15 +28,14 @@ pub enum JsonPathError {
     EmptyPath,
     /// A path is set and no value: `json value not set`.
     EmptyValue,
-    /// A text is no path. The message is `Eof` where the text ends too early, else `Position:` and the byte position
-    /// behind the token that is refused. Where the refusal is one of `Parser`'s, it is the path text, a line end and a
-    /// row of `^`. Printed as `path error: `, a line end, the message and a line end.
+    /// A text is no path. The message is `Eof` if the text ends too early, else `Position:` and the byte position
+    /// after the wrong token. For an error of `Parser` the message is the path text, a line end and a row of `^`.
+    /// Printed as `path error: `, a line end, the message and a line end.
     Path(String),
-    /// A text is no JSON, a value is none of the wanted type, or a number that has to be printed
-    /// or typed is no whole number of 64 bits. Printed as `serde error: `, a line end, the message
-    /// and a line end.
+    /// A text is no JSON, a value can't be made a value of the wanted type, or a number that has to be printed or
+    /// typed is not an integer of 64 bits. Printed as `serde error: `, a line end, the message and a line end.
     Serde(String),
-    /// Memory was asked for and refused: `out of memory`.
+    /// Out of memory. Printed as `out of memory`.
     OutOfMemory,
 }
 
@@ -71,10 +70,9 @@ impl fmt::Debug for JsonPathError {
 impl Error for JsonPathError {}
 
 impl JsonPathError {
-    /// The byte position that a path's refusal names: behind the token or character that is refused. There is none
-    /// where the path text ends too early, and none for another refusal. Where the refusal is one of `Parser`'s, whose
-    /// message shows the place by a row of `^`, it is the position at which the row ends: behind the text's last byte
-    /// where that ends too early.
+    /// The byte position of a syntax error: that after the wrong token or character. `None` if the path text ends
+    /// too early, and for any other error. For an error of `Parser`, whose message shows the position by a row of
+    /// `^`, it is where the row ends: after the text's last byte if that ends too early.
     ///
     /// ```text
     /// match compile_path(alloc, "$.a[b]") {
@@ -91,9 +89,9 @@ impl JsonPathError {
         }
     }
 
-    /// How the refusal of this path text is shown: the text, a line end and a row of `^` that ends below the last
-    /// byte of what is refused, or below the last byte of the text where that ends too early. Where the refusal is one
-    /// of `Parser`'s, that is its message. There is nothing to show for what is no path's refusal.
+    /// Shows a syntax error in this path text: the text, a line end and a row of `^` that ends below the last byte
+    /// of the wrong token, or below the last byte of the text if that ends too early. For an error of `Parser` that
+    /// is its message. `None` for any other error.
     ///
     /// ```text
     /// let refused = compile_path(alloc, "$.a[b]")
@@ -150,8 +148,8 @@ fn path_with_carets_of_message(
     path_with_caret_row(alloc, path, carets)
 }
 
-/// The error for a token error: `Path` with `Eof` or `Position:` and the byte position as its
-/// message, or `OutOfMemory` where the token error is that one or the message found no memory.
+/// Converts a token error: to `Path`, with `Eof` or `Position:` and the byte position as its message, or to
+/// `OutOfMemory`, also if memory runs out for the message.
 ///
 /// ```text
 /// let error = path_error(alloc, &TokenError::Position(3));
@@ -171,8 +169,8 @@ pub fn path_error(alloc: Global, error: &TokenError) -> JsonPathError
     }
 }
 
-/// The error for what `Parser` refused a text with: `Path` with the fault's text as its message, or
-/// `OutOfMemory` where the fault is that one or the message found no memory.
+/// Converts an error of `Parser`: to `Path` with its text as the message, or to `OutOfMemory`, also if memory runs
+/// out for the message.
 ///
 /// ```text
 /// match Parser::compile(alloc, "$[") {
@@ -192,8 +190,7 @@ pub fn error_of_parse_fault(alloc: Global, fault: &ParseFault) -> JsonPathError
     }
 }
 
-/// `Path` with the fault's text as its message, or `OutOfMemory` where the fault is that one. It
-/// takes no memory.
+/// Becomes `Path` with the fault's text as its message, or `OutOfMemory`. It takes no memory.
 impl From<ParseFault> for JsonPathError {
     ghost use Rattle.jsonpath_select.specs.JsonPathErrors.{error_of};
     ghost use Rattle.std.specs.Prelude.{◌≡◌};
@@ -208,7 +205,7 @@ impl From<ParseFault> for JsonPathError {
     }
 }
 
-/// Want of memory is `OutOfMemory`.
+/// Becomes `OutOfMemory`.
 impl From<NoMemory> for JsonPathError {
     ghost use Rattle.std.specs.Prelude.{◌≡◌};
     ghost use Rattle.jsonpath_select.specs.declared.error.JsonPathError.TheVariants.{OutOfMemory};
@@ -220,7 +217,7 @@ impl From<NoMemory> for JsonPathError {
     }
 }
 
-/// Want of memory is `OutOfMemory`.
+/// Becomes `OutOfMemory`.
 impl From<AllocError> for JsonPathError {
     ghost use Rattle.std.specs.Prelude.{◌≡◌};
     ghost use Rattle.jsonpath_select.specs.declared.error.JsonPathError.TheVariants.{OutOfMemory};
@@ -232,7 +229,7 @@ impl From<AllocError> for JsonPathError {
     }
 }
 
-/// Want of memory is `OutOfMemory`.
+/// Becomes `OutOfMemory`.
 impl<T: Drop> From<AllocFailed<T>> for JsonPathError {
     ghost use Rattle.std.specs.Prelude.{◌≡◌};
     ghost use Rattle.jsonpath_select.specs.declared.error.JsonPathError.TheVariants.{OutOfMemory};

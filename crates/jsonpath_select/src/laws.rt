@@ -1,5 +1,5 @@
-//! Laws of selections, over the definitions alone. A law is stated as the contract of a function that does nothing, and
-//! a body whose proof needs it calls it.
+//! Lemmas about selections, over the definitions alone. A lemma is the contract of a function that does nothing; a
+//! body whose proof needs it calls it.
 ghost use Rattle.jsonpath_select.specs.SelectionLaws.{OneListOfLocations, OneListOfValues, OneListOfSights, SelectsOnce, OrderIsFree, LocationsInBothOrders, ValuesInBothOrders, SelectsItself, SelectsNames, AnswersPlace, SelectsByTree, NeverRefused, AnswersEach};
 ghost use Rattle.jsonpath_select.specs.comparison.Extremes.{EndsDecidePairs};
 ghost use Rattle.jsonpath_select.specs.SetMeaning.{SelectsOneSet, SelectsOneOrderedSet, HoldsAlike, FollowsWhatLeadsOn, FirstOfTwoPieces};
@@ -12,7 +12,7 @@ use jsonpath_paths::laws::{
     connective_joins_conditions, longest_front, one_tree_per_text, word_is_first_token,
 };
 
-/// A path text selects one list in a document, whichever selector answers it, and however often.
+/// Lemma: a path text selects one list in a document, by whichever selector, and however often.
 ///
 /// ```text
 /// laws::one_selection_per_text();
@@ -25,8 +25,8 @@ pub fn one_selection_per_text()
     one_tree_per_text();
 }
 
-/// A path whose steps outside filters have no `..`, no union and no list of names selects no
-/// location of a document twice.
+/// Lemma: a path whose steps outside filters have no `..` and no list of names or indexes selects no location of a
+/// document twice.
 ///
 /// ```text
 /// laws::paths_without_repeats_select_once();
@@ -37,7 +37,7 @@ pub fn paths_without_repeats_select_once()
     equal_locations_are_same();
 }
 
-/// Two paths that differ in the order of the sides of `&&` and `||` alone select the same list.
+/// Lemma: two paths that differ only in the order of the sides of `&&` and `||` select the same list.
 ///
 /// ```text
 /// laws::swapped_sides_select_alike();
@@ -46,11 +46,10 @@ pub fn swapped_sides_select_alike()
     ensures { OrderIsFree }
 {}
 
-/// For two condition texts `a` and `b`, the paths `$[?((a) && (b))]` and `$[?((b) && (a))]` select
-/// the same list, and so do those of `||`. Both are in the grammar, and so are `$[?(a)]` and
-/// `$[?(b)]`, which keeps out an `a` like `@.x) || (@.y`. The parentheses are needed: both
-/// connectives have one rank and group to the right, so where `a` is `@.x || @.y`, `a && b` means
-/// `@.x || (@.y && b)`.
+/// Lemma: for two condition texts `a` and `b`, the paths `$[?((a) && (b))]` and `$[?((b) && (a))]` select the same
+/// list, and so do those of `||`. Both are in the grammar, and so are `$[?(a)]` and `$[?(b)]`, which excludes an `a`
+/// like `@.x) || (@.y`. The parentheses are needed: both connectives have the same precedence and group to the
+/// right, so if `a` is `@.x || @.y`, `a && b` means `@.x || (@.y && b)`.
 ///
 /// ```text
 /// laws::swapped_condition_texts_select_alike();
@@ -63,9 +62,9 @@ pub fn swapped_condition_texts_select_alike()
     connective_joins_conditions();
 }
 
-/// The text of a location, as `{}` prints it, is a path of the grammar, and selects this location
-/// alone in each document where something stands there, and nothing in the others. Each name is
-/// UTF-8 text, and each index is below 2^63.
+/// Lemma: the text of a location, as `{}` prints it, is a path of the grammar. It selects this location alone in
+/// each document where that exists, and nothing in the others. Each name is UTF-8 text, and each index is below
+/// 2^63.
 ///
 /// ```text
 /// laws::location_text_selects_itself();
@@ -76,9 +75,9 @@ pub fn location_text_selects_itself()
     longest_front();
 }
 
-/// A path of names behind dots, as `$.store.book`, selects the location alone to which they lead
-/// from the root, in each document where something stands there, and nothing in the others. Each
-/// name is an ASCII word without a dollar sign in front.
+/// Lemma: a path of names after dots, as `$.store.book`, selects only the location to which they lead from the root
+/// in each document where that exists, and nothing in the others. Each name is an ASCII word without a dollar sign
+/// in front.
 ///
 /// ```text
 /// laws::dotted_names_select_one_location();
@@ -90,8 +89,7 @@ pub fn dotted_names_select_one_location()
     longest_front();
 }
 
-/// A path that selects one location alone, where something stands there, answers the value there
-/// alone, and nothing in the other documents.
+/// Lemma: the answer of a path that selects one location is the value there if that exists, and else empty.
 ///
 /// ```text
 /// laws::one_location_answers_one_value();
@@ -102,7 +100,7 @@ pub fn one_location_answers_one_value()
     one_tree_per_text();
 }
 
-/// A path selects by any tree that its text spells: there is one alone.
+/// Lemma: what a path selects can be computed by any syntax tree of its text: there is only one.
 ///
 /// ```text
 /// laws::selects_by_any_tree();
@@ -113,7 +111,7 @@ pub fn selects_by_any_tree()
     one_tree_per_text();
 }
 
-/// A text of the grammar is refused for want of memory alone.
+/// Lemma: for a text of the grammar the only error is out of memory.
 ///
 /// ```text
 /// laws::refused_for_memory_alone();
@@ -122,7 +120,7 @@ pub fn refused_for_memory_alone()
     ensures { NeverRefused }
 {}
 
-/// Each location that a path selects in a document holds a value: an answer has as many values as
+/// Lemma: each location that a path selects in a document has a value there: the path selects as many values as
 /// locations, in the same order.
 ///
 /// ```text
@@ -134,8 +132,9 @@ pub fn each_location_has_a_value()
     all_locations_stand_below_root();
 }
 
-/// What begins at the root is the same at every candidate: a term from the root has one list of values, and a
-/// condition whose paths all begin at the root holds at all candidates or at none. So it is decided once.
+/// Lemma: what begins at the root is the same at every candidate: a side of a comparison that is a path from the
+/// root has one list of values, and a condition whose paths all begin at the root holds at all candidates or at
+/// none. So it is decided once.
 ///
 /// ```text
 /// laws::rooted_is_same_for_all_candidates();
@@ -146,9 +145,9 @@ pub fn rooted_is_same_for_all_candidates()
     ensures kept { RootedKeepsAllOrNone }
 {}
 
-/// Some left value and some right value satisfy `<`, `<=`, `>` or `>=` exactly where the least and greatest of
-/// a kind do, and `==` exactly where the sets of a kind meet or both sides have a null. So no pair has to be
-/// looked at by itself.
+/// Lemma: some left value and some right value satisfy `<`, `<=`, `>` or `>=` exactly if the least and greatest
+/// values of a kind do, and `==` exactly if the sets of a kind intersect or both sides have a null. So pairs need
+/// not be compared one by one.
 ///
 /// ```text
 /// laws::extremes_and_sets_decide_pairs();
@@ -157,10 +156,10 @@ pub fn extremes_and_sets_decide_pairs()
     ensures { EndsDecidePairs }
 {}
 
-/// A path selects the same set, and a condition holds at the same candidates, where after each step repeats are
-/// dropped, inside conditions too, and where each `..` begins at other places from which it finds the same, as at the
-/// topmost alone. So a condition is a matter of the location and the document alone, and can be decided once for each
-/// location.
+/// Lemma: a path selects the same set, and a condition holds at the same candidates, if duplicates are dropped after
+/// each step, inside conditions too, and if each `..` begins at any nodes from which it finds the same, as those
+/// with no ancestor among them. So a condition depends on the location and the document alone, and can be decided
+/// once for each location.
 ///
 /// ```text
 /// laws::dropping_repeats_keeps_the_set();
@@ -173,8 +172,8 @@ pub fn dropping_repeats_keeps_the_set()
     steps_ignore_order_and_repeats();
 }
 
-/// What leads to nothing needs not be followed: from a list of locations some steps reach what they reach from
-/// those alone from which they lead somewhere, in the same order and with the same repeats.
+/// Lemma: locations from which the remaining steps select nothing can be dropped: the steps select the same list, in
+/// the same order and with the same duplicates, from the other locations alone.
 ///
 /// ```text
 /// laws::what_leads_on_suffices();
@@ -186,8 +185,8 @@ pub fn what_leads_on_suffices()
     equal_locations_are_same();
 }
 
-/// The first place that some steps reach from a list in two pieces, in the path's order, is the first of what they
-/// reach from the one piece and then from the other. So it is found from some of the list at a time.
+/// Lemma: the first node that some steps select from a list in two pieces, in the path's order, is the first of what
+/// they select from the first piece and then from the second. So the first node can be found piece by piece.
 ///
 /// ```text
 /// laws::first_is_of_first_piece();

@@ -1,5 +1,5 @@
-//! Compiled paths, which token lists are a path's, what a path selects in a document, updates at what it selects,
-//! selectors that hold both, how documents are read, and how answers and refusals are printed.
+//! Compiled paths, which token lists are a path's, what a path selects in a document, updates of what it selects,
+//! selectors and update types that hold both, how documents are read, and how answers and errors are printed.
 #![tactic(auto)]
 
 mod answer;
@@ -26,6 +26,8 @@ pub use compile::node_visitor::NodeVisitor;
 pub use compile::parser::{ParseFault, Parser};
 pub use compile::token_list_fit::tokens_fit;
 pub use error::{JsonPathError, error_of_parse_fault, path_error};
-pub use selectors::json_selector::JsonSelector;
-pub use selectors::selector::Selector;
+pub use selectors::held_pair::{HeldPair, HeldValue};
+pub use selectors::json_selector::{JsonSelector, JsonSelectorMut};
+pub use selectors::selector::{Selector, SelectorMut};
+pub use selectors::walked_path::{OfNode, WalkedPath};
 pub use step::names::borrowed_name_at;

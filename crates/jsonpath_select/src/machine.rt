@@ -1,5 +1,5 @@
-//! The machine that runs token lists, and how the places to which its plain steps lead stand to each other; where a
-//! whole path is run stands in `filters`.
+//! The machine that runs token lists, and how the nodes that its plain steps select lie to each other; whole paths
+//! are run in `filters`.
 
 pub(crate) mod execute_instruction;
 pub(crate) mod instruction;

@@ -1,5 +1,5 @@
-//! What the machine and the walks share of steps: the marks that they carry from step to step, and plain steps, with
-//! the names and indexes that they have.
+//! What the machine and the walks share of steps: the node references between steps, and plain steps, with their
+//! names and indexes.
 
 pub(crate) mod carried_mark;
 pub(crate) mod distinct_selections;

@@ -1,5 +1,5 @@
-//! Marks with the numbers of the candidates that they are for, which the machine and the walks share: how a path begins
-//! with them, how they are led on and kept, and at which candidates a condition holds.
+//! Node references tagged with the numbers of their candidates, which the machine and the walks share: how a path
+//! begins with them, how steps are applied and results kept, and at which candidates a condition holds.
 
 pub(crate) mod conditions;
 pub(crate) mod kept_marks;

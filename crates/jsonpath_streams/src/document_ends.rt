@@ -3,7 +3,7 @@
 ghost use Rattle.std.specs.Prelude.{◌≡◌, ◌≢◌, ◌<◌, ◌≤◌, ◌+◌, ◌++◌, ℕ, List, length, false, IfSome, IfNone};
 ghost use Rattle.jsonpath_streams.specs.DocumentEnds.{AreBlanks, state_after, is_json_whitespace, is_blank_text, state_at_depth, rest_len, first_document_len};
 
-/// How the bytes of a document so far leave it.
+/// The state of a search for a document's end, after the bytes so far.
 ///
 /// ```text
 /// let mut here = Inside::Blanks;
@@ -14,13 +14,14 @@ ghost use Rattle.jsonpath_streams.specs.DocumentEnds.{AreBlanks, state_after, is
 pub enum Inside {
     /// In the blanks before a document.
     Blanks,
-    /// In what begins with no bracket and no quote: a number, a truth or null that stands alone, or what is no JSON.
+    /// In a document that begins with no bracket and no quote: a lone number, `true`, `false` or `null`, or no JSON
+    /// at all.
     Word,
-    /// In so many open brackets.
+    /// Inside this many open brackets.
     Brackets(usize),
-    /// In a text, in so many open brackets.
+    /// In a quoted text, inside this many open brackets.
     Text(usize),
-    /// Behind a backslash of a text, in so many open brackets.
+    /// After a backslash in a quoted text, inside this many open brackets.
     Escape(usize),
     /// The document is over.
     After,
@@ -93,10 +94,10 @@ fn state_after(here: Inside, byte: u8) -> Inside
     }
 }
 
-/// How many of these bytes, the next piece of a text, belong to its document, if that ends among them: 0 where all of
-/// it came before, and `None` where it goes on behind them all. `here` says how the bytes before left the document,
-/// `Blanks` at the beginning. At `None` it then says how these leave it; after `Some` it is not to be handed in again,
-/// since it isn't set to `After`.
+/// Finds the end of a document in `bytes`, the next piece of a stream: the number of bytes that still belong to the
+/// document, 0 if it ended before them, and `None` if it goes on after them. `here` is the state after the bytes
+/// before, `Blanks` at the beginning. At `None` it is updated to the state after `bytes`; after `Some` start anew
+/// with `Blanks`, since it isn't set to `After`.
 ///
 /// ```text
 /// let mut here = Inside::Blanks;
@@ -127,9 +128,8 @@ pub fn document_end_in_piece(here: &mut Inside, bytes: &[u8]) -> Option<usize>
     None
 }
 
-/// How many bytes the first document of a text takes, with the blanks before it: up to and with the byte that closes
-/// it, or, where it is a number or a word, up to the next blank, opening bracket or quote, which is not counted; all
-/// bytes, where it goes on to the end.
+/// The number of bytes of the first document of a text, with the blanks before it: up to and with the byte that
+/// closes it; a number or a word ends before the next blank, opening bracket or quote; all bytes, if it doesn't end.
 ///
 /// ```text
 /// assert_eq!(rt; first_document_len(b" [1, \"]\"] 2"), 9);
@@ -147,7 +147,7 @@ pub fn first_document_len(bytes: &[u8]) -> usize
     }
 }
 
-/// Whether the bytes are blanks alone, as JSON has them between its parts. So are no bytes at all.
+/// Whether the bytes are only blanks, as JSON has them between its parts; true for no bytes at all.
 ///
 /// ```text
 /// assert!(rt; is_blank_text(b" \n\t"));

@@ -1,10 +1,9 @@
-//! Bytes that come and go: readers and writers that say which bytes went through them, and where a document of a text
-//! ends.
+//! Readers and writers that say which bytes went through them, and where a document of a text ends.
 #![tactic(auto)]
 
+mod called;
 mod checked;
 mod document_ends;
-mod history;
 mod streams;
 
 pub use checked::Checked;

@@ -24,8 +24,8 @@ pub fn price<'a>(alloc: Global, json: &'a Value) -> Result<Vec<&'a Value>, JsonP
     select(alloc, json, "$.price")
 }
 
-/// The value at the location, if something stands there, else nothing; found by the location's text taken as a path.
-/// Each index of the location is below 2^63, as paths have them.
+/// The value at the location, or nothing; found by the location's text used as a path. Each index of the location is
+/// below 2^63, as in paths.
 pub fn value_at<'a>(
     alloc: Global,
     json: &'a Value,
@@ -51,7 +51,7 @@ pub fn column_text(alloc: Global, json: &Value, path: &str) -> Result<String, Js
     list_to_text(alloc, found.as_slice())
 }
 
-/// Whether the path selects exactly `count` values, repeats counted.
+/// Whether the path selects exactly `count` values, duplicates included.
 pub fn selects_exactly(
     alloc: Global,
     json: &Value,

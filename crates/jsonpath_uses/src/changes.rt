@@ -13,8 +13,8 @@ use jsonpath_lib::{
 use serde_json::Value;
 use std::alloc::Global;
 
-/// Masks by two paths: one value by the first and the second, the other by the second and the first. The two values are
-/// equal before and after. `None` where a path or memory is refused.
+/// Masks by two paths: one value by the first and the second, the other by the second and the first. The two values
+/// are equal before and after. `None` if a path is wrong or memory runs out.
 pub fn mask_in_either_order(
     alloc: Global,
     one: Value,
@@ -63,8 +63,8 @@ pub fn remove_price_twice(alloc: Global, json: &mut Value) -> Result<(), JsonPat
     Ok(())
 }
 
-/// The value without what any of these paths selects in it; all of them select before anything is removed. Where a path
-/// is refused, the value is dropped.
+/// The value without what any of these paths selects in it; all of them select before anything is removed. If a path
+/// is wrong, the value is dropped.
 pub fn without_secrets(alloc: Global, json: Value, secrets: &[&str]) -> Result<Value, JsonPathError>
     ensures { IfOk result (λ left. AreRemoved (map (λ p. p.now) secrets.now) (view json) (view left)) }
 {

@@ -2,7 +2,7 @@
 ghost use Rattle.std.specs.Prelude.{◌≡◌, Some, map, true, false, IfOk, IfSome, OnOk, OnErr};
 ghost use Rattle.serde_json.specs.View.{view};
 ghost use Rattle.jsonpath_select.specs.Targets.{IsDeleted};
-ghost use Rattle.jsonpath_lib.specs.update.Changes.{RemovesHeld};
+ghost use Rattle.jsonpath_select.specs.selectors.HeldChanges.{RemovesHeld};
 ghost use Rattle.jsonpath_select.specs.selectors.Held.{document};
 ghost use Rattle.jsonpath_select.specs.Meaning.{Selects};
 
@@ -12,7 +12,7 @@ use jsonpath_lib::{
 use serde_json::Value;
 use std::alloc::Global;
 
-/// Puts a compiled path into a `JsonSelector` by `set_parser`. After a refusal it holds what it held.
+/// Puts a compiled path into a `JsonSelector` by `set_parser`. After an error it has the path that it had.
 pub fn set_parser_in_json_selector<'a>(
     alloc: Global,
     held: &mut JsonSelector<'a>,
@@ -25,7 +25,7 @@ pub fn set_parser_in_json_selector<'a>(
     Ok(())
 }
 
-/// Puts the path that a text spells into a `Selector` by `set_path`. After a refusal it holds what it held.
+/// Compiles a path text into a `Selector` by `set_path`. After an error it has the path that it had.
 pub fn set_path_in_selector(
     alloc: Global,
     held: &mut Selector<'_, '_>,
@@ -38,7 +38,7 @@ pub fn set_path_in_selector(
     Ok(())
 }
 
-/// Puts a compiled path into a `JsonSelectorMut` by `set_parser`. After a refusal it holds what it held.
+/// Puts a compiled path into a `JsonSelectorMut` by `set_parser`. After an error it has the path that it had.
 pub fn set_parser_in_json_selector_mut<'a>(
     alloc: Global,
     held: &mut JsonSelectorMut<'a>,
@@ -51,7 +51,7 @@ pub fn set_parser_in_json_selector_mut<'a>(
     Ok(())
 }
 
-/// Puts the path that a text spells into a `SelectorMut` by `set_path`. After a refusal it holds what it held.
+/// Compiles a path text into a `SelectorMut` by `set_path`. After an error it has the path that it had.
 pub fn set_path_in_selector_mut(
     alloc: Global,
     held: &mut SelectorMut,
@@ -64,7 +64,7 @@ pub fn set_path_in_selector_mut(
     Ok(())
 }
 
-/// What a selector answers that was handed two path texts, one after the other: what the second selects.
+/// The answer of a selector after two path texts, one after the other: what the second selects.
 pub fn select_by_second_path<'a>(
     alloc: Global,
     json: &'a Value,
@@ -80,7 +80,7 @@ pub fn select_by_second_path<'a>(
     held.select(alloc)
 }
 
-/// What one held path selects in two documents, which are handed to the selector one after the other.
+/// What one path in a selector selects in two documents, one after the other.
 pub fn select_in_two_documents<'a>(
     alloc: Global,
     path: &str,
@@ -99,9 +99,8 @@ pub fn select_in_two_documents<'a>(
     Ok((first, second))
 }
 
-/// The document with null at the topmost locations below the root that the path selects, by calls of an update type
-/// that are statements of their own. The answer is what the type hands back: `None` would mean that it holds no
-/// document.
+/// The document with null in place of what the path selects below the root, by calls of an update type that are
+/// statements of their own. `None` would mean that the type has no document.
 pub fn delete_in_statements(
     alloc: Global,
     json: Value,
@@ -115,7 +114,7 @@ pub fn delete_in_statements(
     Ok(held.take())
 }
 
-/// Removes what the held path selects from the held document, and answers whether that was done. A refused update
+/// Removes what the path of the update type selects from its document, and returns whether that was done. An error
 /// leaves all as it was.
 pub fn remove_or_leave(alloc: Global, held: &mut SelectorMut) -> bool
     ensures removed { result ≡ true → RemovesHeld held.old.path (document held.old) (document held.new) }

@@ -6,3 +6,4 @@ pub mod answers;
 pub mod changes;
 pub mod held;
 pub mod routes;
+pub mod verbs;

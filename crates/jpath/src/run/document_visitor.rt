@@ -1,7 +1,7 @@
 //! The visitor of the files' documents: what is done with each of them.
 
-ghost use Rattle.std.specs.Prelude.{◌≡◌, ◌≤◌, ◌++◌, false, length, IfOk, OnOk};
-ghost use Rattle.jpath.specs.Gives.{Gives};
+ghost use Rattle.std.specs.Prelude.{◌≡◌, ◌≤◌, ◌++◌, false, true, length, IfOk, IfErr, OnOk, OnErr};
+ghost use Rattle.jpath.specs.Gives.{Gives, IsWhyStopped};
 
 use crate::run::one_document::add_output_for_document;
 use jpath_core::{DocumentRefusal, MARK, Piece, Taken, Visitor};
@@ -14,30 +14,40 @@ use std::alloc::{AllocError, Global};
 /// Why the run ends early.
 #[derive(Clone, Copy, Debug, Drop, PartialEq, Eq)]
 pub enum Stop {
-    /// The output fails, or nobody reads it any more.
+    /// Writing failed, or nobody reads the output any more.
     Output,
-    /// A match is found, and nothing more is asked for.
+    /// A match was found, and one is enough.
     Found,
-    /// A document is refused, which is told.
+    /// A document had an error, which is printed already.
     Document,
-    /// There is not enough memory.
+    /// Out of memory.
     OutOfMemory,
 }
 
 impl From<AllocError> for Stop {
+    ghost use Rattle.jpath.specs.declared.run.document_visitor.Stop.TheVariants.{OutOfMemory};
+    ghost use Rattle.std.specs.Prelude.{◌≡◌};
+
+    ghost from_gives = { λ _ stop. stop ≡ OutOfMemory };
+
     fn from(_: AllocError) -> Stop {
         Stop::OutOfMemory
     }
 }
 
 impl From<IoFailed> for Stop {
+    ghost use Rattle.jpath.specs.declared.run.document_visitor.Stop.TheVariants.{Output};
+    ghost use Rattle.std.specs.Prelude.{◌≡◌};
+
+    ghost from_gives = { λ _ stop. stop ≡ Output };
+
     fn from(_: IoFailed) -> Stop {
         Stop::Output
     }
 }
 
-/// What is wanted, the file at hand, the output so far, and whether a document was refused. It writes what is wanted of
-/// each document that it is given.
+/// The task, the current file, the output so far, and whether a document had an error. It writes the output of each
+/// document that it visits.
 #[derive(Drop)]
 pub struct DocumentVisitor<'r, 'w, T, W> {
     pub rt: &'r T,
@@ -51,7 +61,7 @@ pub struct DocumentVisitor<'r, 'w, T, W> {
 }
 
 impl<'r, 'w, T: Eprint + Alloc<A = Global>, W: Output> DocumentVisitor<'r, 'w, T, W> {
-    /// A visitor before the first file: its output holds nothing, and no document was refused.
+    /// A visitor before the first file: no output is buffered, and no document had an error.
     pub fn new(rt: &'r T, wanted: &'r Wanted<'w>, writer: W) -> DocumentVisitor<'r, 'w, T, W> {
         DocumentVisitor {
             rt,
@@ -66,7 +76,8 @@ impl<'r, 'w, T: Eprint + Alloc<A = Global>, W: Output> DocumentVisitor<'r, 'w, T
 
     // Writes the held output once it has 64 KB or more; but not with `-i`, where it is the edited text of a file.
     fn flush_output_if_full(&mut self) -> Result<(), IoFailed>
-        ensures { W.written self.new.output.writer ++ self.new.output.bytes.items ≡ W.written self.old.output.writer ++ self.old.output.bytes.items }
+        ensures failed { OnErr result (W.has_failed self.new.output.writer ≡ true) }
+        ensures same { W.written self.new.output.writer ++ self.new.output.bytes.items ≡ W.written self.old.output.writer ++ self.old.output.bytes.items }
     {
         if self.wanted.is_in_place {
             return Ok(());
@@ -80,7 +91,9 @@ impl<'r, 'w, T: Eprint + Alloc<A = Global>, W: Output> Visitor for DocumentVisit
 
     ghost written = { λ v. W.written v.output.writer ++ v.output.bytes.items };
 
-    ghost gives = { λ v piece passed text count. Gives piece passed text count };
+    ghost gives = { λ v piece taken text. Gives piece taken text };
+
+    ghost stops = { λ v stop. IsWhyStopped (W.has_failed v.output.writer) v.has_refused stop };
 
     // Writes the held output before a read that may wait; but not with `-i`, where it is the edited text of a file.
     fn before_read(&mut self) -> Result<(), Stop> {
@@ -133,6 +146,8 @@ fn stop_or_pass_refused_piece(
     ensures passed { IfOk result (λ taken. taken.passed ≤ length piece.now.bytes.now) }
     ensures blank { OnOk result (piece.now.is_blank ≡ false) }
     ensures count { IfOk result (λ taken. taken.count ≡ 0) }
+    ensures more { IfOk result (λ taken. taken.is_enough ≡ false) }
+    ensures refused { IfErr result (λ stop. stop ≡ Stop.Document) }
 {
     let len = tell_refused_document(rt, name, piece.bytes, piece.place, refusal);
     if !wanted.keeps_going || piece.is_blank {

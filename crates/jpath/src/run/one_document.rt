@@ -14,9 +14,9 @@ use json::{Scratch, Value as Exact};
 use std::alloc::Global;
 use std::str;
 
-/// Writes what is wanted of a document (lines, an array, a table or its edited text) behind what `out` has, and answers
-/// how many matches it has, or how many places the edits' paths select below the root. `name` is the file's. A refusal
-/// may leave a part of it.
+/// Appends the output for a document to `out` (lines, an array, a table or its edited text), and returns how many
+/// matches it has, or how many locations below the root the edits' paths select. `name` is the file's. An error may
+/// leave a part of it.
 pub fn add_output_for_document(
     rt: &(impl Eprint + Alloc<A = Global>),
     wanted: &Wanted<'_>,

@@ -1,5 +1,5 @@
-//! Conditions of filters, decided on the exact tree by members of the candidate. `text` is the path's text, in which
-//! the spans of names and quoted texts stand.
+//! Conditions of filters, decided on the exact tree by members of the candidate. `text` is the path's text, to which
+//! the spans of names and quoted texts belong.
 
 ghost use Rattle.std.specs.Prelude.{◌≡◌, ◌∷◌, [], map, true, false, option_map, option_to_list, IfSome};
 ghost use Rattle.json.specs.Value.{value_view};

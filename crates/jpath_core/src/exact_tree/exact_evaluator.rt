@@ -1,6 +1,6 @@
-//! Paths that are answered on the exact tree itself, their lines written or their matches counted: paths of names,
-//! `[*]` on arrays, and filters on members of a candidate. No image, the copy of a document that paths are run on, is
-//! made for them.
+//! Paths that are evaluated on the exact tree itself, their lines written or their matches counted: paths of names,
+//! `[*]` on arrays, and filters on members of a candidate. No image, the copy of a document that paths are run on,
+//! is made for them.
 
 ghost use Rattle.std.specs.Prelude.{◌≡◌, ◌∷◌, [], true, false, Some, OnOk, IfOk, IfSome};
 ghost use Rattle.json.specs.Tree.{HasNumbers, ItemsHaveNumbers};
@@ -25,17 +25,17 @@ use jsonpath_select::borrowed_name_at;
 use std::alloc::{AllocError, Global};
 use std::mem;
 
-/// What was found along an exact tree.
+/// The result of evaluating a path on an exact tree.
 #[derive(Clone, Copy, Debug, Drop)]
 pub struct ExactOutcome {
     /// How many values the path selects.
     pub count: usize,
-    /// Whether a number was compared that is no whole number of 64 bits. It was compared exactly.
+    /// Whether a number was compared that is not an integer of 64 bits. It was compared exactly.
     pub has_fraction: bool,
 }
 
-/// Whether a path may be answered on the exact tree itself: it begins at the root, and is of names, `[*]` and filters
-/// on members of a candidate. Some documents need an image for it all the same.
+/// Whether a path may be evaluated on the exact tree itself: it begins at the root, and consists of names, `[*]` and
+/// filters on members of a candidate. Some documents need an image for it all the same.
 pub fn may_answer_by_exact_tree(query: &Query<'_>) -> bool {
     let path = query.path().tree();
     for step in &path.steps {
@@ -51,9 +51,9 @@ pub fn may_answer_by_exact_tree(query: &Query<'_>) -> bool {
     path.absolute
 }
 
-/// Writes a line for each value that a path selects in an exact tree, in the path's order, or no line where there is no
-/// `line`, and answers how many there are. None where the path or the tree needs an image: a part of the lines may then
-/// stand, as at a refusal.
+/// Writes a line for each value that a path selects in an exact tree, in the path's order, or no line if there is no
+/// `line`, and returns how many there are. `None` if the path or the tree needs an image: a part of the lines may
+/// then be written, as at an error.
 pub fn add_lines_by_exact_tree(
     alloc: Global,
     exact: &Exact<'_>,

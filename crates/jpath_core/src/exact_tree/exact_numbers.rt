@@ -1,4 +1,4 @@
-//! Numbers of the exact tree as decimals, where they are whole or have at most 18 digits behind the point.
+//! Numbers of the exact tree as decimals, if they are integers or have at most 18 digits after the point.
 
 ghost use Rattle.std.specs.Prelude.{◌≡◌, true, false, IfSome};
 ghost use Rattle.serde_json.specs.Read.{number_of, number_from};

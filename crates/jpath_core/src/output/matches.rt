@@ -26,8 +26,8 @@ use jsonpath_paths::laws::one_tree_per_text;
 use std::alloc::{AllocError, Global};
 use std::mem;
 
-/// Writes a line for each value that one path selects in a document, in the path's order, and answers how
-/// many there are. A refusal may leave a part of them.
+/// Writes a line for each value that one path selects in a document, in the path's order, and returns how many there
+/// are. An error may leave a part of them.
 pub fn add_lines_for_path(
     alloc: Global,
     document: &Document<'_>,
@@ -70,8 +70,8 @@ fn count_matches_of_path(
     Ok(select_in_document(alloc, document, query)?.len())
 }
 
-/// Writes one array of all values that the paths select, path after path, on a line, and answers how
-/// many there are. A refusal may leave a part of it.
+/// Writes one array of all values that the paths select, path after path, on a line, and returns how many there are.
+/// An error may leave a part of it.
 pub fn add_array(
     alloc: Global,
     document: &Document<'_>,

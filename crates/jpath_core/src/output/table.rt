@@ -11,9 +11,9 @@ use json::Value as Exact;
 use serde_json::Value;
 use std::alloc::Global;
 
-/// Writes a row for each value that `rows` selects in a document, behind what is there, and answers how
-/// many there are. A column is a path with that value as its `$`; its field is the first match, a text
-/// raw and all else compact, and empty where there is none. A refusal may leave a part of them.
+/// Appends a row for each value that `rows` selects in a document, and returns how many there are. A column is a
+/// path with that value as its `$`; its field is the first match, a text raw and all else compact, and empty if
+/// there is none. An error may leave a part of them.
 pub fn add_rows(
     alloc: Global,
     document: &Document<'_>,

@@ -1,4 +1,4 @@
-//! Whether the parts that give way are what stands at the targets.
+//! Whether the replaced parts are what is at the targets.
 
 ghost use Rattle.std.specs.Prelude.{map, IfOk, IsTrue};
 ghost use Rattle.json.specs.Value.{value_view};

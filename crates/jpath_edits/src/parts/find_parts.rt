@@ -1,4 +1,4 @@
-//! The parts of a document's text that give way where an edit changes it.
+//! Finds the parts of a document's text that an edit replaces.
 
 use crate::parts::part::Part;
 use json::Value as Exact;

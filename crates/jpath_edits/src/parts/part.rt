@@ -1,4 +1,4 @@
-//! `Part`, a part of a document's text that gives way for a target of an edit.
+//! `Part`, a part of a document's text that an edit replaces.
 
 // A part of a text that gives way for a target.
 #[derive(Clone, Copy, Drop)]

@@ -6,8 +6,8 @@ use crate::output::value_text::Look;
 use json::Value as Exact;
 use std::alloc::{AllocError, Global};
 
-/// Writes an item of an array behind what is there, in colours or over lines, as the look says, and the
-/// comma before it; each name of an object once. A refusal may leave a part of it.
+/// Appends an item of an array, in colours or on lines as `look` says, and the comma before it; each name of an
+/// object once. An error may leave a part of it.
 pub fn add_array_item(
     alloc: Global,
     out: &mut Vec<u8>,
@@ -36,7 +36,7 @@ fn add_array_item_with_names_kept(
     add_value_at_depth(alloc, out, value, depth, look.is_colored)
 }
 
-/// Writes the closing bracket of the array, on a line of its own where there are items (`has_items`) and they stand on
+/// Appends the closing bracket of the array, on a line of its own if there are items (`has_items`) and they are on
 /// lines.
 pub fn add_array_end(out: &mut Vec<u8>, has_items: bool, look: Look) -> Result<(), AllocError> {
     if has_items {

@@ -1,5 +1,5 @@
-//! Values in colours, for a terminal, and values that stand at a depth of indentation, as the items of an array do. A
-//! whole value over lines without colours is written in `value_text.rt`.
+//! Values in colours, for a terminal, and values at a depth of indentation, as the items of an array. A whole value
+//! on several lines without colours is written in `value_text.rt`.
 
 use json::{Token, Value as Exact, Writer};
 use std::alloc::{AllocError, Global};

@@ -7,17 +7,16 @@ use csv::{Terminator, WriterBuilder};
 use std::alloc::{AllocError, Global};
 use std::mem;
 
-/// How the fields of a row are set apart.
+/// How the fields of a row are separated.
 #[derive(Clone, Copy, Debug, Drop)]
 pub enum Separated {
-    /// By commas; a field with a comma, a quote or a line end stands in quotes.
+    /// By commas; a field with a comma, a quote or a line end is quoted.
     ByCommas,
     /// By tabs; a tab, a line end or a backslash in a field is written by a backslash and a letter.
     ByTabs,
 }
 
-/// Writes the header of a table, a row of these names, behind what is there. A refusal may leave a part of it, or
-/// nothing at all.
+/// Appends the header of a table, a row of these names. An error may leave a part of it, or nothing at all.
 pub fn add_header(
     alloc: Global,
     names: &[&str],
@@ -33,7 +32,7 @@ pub fn add_header(
     add_row(alloc, fields.as_slice(), separated, out)
 }
 
-/// Writes a row of these fields behind what is there. A refusal may leave a part of it, or nothing at all.
+/// Appends a row of these fields. An error may leave a part of it, or nothing at all.
 pub fn add_row(
     alloc: Global,
     fields: &[Vec<u8>],

@@ -12,18 +12,18 @@ use json::{Pretty, Token, Value as Exact, Writer};
 use std::alloc::{AllocError, Global};
 use std::mem;
 
-/// How a value is written. With none of these it is its compact text.
+/// How a value is laid out. If no field is set, it is written compactly.
 #[derive(Clone, Copy, Debug, Drop)]
 pub struct Look {
-    /// A text stands without quotes and escapes.
+    /// Whether a text is written without quotes and escapes.
     pub is_raw: bool,
-    /// Items and members stand on lines of their own, indented by two blanks.
+    /// Whether items and members are written on lines of their own, indented by two blanks.
     pub is_pretty: bool,
-    /// Names, texts, numbers and the rest are in colours.
+    /// Whether names, texts, numbers and the rest are in colours.
     pub is_colored: bool,
 }
 
-/// Writes the compact text of a value behind what is there; repeated names are kept. A refusal leaves nothing of it.
+/// Appends the compact text of a value, with repeated names. An error leaves nothing of it.
 pub fn add_compact_value(
     alloc: Global,
     out: &mut Vec<u8>,
@@ -39,8 +39,8 @@ pub fn add_compact_value(
     written
 }
 
-/// Writes a value in this look behind what is there, each name of an object once: at its first place, with
-/// its last value. A refusal may leave a part of it.
+/// Appends a value as `look` says, each name of an object once: where it occurs first, with its last value. An error
+/// may leave a part of it.
 pub fn add_value_in_look(
     alloc: Global,
     out: &mut Vec<u8>,

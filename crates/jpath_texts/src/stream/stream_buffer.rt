@@ -1,6 +1,6 @@
-//! The buffer of a stream: the document at hand and the bytes read beyond it.
+//! The buffer of a stream: the current document and the bytes read beyond it.
 
-ghost use Rattle.std.specs.Prelude.{◌≡◌, ℕ, List, [], ◌++◌, ◌≤◌, ◌<◌, drop, length, min, true, false, IfSome, IfNone, OnOk, OnErr};
+ghost use Rattle.std.specs.Prelude.{◌≡◌, ℕ, List, [], ◌++◌, ◌≤◌, ◌<◌, drop, length, min, true, false, Err, IfSome, IfNone, OnOk, OnErr};
 ghost use Rattle.jsonpath_streams.specs.DocumentEnds.{AreBlanks};
 ghost use Rattle.jpath_texts.specs.Stream.{left, piece_of, mark_if, MayCome, IsSound, IsReady, IsFirstOf};
 
@@ -25,12 +25,12 @@ pub(crate) enum Next {
     End,
 }
 
-/// Why a stream is not read on.
+/// Why a stream could not be read further.
 #[derive(Clone, Copy, Debug, Drop, PartialEq, Eq)]
 pub enum ReadFailure {
     /// A read failed.
     Failed,
-    /// There is not enough memory.
+    /// Out of memory.
     OutOfMemory,
 }
 
@@ -44,7 +44,7 @@ impl From<AllocError> for ReadFailure {
     }
 }
 
-/// A place in a stream, both from 1; the column counts bytes.
+/// A position in a stream, line and column from 1; the column counts bytes.
 #[derive(Clone, Copy, Debug, Drop, PartialEq, Eq)]
 pub struct LineColumn {
     pub line: usize,
@@ -179,6 +179,8 @@ impl StreamBuffer {
         ensures ok { OnOk result ((more : List ℕ) × (R.given reader.new ≡ R.given reader.old ++ more) × (left self.new ≡ left self.old ++ more)) }
         ensures whole { OnOk result (self.new.is_whole ≡ true → (left self.new ≡ left self.old) × (R.has_ended reader.new ≡ true)) }
         ensures err { OnErr result ((more : List ℕ) × (R.given reader.new ≡ R.given reader.old ++ more) × (left self.new ≡ left self.old) × (self.new.is_whole ≡ false)) }
+        ensures unread { result ≡ Err ReadFailure.Failed → R.has_failed reader.new ≡ true }
+        ensures read { (result ≡ Err ReadFailure.Failed → ⊥) → R.has_failed reader.new ≡ R.has_failed reader.old }
     {
         self.drop_passed_bytes();
         self.make_room()?;

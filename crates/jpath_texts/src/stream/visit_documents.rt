@@ -1,81 +1,88 @@
-//! What a visitor of documents is, and a visit of each document of a stream.
+//! Visitors of documents, and the loop that visits each document of a stream.
 
-ghost use Rattle.std.specs.Prelude.{◌≡◌, ℕ, List, [], ◌++◌, ◌≤◌, drop, length, true, false, Bool, IfOk, OnOk, OnErr};
+ghost use Rattle.std.specs.Prelude.{◌≡◌, ℕ, List, [], ◌++◌, ◌≤◌, drop, length, true, false, Bool, Err, IfOk, IfErr, OnOk, OnErr};
 ghost use Rattle.jsonpath_streams.specs.DocumentEnds.{AreBlanks};
-ghost use Rattle.jpath_texts.specs.Stream.{left, piece_of, mark_if, IsSound, IsReady, StayGiven, GoesAlong};
+ghost use Rattle.jpath_texts.specs.Stream.{left, piece_of, mark_if, is_enough, IfStopped, IsCutShort, IsSound, IsReady, StayGiven, GoesAlong};
 
 use crate::stream::stream_buffer::{LineColumn, Next, ReadFailure, StreamBuffer};
 use jsonpath_streams::Input;
 use std::alloc::Global;
 
-/// A document of a stream, or what stands in place of one.
+/// A document of a stream, or bytes that are none: blanks after the last, or no JSON.
 #[derive(Clone, Copy, Debug, Drop)]
 pub struct Piece<'p> {
     /// Its bytes, with the blanks before it.
     pub bytes: &'p [u8],
     /// Where they begin.
     pub place: LineColumn,
-    /// Whether they are blanks alone, behind the last document.
+    /// Whether they are blanks alone, after the last document.
     pub is_blank: bool,
-    /// Whether a byte order mark stands before it.
+    /// Whether a byte order mark comes before it.
     pub is_marked: bool,
 }
 
-/// What a visitor made of a piece.
+/// What a visitor reports after one document: bytes consumed, matches found, whether to stop.
 #[derive(Clone, Copy, Debug, Drop)]
 pub struct Taken {
-    /// How many of its bytes are done with: the stream goes on behind them.
+    /// How many of its bytes were consumed: the stream goes on after them.
     pub passed: usize,
     /// How many matches it has.
     pub count: usize,
-    /// Whether nothing more is asked for.
+    /// Whether to stop, since nothing more is wanted.
     pub is_enough: bool,
 }
 
-/// What is done with the documents of a stream, one after another.
+/// A visitor of the documents of a stream, one after another.
 pub trait Visitor {
-    /// Why it goes no further.
+    ghost use Rattle.jpath_texts.specs.declared.stream.visit_documents.Taken.{Taken};
+
+    /// The error with which it ends the stream.
     type Stop: Drop;
 
     // What was written so far, handed on or not.
     ghost written: { Self → List ℕ };
 
-    // What may be written for a piece, of which so many bytes are then passed, and how many matches it has.
-    ghost gives: { Self → List ℕ → ℕ → List ℕ → ℕ → Type 0 };
+    // What may become of a piece, and what is then written for it.
+    ghost gives: { Self → List ℕ → Taken → List ℕ → Type 0 };
 
-    /// Is called before each read of the stream, which may wait for bytes: what was written can be handed on first.
+    // Why it may go no further.
+    ghost stops: { Self → Self.Stop → Type 0 };
+
+    /// Called before each read of the stream, which may block: output can be flushed first.
     fn before_read(&mut self) -> Result<(), Self::Stop>
         ensures written { written self.new ≡ written self.old }
+        ensures stops { IfErr result (stops self.new) }
         ensures stay { StayGiven (gives self.old) (gives self.new) };
 
-    /// Takes the next piece, writes what is to be written for it, and answers what became of it. Where the visitor goes
-    /// no further it answers why, and nothing is written for the piece.
+    /// Visits the next piece, writes the output for it, and reports what it consumed and found. If it returns an
+    /// error, nothing is written for the piece.
     fn visit_piece(&mut self, piece: &Piece<'_>) -> Result<Taken, Self::Stop>
         requires { piece.now.is_blank ≡ true → AreBlanks piece.now.bytes.now }
         ensures passed { IfOk result (λ taken. taken.passed ≤ length piece.now.bytes.now) }
         ensures all { IfOk result (λ taken. piece.now.is_blank ≡ true → taken.passed ≡ length piece.now.bytes.now) }
         ensures gives { IfOk result (λ taken. (text : List ℕ) × (written self.new ≡ written self.old ++ text)
-            × gives self.new piece.now.bytes.now taken.passed text taken.count) }
+            × gives self.new piece.now.bytes.now taken text) }
         ensures nothing { OnErr result (written self.new ≡ written self.old) }
+        ensures stops { IfErr result (stops self.new) }
         ensures stay { StayGiven (gives self.old) (gives self.new) };
 }
 
 /// How a stream ended.
 #[derive(Clone, Copy, Debug, Drop, PartialEq, Eq)]
 pub enum How<S> {
-    /// It was passed to its end.
+    /// It was consumed to its end.
     Whole,
-    /// Nothing more was asked for.
+    /// The visitor wanted no more.
     Enough,
-    /// It could not be read on.
+    /// It could not be read further.
     ReadFailed(ReadFailure),
-    /// The visitor went no further.
+    /// The visitor returned an error.
     Stopped(S),
     /// It took more turns than can be counted.
     Endless,
 }
 
-/// What became of a stream.
+/// The result of `visit_documents`: the number of matches, and why it stopped.
 #[derive(Drop)]
 pub struct Ended<S> {
     /// How many matches its documents have, as far as can be counted.
@@ -85,18 +92,21 @@ pub struct Ended<S> {
 }
 
 /// Visits the documents of a stream, one after another, each as soon as its bytes are read, until the stream ends, a
-/// read fails, or the visitor has enough or goes no further. Answers how many matches the visited documents have
-/// together, and how the stream ended. What the visitor writes for each stands in their order. A byte order mark at the
-/// beginning is passed over.
+/// read fails, or the visitor wants no more or returns an error. Returns how many matches the visited documents have
+/// together, and how the stream ended. The visitor's output for each is in their order. A byte order mark at the
+/// beginning is skipped.
 pub fn visit_documents<R: Input, V: Visitor>(
     alloc: Global,
     reader: &mut R,
     visitor: &mut V,
 ) -> Ended<V::Stop>
-    ensures { (is_marked : Bool) × (stream : List ℕ) × (rest : List ℕ)
+    ensures along { (is_marked : Bool) × (stream : List ℕ) × (rest : List ℕ)
         × (R.given reader.new ≡ R.given reader.old ++ (mark_if is_marked ++ stream))
-        × GoesAlong (V.gives visitor.new) stream rest (V.written visitor.old) (V.written visitor.new) result.count
+        × GoesAlong (V.gives visitor.new) stream rest (V.written visitor.old) (V.written visitor.new) result.count (is_enough result.how)
         × (result.how ≡ How.Whole → (rest ≡ []) × (R.has_ended reader.new ≡ true)) }
+    ensures unread { result.how ≡ How.ReadFailed ReadFailure.Failed → R.has_failed reader.new ≡ true }
+    ensures read { (result.how ≡ How.ReadFailed ReadFailure.Failed → ⊥) → R.has_failed reader.new ≡ R.has_failed reader.old }
+    ensures stopped { IfStopped (V.stops visitor.new) result.how }
 {
     let mut feed = StreamBuffer::new(alloc);
     match read_past_byte_order_mark(&mut feed, reader, visitor) {
@@ -119,7 +129,10 @@ fn read_past_byte_order_mark<R: Input, V: Visitor>(
     ensures mark { IfOk result (λ is_marked. R.given reader.new ≡ R.given reader.old ++ (mark_if is_marked ++ left feed.new)) }
     ensures whole { OnOk result (feed.new.is_whole ≡ true → R.has_ended reader.new ≡ true) }
     ensures early { OnErr result ((stream : List ℕ) × (R.given reader.new ≡ R.given reader.old ++ stream)) }
-    ensures how { result ≡ Err How.Whole → ⊥ }
+    ensures how { IfErr result IsCutShort }
+    ensures unread { IfErr result (λ how. how ≡ How.ReadFailed ReadFailure.Failed → R.has_failed reader.new ≡ true) }
+    ensures read { (result ≡ Err (How.ReadFailed ReadFailure.Failed) → ⊥) → R.has_failed reader.new ≡ R.has_failed reader.old }
+    ensures stopped { IfErr result (IfStopped (V.stops visitor.new)) }
     ensures written { V.written visitor.new ≡ V.written visitor.old }
 {
     for _ in 0..u64::MAX {
@@ -144,7 +157,10 @@ fn notify_visitor_then_read<R: Input, V: Visitor>(
     ensures ok { OnOk result ((more : List ℕ) × (R.given reader.new ≡ R.given reader.old ++ more) × (left feed.new ≡ left feed.old ++ more)) }
     ensures whole { OnOk result (feed.new.is_whole ≡ true → (left feed.new ≡ left feed.old) × (R.has_ended reader.new ≡ true)) }
     ensures err { OnErr result ((more : List ℕ) × (R.given reader.new ≡ R.given reader.old ++ more) × (left feed.new ≡ left feed.old) × (feed.new.is_whole ≡ false)) }
-    ensures how { result ≡ Err How.Whole → ⊥ }
+    ensures how { IfErr result IsCutShort }
+    ensures unread { IfErr result (λ how. how ≡ How.ReadFailed ReadFailure.Failed → R.has_failed reader.new ≡ true) }
+    ensures read { (result ≡ Err (How.ReadFailed ReadFailure.Failed) → ⊥) → R.has_failed reader.new ≡ R.has_failed reader.old }
+    ensures stopped { IfErr result (IfStopped (V.stops visitor.new)) }
     ensures written { V.written visitor.new ≡ V.written visitor.old }
     ensures stay { StayGiven (V.gives visitor.old) (V.gives visitor.new) }
 {
@@ -172,7 +188,8 @@ fn visit_current_piece<V: Visitor>(
     ensures all { IfOk result (λ taken. is_blank ≡ true → taken.passed ≡ length (piece_of feed.old)) }
     ensures left { IfOk result (λ taken. left feed.new ≡ drop taken.passed (left feed.old)) }
     ensures gives { IfOk result (λ taken. (text : List ℕ) × (V.written visitor.new ≡ V.written visitor.old ++ text)
-        × V.gives visitor.new (piece_of feed.old) taken.passed text taken.count) }
+        × V.gives visitor.new (piece_of feed.old) taken text) }
+    ensures stops { IfErr result (V.stops visitor.new) }
     ensures nothing { OnErr result ((V.written visitor.new ≡ V.written visitor.old) × (left feed.new ≡ left feed.old)) }
     ensures whole { feed.new.is_whole ≡ feed.old.is_whole }
     ensures stay { StayGiven (V.gives visitor.old) (V.gives visitor.new) }
@@ -198,10 +215,13 @@ fn visit_each_piece<R: Input, V: Visitor>(
 ) -> Ended<V::Stop>
     requires ready { IsReady feed.old }
     requires whole { feed.old.is_whole ≡ true → R.has_ended reader.old ≡ true }
-    ensures { (read : List ℕ) × (rest : List ℕ)
+    ensures along { (read : List ℕ) × (rest : List ℕ)
         × (R.given reader.new ≡ R.given reader.old ++ read)
-        × GoesAlong (V.gives visitor.new) (left feed.old ++ read) rest (V.written visitor.old) (V.written visitor.new) result.count
+        × GoesAlong (V.gives visitor.new) (left feed.old ++ read) rest (V.written visitor.old) (V.written visitor.new) result.count (is_enough result.how)
         × (result.how ≡ How.Whole → (rest ≡ []) × (R.has_ended reader.new ≡ true)) }
+    ensures unread { result.how ≡ How.ReadFailed ReadFailure.Failed → R.has_failed reader.new ≡ true }
+    ensures read { (result.how ≡ How.ReadFailed ReadFailure.Failed → ⊥) → R.has_failed reader.new ≡ R.has_failed reader.old }
+    ensures stopped { IfStopped (V.stops visitor.new) result.how }
 {
     let mut count = 0usize;
     let mut is_marked = is_marked;

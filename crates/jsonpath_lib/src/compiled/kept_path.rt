@@ -9,9 +9,9 @@ use serde_json::Value;
 use std::alloc::Global;
 use std::marker::Model;
 
-/// A compiled path for many documents. It answers every document as a path compiled anew would.
-/// [`Compiled`](crate::Compiled) owns its text, [`PathCompiled`](crate::PathCompiled) borrows it, and its
-/// copies share it. The other verbs are those of [`AnyPath`](crate::AnyPath).
+/// A compiled path for many documents: `select` is as with a path compiled anew. [`Compiled`](crate::Compiled) owns
+/// its text, [`PathCompiled`](crate::PathCompiled) borrows it, and its copies share it. The other verbs are those of
+/// [`AnyPath`](crate::AnyPath).
 ///
 /// ```text
 /// let path: KeptPath<Node> = Compiled::compile(alloc, "$[1:]")?;
@@ -40,8 +40,8 @@ impl<P: AnyPath> AnyPath for KeptPath<P> {
 }
 
 impl<P: AnyPath> KeptPath<P> {
-    /// The values that the path selects in the document, in the path's order, with its repeats. They
-    /// borrow the document alone. Refused with `OutOfMemory` alone.
+    /// The values that the path selects in the document, in the path's order, with duplicates. They borrow the
+    /// document alone. The only error is `OutOfMemory`.
     ///
     /// ```text
     /// let document = read_document(alloc, b"[1, 2, 3]")?;
@@ -60,8 +60,8 @@ impl<P: AnyPath> KeptPath<P> {
         self.path.select(alloc, value)
     }
 
-    /// The document with null at the topmost locations below the root that the path selects. Refused
-    /// with `OutOfMemory` alone; the document is then dropped.
+    /// The document with null in place of each selected value below the root that lies in no other selected one. The
+    /// only error is `OutOfMemory`; the document is then dropped.
     ///
     /// ```text
     /// let document = read_document(alloc, b"[1, 2, 3]")?;
@@ -78,10 +78,9 @@ impl<P: AnyPath> KeptPath<P> {
         Ok(changed)
     }
 
-    /// The document after the single updates at what the path selects below the root: the closure is handed each value
-    /// that is still there, in document order, each location once, and what it answers takes its place, or the value
-    /// goes where it answers none.
-    /// Refused as `delete`; the closure is then not asked.
+    /// Calls the closure with each selected value below the root, in document order, each location once, and returns
+    /// the document with the results: `Some` replaces the value, `None` removes it. A location that an earlier
+    /// update removed is skipped. Errors are those of `delete`; the closure is then not called.
     ///
     /// ```text
     /// let document = read_document(alloc, b"[1, 2, 3]")?;

@@ -7,7 +7,7 @@ use crate::compiled::kept_path::KeptPath;
 use jsonpath_select::{Node, ParseFault, Parser};
 use std::alloc::{AllocError, Global};
 
-/// A compiled path that owns its text. It answers every document as a path compiled anew would.
+/// A compiled path that owns its text, for any number of documents.
 ///
 /// ```text
 /// let path = Compiled::compile(alloc, "$[0]")?;
@@ -19,8 +19,7 @@ use std::alloc::{AllocError, Global};
 pub type Compiled = KeptPath<Node>;
 
 impl Compiled {
-    /// The path that the text spells. Refused with `Text` exactly where the text is no path, and
-    /// with `OutOfMemory`.
+    /// Compiles a path text. Errors: `Text` exactly if the text is no path, or `OutOfMemory`.
     ///
     /// ```text
     /// let path = Compiled::compile(alloc, "$[0]")?;
@@ -38,7 +37,7 @@ impl Compiled {
     }
 }
 
-/// A copy has the same path. It takes memory, and is refused where there is none.
+/// A copy has the same path. The only error is out of memory.
 impl Clone for Compiled {
     ghost is_clone = { λ it copy. copy ≡ it };
 

@@ -1,5 +1,6 @@
 //! A path compiled once, for many documents, shared by its copies.
 ghost use Rattle.std.specs.Prelude.{◌≡◌, IfOk, IfErr};
+ghost use Rattle.jsonpath_paths.specs.Spelling.{IsInGrammar};
 ghost use Rattle.jsonpath_select.specs.JsonPathErrors.{IsPathRefused};
 
 use crate::compiled::kept_path::KeptPath;
@@ -8,7 +9,7 @@ use jsonpath_select::{JsonPathError, compile_path};
 use std::alloc::{AllocError, Global};
 use std::rc::Rc;
 
-/// A compiled path that borrows its text. It answers every document as a path compiled anew would.
+/// A compiled path that borrows its text, for any number of documents. Its copies share it.
 ///
 /// ```text
 /// let path = PathCompiled::compile(alloc, "$[?(@ == 2)]")?;
@@ -20,8 +21,7 @@ use std::rc::Rc;
 pub type PathCompiled<'a> = KeptPath<Rc<PathParser<'a>>>;
 
 impl<'a> PathCompiled<'a> {
-    /// The path that the text spells. Refused with `Path` exactly where the text is no path, and
-    /// with `OutOfMemory`.
+    /// Compiles a path text. Errors: `Path` exactly if the text is no path, or `OutOfMemory`.
     ///
     /// ```text
     /// let path = PathCompiled::compile(alloc, "$[0]")?;
@@ -31,6 +31,7 @@ impl<'a> PathCompiled<'a> {
     /// ```
     pub fn compile(alloc: Global, text: &'a str) -> Result<PathCompiled<'a>, JsonPathError>
         ensures ok { IfOk result (λ compiled. compiled ≡ text.now) }
+        ensures spelled { IfOk result (λ _. IsInGrammar text.now) }
         ensures refused { IfErr result (IsPathRefused text.now) }
     {
         let path = compile_path(alloc, text)?;
@@ -44,8 +45,8 @@ impl<'a> PathCompiled<'a> {
 impl Clone for PathCompiled<'_> {
     ghost is_clone = { λ it copy. copy ≡ it };
 
-    /// Another holder of the same path. It takes no memory; it is refused only where as many holders
-    /// as can be counted are there.
+    /// Another owner of the same path. It takes no memory; it fails only if there are too many owners to count one
+    /// more.
     fn clone(&self) -> Result<Self, AllocError> {
         let path = self.path.clone()?;
         Ok(PathCompiled { path })

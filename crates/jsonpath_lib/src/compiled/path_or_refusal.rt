@@ -1,4 +1,5 @@
-//! A path text compiled for many documents, whether it is a path or not: a refusal is kept, and answered at each call.
+//! A path text compiled for many documents, whether it is a path or not: an error is stored and returned by each
+//! call.
 ghost use Rattle.std.specs.Prelude.{◌≡◌, Ok, MatchResult, map, IfOk, IfErr};
 ghost use Rattle.serde_json.specs.View.{view};
 ghost use Rattle.jsonpath_select.specs.JsonPathErrors.{IsFaultError};
@@ -9,7 +10,7 @@ use jsonpath_select::{JsonPathError, ParseFault, error_of_parse_fault};
 use serde_json::Value;
 use std::alloc::Global;
 
-/// What became of a path text: a compiled path that owns its text, or why there is none.
+/// The result of compiling a path text: a compiled path that owns its text, or the error.
 ///
 /// ```text
 /// let path = compile(alloc, "$[0]");
@@ -22,7 +23,7 @@ pub struct CompiledPath {
     outcome: Result<Compiled, ParseFault>,
 }
 
-/// Compiles a path text. A refusal is kept, and answered when the path is asked to select.
+/// Compiles a path text. An error is stored, and `select` returns it.
 ///
 /// ```text
 /// let document = read_document(alloc, b"[1, 2, 3]")?;
@@ -56,12 +57,12 @@ impl CompiledPath {
         }
     }
 
-    /// The values that the path selects in the document, in the path's order, with its repeats. They
-    /// borrow the document alone.
+    /// The values that the path selects in the document, in the path's order, with duplicates. They borrow the
+    /// document alone.
     ///
-    /// Where the text was no path, it is refused each time with `Path`, with the message of
-    /// `Parser`; where memory ran out as the text was compiled, each time with `OutOfMemory`. It is
-    /// also refused with `OutOfMemory` where memory runs out now, for the values or for the message.
+    /// If the text was no path, each call returns `Path`, with the message of `Parser`; if memory ran out while the
+    /// text was compiled, each returns `OutOfMemory`. It is also `OutOfMemory` if memory runs out now, for the
+    /// values or for the message.
     ///
     /// ```text
     /// let document = read_document(alloc, b"[1, 2, 3]")?;

@@ -1,4 +1,4 @@
-//! Several path texts compiled in order, or the first of them that is refused.
+//! Several path texts compiled in order, or the error of the first that is no path.
 ghost use Rattle.std.specs.Prelude.{◌≡◌, Some, map, All, IfOk, IfErr, OnOk};
 ghost use Rattle.jsonpath_paths.specs.Spelling.{IsInGrammar};
 ghost use Rattle.std.specs.Fmt.{DisplaysOnOk};
@@ -10,7 +10,7 @@ use std::alloc::Global;
 use std::error::Error;
 use std::fmt;
 
-/// Why a list of path texts is refused.
+/// The error of a list of path texts.
 ///
 /// ```text
 /// let Err(refused) = compile_paths(alloc, &["$[0]", "$["]) else {
@@ -21,13 +21,13 @@ use std::fmt;
 /// ```
 #[derive(Drop)]
 pub struct PathsFault {
-    /// The place of the first text that is no path, from 0, or none for want of memory.
+    /// The index, from 0, of the first text that is no path; `None` for out of memory.
     pub index: Option<usize>,
     /// `Path` with that text's message, or `OutOfMemory`.
     pub fault: JsonPathError,
 }
 
-/// `path`, the place, a colon and the text of the error; without a place the error's text alone.
+/// Prints `path`, the index, a colon and the text of the error; without an index the error's text alone.
 impl fmt::Display for PathsFault {
     ghost output = { λ fault. Some (paths_fault_text fault.index fault.fault) };
 
@@ -46,7 +46,7 @@ impl fmt::Debug for PathsFault {
 
 impl Error for PathsFault {}
 
-/// The fault alone, without the place of the refused text.
+/// The error alone, without the index of the text.
 impl From<PathsFault> for JsonPathError {
     ghost from_gives = { λ refused error. error ≡ refused.fault };
 
@@ -69,8 +69,8 @@ pub(crate) fn write_paths_fault<W: fmt::Write>(
     }
 }
 
-/// The paths that the texts spell, in order. Refused with the place of the first text that is no
-/// path, or, without a place, for want of memory.
+/// Compiles the path texts, in order. The error has the index of the first text that is no path, or, without an
+/// index, is out of memory.
 ///
 /// ```text
 /// match compile_paths(alloc, &["$[0]", "$["]) {

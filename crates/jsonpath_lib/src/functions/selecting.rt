@@ -12,8 +12,8 @@ use serde::DeserializeOwned;
 use serde_json::Value;
 use std::alloc::Global;
 
-/// The values that the path selects in the document, in the path's order, with its repeats. Refused
-/// with `Path` exactly where the text is no path, and with `OutOfMemory`.
+/// The values that the path selects in the document, in the path's order, with duplicates. Errors: `Path` exactly if
+/// the text is no path, or `OutOfMemory`.
 ///
 /// ```text
 /// let document = read_document(alloc, b"[[1, 2], [3]]")?;
@@ -33,11 +33,9 @@ pub fn select<'a>(
     Ok(found)
 }
 
-/// The text of the values that the path selects in the document that the JSON text is: `[`, their
-/// compact texts joined by `,`, and `]`. The JSON text is read first, then the path. Refused with
-/// `Serde` where the JSON text is no document, or where an unread number, one that is no whole number
-/// of 64 bits, stands in the answer; with `Path` where the path text is no path; and with
-/// `OutOfMemory`.
+/// Reads a JSON text, then the path, and returns the selected values as a JSON text: `[`, their compact texts joined
+/// by `,`, and `]`. Errors: `Serde` if the JSON text is no document, or if the answer contains a number that is not
+/// an integer of 64 bits; `Path` if the path text is no path; or `OutOfMemory`.
 ///
 /// ```text
 /// let text = select_as_str(alloc, "[1, 2, 3]", "$[-2:]")?;
@@ -53,9 +51,8 @@ pub fn select_as_str(alloc: Global, json: &str, path: &str) -> Result<String, Js
     compiled.select_as_str(alloc, &document)
 }
 
-/// The values that the path selects in the document that the JSON text is, each as a `T`, in order.
-/// The JSON text is read first, then the path. Refused as `select_as_str`, and with `Serde` where
-/// `serde_json` makes no `T` of a value.
+/// Reads a JSON text, then the path, and deserializes each selected value to a `T`, in order. Errors: those of
+/// `select_as_str`, and `Serde` if `serde_json` can't make a `T` of a value.
 ///
 /// ```text
 /// let numbers = select_as::<u8>(alloc, "[[1, 2], [3]]", "$[*][0]")?;

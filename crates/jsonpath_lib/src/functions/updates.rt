@@ -8,9 +8,8 @@ use jsonpath_select::{AnyPath, JsonPathError, compile_path};
 use serde_json::Value;
 use std::alloc::Global;
 
-/// The document with null at the topmost locations below the root that the path selects. Refused
-/// with `Path` exactly where the text is no path, and with `OutOfMemory`; the document is then
-/// dropped.
+/// The document with null in place of each selected value below the root that lies in no other selected one. Errors:
+/// `Path` exactly if the text is no path, or `OutOfMemory`; the document is then dropped.
 ///
 /// ```text
 /// let document = read_document(alloc, b"[1, 2.5]")?;
@@ -27,11 +26,10 @@ pub fn delete(alloc: Global, value: Value, path: &str) -> Result<Value, JsonPath
     Ok(changed)
 }
 
-/// The document after the single updates at what the path selects below the root: the closure is handed each value that
-/// is still there, in document order, each location once, and what it answers takes its place, or the value goes where
-/// it answers none.
-/// Refused with `Path` exactly where the text is no path, and with `OutOfMemory`; the closure is then
-/// not asked, and the document is dropped.
+/// Calls the closure with each selected value below the root, in document order, each location once, and returns the
+/// document with the results: `Some` replaces the value, `None` removes it. A location that an earlier update
+/// removed is skipped. Errors: `Path` exactly if the text is no path, or `OutOfMemory`; the closure is then not
+/// called, and the document is dropped.
 ///
 /// ```text
 /// let document = read_document(alloc, b"[1, 2, 3]")?;

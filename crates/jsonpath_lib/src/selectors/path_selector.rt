@@ -12,7 +12,7 @@ use serde_json::Value;
 use std::alloc::Global;
 use std::marker::PhantomData;
 
-/// A document in which path texts select.
+/// A borrowed document, in which one path text after another selects.
 ///
 /// ```text
 /// let document = read_document(alloc, b"[1, 2, 3]")?;
@@ -40,9 +40,8 @@ pub fn selector<'a>(json: &'a Value) -> PathSelector<'a>
 }
 
 impl<'a> PathSelector<'a> {
-    /// The values that the path selects in the document, in the path's order, with its repeats. They
-    /// borrow the document alone. Refused with `Path` exactly where the text is no path, and with
-    /// `OutOfMemory`.
+    /// The values that the path selects in the document, in the path's order, with duplicates. They borrow the
+    /// document alone. Errors: `Path` exactly if the text is no path, or `OutOfMemory`.
     ///
     /// ```text
     /// let document = read_document(alloc, b"[1, 2, 3]")?;
@@ -90,10 +89,9 @@ pub fn selector_as<'a, T: DeserializeOwned>(json: &'a Value) -> PathSelectorAs<'
 }
 
 impl<'a, T: DeserializeOwned> PathSelectorAs<'a, T> {
-    /// The values that the path selects in the document, each as a `T`, in the path's order, with
-    /// its repeats. Refused with `Path` exactly where the text is no path; with `Serde` where an
-    /// unread number, one that is no whole number of 64 bits, stands in a selected value or where
-    /// `serde_json` makes no `T` of one; and with `OutOfMemory`.
+    /// Deserializes each value that the path selects in the document to a `T`, in the path's order, with duplicates.
+    /// Errors: `Path` exactly if the text is no path; `Serde` if a selected value contains a number that is not an
+    /// integer of 64 bits, or if `serde_json` can't make a `T` of one; or `OutOfMemory`.
     ///
     /// ```text
     /// let document = read_document(alloc, b"[1, 2, 3]")?;

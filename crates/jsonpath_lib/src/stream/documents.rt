@@ -1,4 +1,4 @@
-//! `Documents`, an iterator over the documents of one text, and where in the text one is refused.
+//! `Documents`, an iterator over the documents of one text, and its error with the position in the text.
 ghost use Rattle.std.specs.Prelude.{◌≡◌, Some};
 ghost use Rattle.jsonpath_select.specs.answer.AnswerText.{IsSerdeErrorOf};
 ghost use Rattle.jsonpath_select.specs.JsonPathErrors.{error_text};
@@ -11,7 +11,7 @@ use std::alloc::{AllocError, Global};
 use std::error::Error;
 use std::fmt;
 
-/// Why the text of a document is refused, and where in the whole text.
+/// The error of a document of a text, with its position in the whole text.
 ///
 /// ```text
 /// let mut documents = Documents::new(alloc, b"[1]\n[2,}");
@@ -26,7 +26,7 @@ use std::fmt;
 pub struct DocumentFault {
     /// The line, from 1.
     pub line: usize,
-    /// The byte in that line, from 1, as `serde_json` tells it.
+    /// The byte in that line, from 1, as `serde_json` counts it.
     pub column: usize,
     /// `Serde` with `serde_json`'s message, which ends with this line and column, or `OutOfMemory`.
     pub error: JsonPathError,
@@ -52,7 +52,7 @@ impl fmt::Debug for DocumentFault {
 
 impl Error for DocumentFault {}
 
-/// The error; the place stands in its message alone.
+/// The error; the position is in its message alone.
 impl From<DocumentFault> for JsonPathError {
     ghost from_gives = { λ fault error. error ≡ fault.error };
 
@@ -98,11 +98,11 @@ impl LineColumn {
     }
 }
 
-/// The documents of a text, one after another, whatever stands between them: line ends, blanks, or nothing
-/// behind a closing bracket or quote. One is read at a time, so a log takes the room of one record.
+/// Iterator over the documents of a text, with line ends or blanks between them, or nothing after a closing bracket
+/// or quote. One is read at a time, so a log takes the memory of one record.
 ///
-/// A document ends where its brackets and quotes close, or, as a number or a word, before a blank, a bracket
-/// or a quote. The first one that is refused is the last item: nothing comes behind it.
+/// A document ends where its brackets and quotes close; a number or a word ends before a blank, a bracket or a
+/// quote. The first error is the last item.
 ///
 /// ```text
 /// let log = b"{\"ms\": 7}\n{\"ms\": 900}\n[1][2]";
@@ -154,7 +154,7 @@ impl<'a> Documents<'a> {
     }
 }
 
-/// A document, or why it is refused, with line and column.
+/// The next document, or its error, with line and column.
 impl<'a> Iterator for Documents<'a> {
     ghost use Rattle.std.specs.Iterator.{item_count};
     ghost use Rattle.jsonpath_lib.specs.stream.Documents.{text_left, Gives};

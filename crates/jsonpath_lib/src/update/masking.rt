@@ -10,12 +10,12 @@ use jsonpath_select::JsonPathError;
 use serde_json::Value;
 use std::alloc::Global;
 
-/// The value with null at the topmost locations below the root that any of the paths selects. All
-/// paths select in the value as it is handed in, so their order does not matter; with no path at all
-/// the value comes back as it is. The paths are compiled in order before anything else.
+/// The document with null in place of each value below the root that any of the paths selects. All paths are applied
+/// to the original document, so their order does not matter; with no path at all it comes back as it is. The paths
+/// are compiled in order before anything else.
 ///
-/// Refused with the place of the first path that is outside the grammar, or, without a place, for
-/// want of memory. The fault gives the value back unchanged.
+/// The error has the index of the first path that is outside the grammar, or, without an index, is out of memory. It
+/// gives the document back unchanged.
 ///
 /// ```text
 /// let document = read_document(alloc, b"[1, [2, 3]]")?;
@@ -41,9 +41,9 @@ pub fn mask(alloc: Global, value: Value, paths: &[&str]) -> Result<Value, MaskFa
     }
 }
 
-/// Puts null at the topmost locations below the root that any of the paths selects. All paths select
-/// in the value as it is handed in, so their order does not matter. Refused with `OutOfMemory`
-/// alone, and then the value is unchanged.
+/// Puts null in place of each value below the root that any of the paths selects. All paths are applied to the
+/// original document, so their order does not matter. The only error is `OutOfMemory`, and then the document is
+/// unchanged.
 ///
 /// ```text
 /// let mut document = read_document(alloc, b"[1, 2, 3]")?;

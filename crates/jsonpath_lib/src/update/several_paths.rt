@@ -1,5 +1,5 @@
-//! Several paths: why an update by them is refused, how they are compiled beside the value that they are to change, and
-//! what they select together.
+//! Several paths: the error of an update by them, how they are compiled beside the document that they are to change,
+//! and what they select together.
 ghost use Rattle.std.specs.Prelude.{◌≡◌, Some, List, map, IfErr, IfOk};
 ghost use Rattle.std.specs.List.Sorted.{IsStrictlySortedBy};
 ghost use Rattle.serde_json.specs.View.{view};
@@ -18,7 +18,7 @@ use std::alloc::Global;
 use std::error::Error;
 use std::fmt;
 
-/// Why masking or removing by several paths was refused, and the value that was handed in.
+/// The error of masking or removing by several paths, with the original document.
 ///
 /// ```text
 /// let document = read_document(alloc, b"[1]")?;
@@ -32,15 +32,15 @@ use std::fmt;
 /// ```
 #[derive(Drop)]
 pub struct MaskFault {
-    /// The place of the first path that is refused, from 0, or none for want of memory.
+    /// The index, from 0, of the first path text that is no path; `None` for out of memory.
     pub index: Option<usize>,
     /// `Path` with the path's message, or `OutOfMemory`.
     pub fault: JsonPathError,
-    /// The value as it was handed in.
+    /// The original document, unchanged.
     pub value: Value,
 }
 
-/// `path`, the place, a colon and the text of the error; without a place the error's text alone.
+/// Prints `path`, the index, a colon and the text of the error; without an index the error's text alone.
 impl fmt::Display for MaskFault {
     ghost output = { λ fault. Some (paths_fault_text fault.index fault.fault) };
 
@@ -59,7 +59,7 @@ impl fmt::Debug for MaskFault {
 
 impl Error for MaskFault {}
 
-/// Why it was refused, without the path's place. The value is dropped.
+/// The error alone, without the path's index. The document is dropped.
 impl From<MaskFault> for JsonPathError {
     ghost from_gives = { λ refused error. error ≡ refused.fault };
 

@@ -1,4 +1,4 @@
-//! What a comparison sees of a value.
+//! `Atom`, what a comparison sees of a value.
 
 ghost use Rattle.std.specs.Prelude.{◌≡◌, option_map};
 ghost use Rattle.serde_json.specs.View.{view, number_view};
@@ -9,7 +9,8 @@ ghost use Rattle.jsonpath_nodes.specs.compare.Atoms.{seen_by};
 use jsonpath_paths::Decimal;
 use serde_json::{Number, Value};
 
-/// What a comparison sees of a value, or of a literal of a path.
+/// What a comparison sees of a value, or of a literal of a path: its kind, and the content of a boolean, a number or
+/// a text.
 ///
 /// ```text
 /// assert!(rt; matches!(Atom::of(&Value::Bool(true)), Atom::Bool(true)));
@@ -18,21 +19,22 @@ use serde_json::{Number, Value};
 pub enum Atom<'a> {
     /// `null`.
     Null,
-    /// A truth value.
+    /// A boolean.
     Bool(bool),
     /// A number, exact to 18 places.
     Number(Decimal),
     /// A text, without quotes or backslashes.
     Text(&'a str),
-    /// A number that is no whole number of 64 bits.
+    /// A number that is not an integer of 64 bits.
     Unread,
-    /// An array, whatever it holds.
+    /// An array, whatever is in it.
     List,
-    /// An object, whatever it holds.
+    /// An object, whatever is in it.
     Object,
 }
 
-/// The number as a decimal, or None where it is no whole number of 64 bits: neither `as_i64` nor `as_u64` reads it.
+/// Converts the number to a decimal; `None` if it is not an integer of 64 bits, that is, if neither `as_i64` nor
+/// `as_u64` reads it.
 ///
 /// ```text
 /// let seven = to_num(&Number::from(7u64));
@@ -51,8 +53,8 @@ pub fn to_num(number: &Number) -> Option<Decimal>
 }
 
 impl<'a> Atom<'a> {
-    /// What a comparison sees of the value: what a truth value, a text or a whole number of 64 bits is, and of all else
-    /// the kind alone.
+    /// The atom of a value: the content of a boolean, a text or an integer of 64 bits, and of all else the kind
+    /// alone.
     ///
     /// ```text
     /// assert!(rt; matches!(Atom::of(&Value::Null), Atom::Null));

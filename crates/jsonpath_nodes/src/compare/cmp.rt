@@ -11,8 +11,8 @@ use jsonpath_paths::{Decimal, FilterToken};
 use serde_json::Value;
 use std::cmp::Ordering;
 
-/// One of the six comparisons, kind by kind. It is for callers, as in the Rust crate: conditions of paths go by
-/// `holds_atoms`.
+/// One of the six comparisons, with a method for each kind of value. It is for callers, as in the Rust crate:
+/// conditions of paths are decided by `holds_atoms`.
 ///
 /// ```text
 /// assert!(rt; CmpLt.cmp_bool(false, true));
@@ -21,7 +21,7 @@ use std::cmp::Ordering;
 pub trait Cmp {
     ghost comparison: { Comparison };
 
-    /// Whether the comparison holds between two truth values; false comes before true.
+    /// Whether the comparison holds between two booleans; false comes before true.
     fn cmp_bool(&self, left: bool, right: bool) -> bool
         ensures { result ≡ pair comparison (truth left) (truth right) };
 
@@ -248,8 +248,8 @@ fn is_satisfied_by_order(op: FilterToken, order: Ordering) -> bool
 
 /// Whether two atoms satisfy a comparison. The token is one of the six that compare.
 ///
-/// Truth values, numbers and texts go by their order within the kind: false before true, numbers exactly,
-/// texts by their bytes. Two nulls satisfy `==` alone, and every other pair satisfies `!=` alone.
+/// Booleans, numbers and texts compare within their kind: false before true, numbers exactly, texts by their bytes.
+/// Two nulls satisfy `==` alone, and every other pair satisfies `!=` alone.
 ///
 /// ```text
 /// assert!(rt; holds_atoms(FilterToken::Equal, &Atom::Null, &Atom::Null));
@@ -269,7 +269,7 @@ pub fn holds_atoms(op: FilterToken, left: &Atom<'_>, right: &Atom<'_>) -> bool
 }
 
 /// Whether two values satisfy a comparison. The token is one of the six that compare. Two arrays, two objects and
-/// values of different kinds satisfy `!=` alone, and so does a number that is no whole number of 64 bits.
+/// values of different kinds satisfy `!=` alone, and so does a number that is not an integer of 64 bits.
 ///
 /// ```text
 /// let (one, two) = (Value::from(1u64), Value::from(2u64));

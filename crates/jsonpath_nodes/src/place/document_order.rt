@@ -1,5 +1,5 @@
-//! Lists of spots as sets: each location once, in document order; the topmost of a list; which of a list stand where
-//! others do.
+//! Lists of nodes as sets: each location once, in document order; the nodes without an ancestor in the list; the
+//! indexes of the nodes at locations of another list.
 
 ghost use Rattle.std.specs.Prelude.{◌≡◌, [], ◌∷◌, ◌++◌, List, map, Some, if◌then◌else◌, IfOk, OnOk, IsTrue};
 ghost use Rattle.std.specs.List.{AllByRecursion, list_any};
@@ -22,7 +22,7 @@ use std::alloc::Global;
 use std::cmp::Ordering;
 use std::collections::BTreeSet;
 
-/// The spots in document order, each location once. Answers `NoMemory` where there is none for them.
+/// The nodes in document order, each location once. The only error is `NoMemory`.
 ///
 /// ```text
 /// let twice = [spots[1].clone()?, spots[0].clone()?, spots[1].clone()?];
@@ -77,8 +77,8 @@ fn clone_spots<'a>(alloc: Global, spots: &[Spot<'a>]) -> Result<Vec<Spot<'a>>, N
     Ok(same)
 }
 
-/// The indexes in the list, from 0 on, of the spots that stand where one of the others stands. Refused
-/// with `NoMemory` alone.
+/// The indexes, from 0, of those nodes of the first list whose location is also that of a node of the second. The only
+/// error is `NoMemory`.
 ///
 /// ```text
 /// let spots = Spot::root(alloc, &document).children(alloc)?;
@@ -127,8 +127,8 @@ fn ordered_spots<'a>(
     Ok(placed)
 }
 
-/// The spots without those that stand at or below the one kept before them. In document order these are
-/// the topmost: none of them stands below another. Answers `NoMemory` where there is none for them.
+/// The nodes without those that are at or below the last one kept before them. If the list is in document order,
+/// these are the nodes with no ancestor in it. The only error is `NoMemory`.
 ///
 /// ```text
 /// let below = Spot::root(alloc, &document).below(alloc)?;

@@ -27,8 +27,8 @@ pub enum LocStep {
     Index(usize),
 }
 
-/// Where a value stands in a document: the steps from the root down. The order is document order:
-/// a location comes before those below it, else the first steps that differ decide.
+/// The location of a value in a document: the steps from the root down, as in a normalized path. Locations compare
+/// in document order: a location comes before those below it; else the first steps that differ decide.
 ///
 /// ```text
 /// let root = Location::from_steps(Vec::new(alloc));
@@ -80,7 +80,7 @@ impl Location {
         self.steps.as_slice()
     }
 
-    /// Whether this location is the other one or stands below it: its steps begin with those of the other.
+    /// Whether this location is the other one or below it: its steps begin with those of the other.
     ///
     /// ```text
     /// let item = Location::from_steps(vec![in alloc; LocStep::Index(2)]?);
@@ -96,7 +96,7 @@ impl Location {
     }
 }
 
-/// A clone has the same steps. It takes memory, and is refused where there is none.
+/// A clone has the same steps. The only error is out of memory.
 impl Clone for Location {
     ghost is_clone = { λ location copy. copy ≡ location };
 
@@ -109,7 +109,7 @@ impl Clone for Location {
     }
 }
 
-/// A clone is the same step. It takes memory for a name, and is refused where there is none.
+/// A clone is the same step. It takes memory for a name; the only error is out of memory.
 impl Clone for LocStep {
     ghost is_clone = { λ step copy. owned_step copy ≡ owned_step step };
 

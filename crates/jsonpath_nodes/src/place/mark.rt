@@ -1,4 +1,4 @@
-//! Marks: what the steps carry of a value of a document. A reference is the value alone; a spot has its location too.
+//! `Mark`, a reference to a selected node: either the value alone, or a `Spot`, which has the location too.
 
 ghost use Rattle.std.specs.Prelude.{◌≡◌, [], ◌∷◌, ◌++◌, Bool, true, false, string_bytes, IfOk, OnOk};
 ghost use Rattle.serde_json.specs.Data.{Data};
@@ -17,11 +17,11 @@ use serde_json::Value;
 use std::alloc::Global;
 use std::rc::Rc;
 
-/// What a step carries of a value of a document: a reference to the value, or a spot.
+/// Trait for a selected node: either `&Value` (no location) or `Spot` (value with location), so that evaluation code
+/// is written once.
 ///
-/// A mark keeps all of its location, as a spot does, or nothing, as a reference does. So one contract says of
-/// both where a step leads: marks stand at locations of a document where each keeps what it keeps of its
-/// location, and has the value there.
+/// The clauses of one contract hold for both types: a list of `Mark`s is at some locations of a document if each has
+/// the value there, and a `Spot` also has that location.
 ///
 /// ```text
 /// let last = steps_on_marks::plain_step_from_each(alloc, &[Spot::root(alloc, &document)], &PlainStep::Nth(-1))?;
@@ -29,9 +29,9 @@ use std::rc::Rc;
 /// assert!(rt; last[0].value().is_array());
 /// ```
 pub trait Mark<'a>: Drop + Sized {
-    /// What the items of one array share of the way to it.
+    /// The part of their location that the items of one array share.
     type Items: Drop;
-    /// What the members of one object share of the way to it.
+    /// The part of their location that the members of one object share.
     type Members: Drop;
 
     // Whether a mark keeps its location.
@@ -49,15 +49,15 @@ pub trait Mark<'a>: Drop + Sized {
     fn value(&self) -> &'a Value
         ensures { view result.now ≡ content self.now };
 
-    /// What the items of the value share of the way to it, if it is an array; `push_item` is handed it.
+    /// The part of the location that the items share, if the value is an array; `push_item` takes it.
     fn shared_by_items(&self, alloc: Global) -> Result<Self::Items, NoMemory>
         ensures { IfOk result (λ here. items_stand here ≡ stand self.now) };
 
-    /// What the members of the value share of the way to it, if it is an object; `push_member` is handed it.
+    /// The part of the location that the members share, if the value is an object; `push_member` takes it.
     fn shared_by_members(&self, alloc: Global) -> Result<Self::Members, NoMemory>
         ensures { IfOk result (λ here. members_stand here ≡ stand self.now) };
 
-    /// Adds the mark of an item of an array to a list; `here` is what the items of the array share.
+    /// Adds an item of an array to a list; `here` is the result of `shared_by_items` on the array.
     fn push_item(
         here: &Self::Items,
         index: usize,
@@ -66,7 +66,7 @@ pub trait Mark<'a>: Drop + Sized {
     ) -> Result<(), NoMemory>
         ensures { OnOk result (MarksGainOne located stand content (items_stand here.now ++ by_index index ∷ []) (view value.now) out.old.items out.new.items) };
 
-    /// Adds the mark of a member of an object to a list; `here` is what the members of the object share.
+    /// Adds a member of an object to a list; `here` is the result of `shared_by_members` on the object.
     fn push_member(
         here: &Self::Members,
         key: &'a String,
@@ -75,8 +75,8 @@ pub trait Mark<'a>: Drop + Sized {
     ) -> Result<(), NoMemory>
         ensures { OnOk result (MarksGainOne located stand content (members_stand here.now ++ by_name (string_bytes key.now) ∷ []) (view value.now) out.old.items out.new.items) };
 
-    /// Adds the mark of one member of the value to a list, where no other member is to share the way to the value with
-    /// it. It needs nothing of `shared_by_members`.
+    /// Adds a single member of the value to a list, if no other member is to share the location of the value with
+    /// it. It needs no `shared_by_members`.
     fn push_single_member(
         &self,
         alloc: Global,
@@ -87,7 +87,7 @@ pub trait Mark<'a>: Drop + Sized {
         ensures { OnOk result (MarksGainOne located stand content (stand self.now ++ by_name (string_bytes key.now) ∷ []) (view value.now) out.old.items out.new.items) };
 }
 
-/// A reference keeps no location: it is the value alone, and its children share nothing.
+/// A reference has no location: it is the value alone, and its children share nothing.
 impl<'a> Mark<'a> for &'a Value {
     type Items = ();
 
@@ -159,7 +159,7 @@ impl<'a> Mark<'a> for &'a Value {
     }
 }
 
-/// A spot keeps its location. Its children share the way to it.
+/// A `Spot` has its whole location. Its children share that.
 impl<'a> Mark<'a> for Spot<'a> {
     type Items = Rc<Trail<'a>>;
 

@@ -1,4 +1,4 @@
-//! Locations by their steps from the last one up, as spots give them, and how two of them compare.
+//! Locations by their steps from the last one up, as a `Spot` lists them, and how two of them compare.
 
 ghost use Rattle.std.specs.Prelude.{◌≡◌, IfOk};
 ghost use Rattle.jsonpath_nodes.specs.plan.OrderedSpots.{from_top};

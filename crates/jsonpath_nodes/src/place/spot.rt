@@ -1,4 +1,4 @@
-//! Spots: values of a document with their locations. Children of one value share the way to it.
+//! `Spot`, a node: a value of a document with its location. Children of one value share its location.
 
 ghost use Rattle.std.specs.Prelude.{◌≡◌, ◌↔◌, [], ◌∷◌, ◌++◌, ◌^◌, ◌-◌, length, map, min, pos, Some, IsTrue, IfOk, IfSome, IfNone, IsSomeAnd, OnOk, option_to_list};
 ghost use Rattle.serde_json.specs.View.{view};
@@ -19,7 +19,7 @@ use crate::step::plain_step::PlainStep;
 use serde_json::Value;
 use std::alloc::{AllocError, Global};
 
-/// One step of a location, its name lent by the document.
+/// One step of a location: an index, or a name borrowed from the document.
 ///
 /// ```text
 /// let children = root.children(alloc)?;
@@ -36,7 +36,7 @@ pub enum PathStep<'a> {
     Index(usize),
 }
 
-/// A value of a document with its location. It lends the document alone.
+/// A node: a value of a document with its location. It borrows from the document alone.
 ///
 /// ```text
 /// let document = read_document(alloc, b"{\"a\": [1, 2]}")?;
@@ -54,7 +54,7 @@ pub struct Spot<'a> {
     pub(crate) trail: Trail<'a>,
 }
 
-/// The steps from the root to a spot. It takes no memory. A `for` goes through them from the root down, and
+/// The steps from the root to a node. It takes no memory. A `for` goes through them from the root down, and
 /// `split_last` from the last step up.
 ///
 /// ```text
@@ -71,7 +71,7 @@ pub struct Steps<'b, 'a> {
 const _: () = prove!(size_of::<Spot<'static>>() <= 32);
 
 impl<'a> Spot<'a> {
-    /// The whole document, at the root. It takes no memory.
+    /// The node of the whole document, the root. It takes no memory.
     ///
     /// ```text
     /// let root = Spot::root(alloc, &document);
@@ -87,7 +87,7 @@ impl<'a> Spot<'a> {
         }
     }
 
-    /// The value at the spot.
+    /// The value of the node.
     ///
     /// ```text
     /// let root = Spot::root(alloc, &document);
@@ -99,7 +99,7 @@ impl<'a> Spot<'a> {
         self.value
     }
 
-    /// The steps from the root to the spot. They take no memory.
+    /// The steps from the root to the node. They take no memory.
     ///
     /// ```text
     /// let root = Spot::root(alloc, &document);
@@ -113,7 +113,7 @@ impl<'a> Spot<'a> {
         }
     }
 
-    /// The location of the spot, owned. Answers `NoMemory` where there is none for it.
+    /// The location of the node, owned. The only error is `NoMemory`.
     ///
     /// ```text
     /// let document = read_document(alloc, br#"{"store": {"book": [{"price": 1995}]}}"#)?;
@@ -131,7 +131,7 @@ impl<'a> Spot<'a> {
         Ok(location)
     }
 
-    /// The spots of the children, in document order. Answers `NoMemory` where there is none for them.
+    /// The children as nodes, in document order. The only error is `NoMemory`.
     ///
     /// ```text
     /// let children = Spot::root(alloc, &document).children(alloc)?;
@@ -145,8 +145,7 @@ impl<'a> Spot<'a> {
         Ok(found)
     }
 
-    /// The spot of the member of this name, if the value is an object that has one. Answers `NoMemory`
-    /// where there is none for it.
+    /// The member of this name as a node, if the value is an object that has one. The only error is `NoMemory`.
     ///
     /// ```text
     /// let list = Spot::root(alloc, &document).member(alloc, "a")?;
@@ -164,8 +163,8 @@ impl<'a> Spot<'a> {
         }
     }
 
-    /// The spot of the item at this index, from 0, if the value is an array that has one. Answers
-    /// `NoMemory` where there is none for it.
+    /// The item at this index, from 0, as a node, if the value is an array that has one. The only error is
+    /// `NoMemory`.
     ///
     /// ```text
     /// let none = Spot::root(alloc, &document).item(alloc, 0)?;
@@ -186,8 +185,7 @@ impl<'a> Spot<'a> {
         }
     }
 
-    /// The spots of the value itself and of all below it, each value before its children. Answers
-    /// `NoMemory` where there is none for them.
+    /// The node itself and all its descendants, each before its children. The only error is `NoMemory`.
     ///
     /// ```text
     /// let below = Spot::root(alloc, &document).below(alloc)?;
@@ -209,7 +207,7 @@ impl<'a> Spot<'a> {
     }
 }
 
-/// A clone stands at the same place. It is refused where the way to it cannot be shared once more.
+/// A clone has the same value and location. It fails if the location has too many owners to count one more.
 impl<'a> Clone for Spot<'a> {
     ghost is_clone = { λ spot copy. sight_of copy ≡ sight_of spot };
 
@@ -282,7 +280,7 @@ impl<'b, 'a> Steps<'b, 'a> {
         is_root(self.path_to)
     }
 
-    /// An owned location of the same steps. Answers `NoMemory` where there is none for it.
+    /// An owned location of the same steps. The only error is `NoMemory`.
     ///
     /// ```text
     /// let location = root.steps().to_location(alloc)?;

@@ -1,4 +1,4 @@
-//! The steps to a spot, gone through from the root down.
+//! The steps to a node, iterated from the root down.
 
 ghost use Rattle.std.specs.Prelude.{◌≡◌, ◌∷◌, [], ◌++◌, ◌-◌, ◌^◌, ℕ, take};
 ghost use Rattle.std.specs.Iterator.{YieldsFirstBy, item_count};
@@ -8,7 +8,8 @@ ghost use Rattle.jsonpath_nodes.specs.place.SpotPlace.{location_at, object_path_
 use crate::place::spot::{PathStep, Steps};
 use crate::place::trail::{PathTo, PathToObject, Trail};
 
-/// The steps to a spot, from the root down. It takes no memory: each step is looked for from the spot up.
+/// Iterator over the steps to a node, from the root down. It takes no memory: each step is looked up from the node's
+/// end.
 ///
 /// ```text
 /// for list in root.children(alloc)?.as_slice() {
@@ -123,8 +124,8 @@ impl<'b, 'a> Iterator for StepsFromRoot<'b, 'a> {
     }
 }
 
-/// From the root down, each step looked for from the spot up: as much work as the square of their number, and no
-/// memory. More than `usize::MAX` steps end there.
+/// Iterates from the root down without taking memory: each step is looked up from the node's end, so the work is
+/// quadratic in the number of steps. The iterator ends after `usize::MAX` steps.
 ///
 /// ```text
 /// let document = read_document(alloc, br#"{"a": [1, {"b": 2}]}"#)?;

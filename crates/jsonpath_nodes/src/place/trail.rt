@@ -1,4 +1,4 @@
-//! Trails: where values stand in a document. What leads to a container is shared by all below it.
+//! Trails: the locations of nodes, as linked lists. All nodes below a container share its trail.
 
 ghost use Rattle.std.specs.Prelude.{◌≡◌, ◌↔◌, [], ◌∷◌, ◌++◌, ◌^◌, ◌-◌, length, min, string_bytes, IsTrue, IfOk, IfSome, OnOk};
 ghost use Rattle.jsonpath_nodes.specs.place.Location.{name as by_name, index as by_index};

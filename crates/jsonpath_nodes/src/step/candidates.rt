@@ -1,6 +1,6 @@
-//! How the candidates of a filter whose own `@` has a step come once for each location (an `@` is a filter's own if it
-//! stands in no deeper filter): whether two of some spots can share one, and the first spot at each location. They are
-//! found in `references` and `spots`; what they are is said at `ValueWalker::walk_dedup_all`.
+//! How the candidates of a filter are found once for each location, if the filter uses a relative query with at
+//! least one segment: whether two of some nodes can share a candidate, and the first node at each location. They are
+//! found in `references` and `spots`, and defined at `ValueWalker::walk_dedup_all`.
 
 ghost use Rattle.std.specs.Prelude.{◌≡◌, ◌++◌, ◌∷◌, [], map, true, Some, IsTrue, IfOk, OnOk, if◌then◌else◌};
 ghost use Rattle.jsonpath_nodes.specs.plan.Ascending.{first_difference_ascends, Ascend};

@@ -1,4 +1,4 @@
-//! What a value has of children: whether it may have any, and the one at an index or of a name; indexes also as a
+//! Looking up children of a value: whether it may have any, and the one at an index or of a name; indexes also as a
 //! path writes them.
 
 ghost use Rattle.std.specs.Prelude.{◌≡◌, ◌≤◌, option_map, unwrap_or, string_bytes, IfSome};
@@ -38,8 +38,8 @@ pub(crate) fn item_of_value<'a>(value: &'a Value, index: usize) -> Option<&'a Va
     }
 }
 
-/// Where an index as a path writes it leads in an array of `len` items, as an index from the front. One below zero
-/// counts from the end, and stops at the first item; one past the end gives `len`.
+/// Converts an index as a path writes it to one from the front, in an array of `len` items. One below zero counts
+/// from the end, and is 0 if it is before the first item; one past the end gives `len`.
 ///
 /// ```text
 /// assert_eq!(rt; abs_index(-1, 3), 2);

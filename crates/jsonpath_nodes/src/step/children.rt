@@ -1,7 +1,7 @@
-//! The children that a plain step selects of one value: found in it, and added to a list of marks by the same code for
-//! references and for spots.
+//! The children that a plain step selects of one value: found in it, and added to a list by the same code for
+//! references and for `Spot`s.
 //!
-//! `here` is what the items or members share of the way to their array or object (`Mark::Items`, `Mark::Members`).
+//! `here` is the part of the location that the items or members share (`Mark::Items`, `Mark::Members`).
 
 ghost use Rattle.std.specs.Prelude.{◌≡◌, ◌∷◌, [], ◌≤◌, map, filter, false, vec_len, OnOk, IfOk};
 ghost use Rattle.serde_json.specs.Data.{array, object};

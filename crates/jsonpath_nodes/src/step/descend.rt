@@ -1,5 +1,5 @@
-//! Marks from which a step can descend: what it selects in a mark's value and in all below it, what is flat there, and
-//! the candidates of a filter there. References and spots have code of their own, since this toolchain states no
+//! Descents: what a step selects in a value and in all its descendants, flattened nested arrays there, and the
+//! candidates of a filter there. References and `Spot`s have code of their own, since this toolchain states no
 //! recursion over both.
 
 ghost use Rattle.std.specs.Prelude.{OnOk};
@@ -22,7 +22,7 @@ use crate::step::plain_step::PlainStep;
 use serde_json::Value;
 use std::alloc::Global;
 
-/// A mark from which a step can descend.
+/// A `Mark` from which a step can descend: `&Value` or `Spot`.
 ///
 /// ```text
 /// let mut found = Vec::new(alloc);
@@ -30,7 +30,7 @@ use std::alloc::Global;
 /// assert_eq!(rt; found.len(), 4);
 /// ```
 pub trait Descends<'a>: Mark<'a> {
-    /// Adds what a step selects in the value and in all below it, each value before its children.
+    /// Adds what a step selects in the value and in all its descendants, each before its children.
     fn add_selected_at_or_below(
         &self,
         alloc: Global,
@@ -39,19 +39,19 @@ pub trait Descends<'a>: Mark<'a> {
     ) -> Result<(), NoMemory>
         ensures { OnOk result (MarksGain Self.located Self.stand Self.content (deep (plain_step_of plain.now)) (Self.stand self.now) (Self.content self.now) out.old.items out.new.items) };
 
-    /// Adds what is no array and is reached from the value through arrays alone: the value itself, if it is no array.
+    /// Adds the non-array values left after flattening nested arrays: the value itself, if it is no array.
     fn add_flattened(&self, alloc: Global, out: &mut Vec<Self>) -> Result<(), NoMemory>
         ensures { OnOk result (MarksGain Self.located Self.stand Self.content flat (Self.stand self.now) (Self.content self.now) out.old.items out.new.items) };
 
-    /// Adds the candidates of a filter behind `..`, whose own `@` has a step, from the value: what is no array and is
-    /// reached through arrays alone from what stands below the value, each once. Its clauses also tell that the names
-    /// ascend in each object there.
+    /// Adds the candidates of a filter after `..` that uses a relative query with at least one segment: the
+    /// non-array values left after flattening nested arrays among the descendants, each once. Its clauses also say
+    /// that the names ascend in each object there.
     fn add_candidates_below(&self, alloc: Global, out: &mut Vec<Self>) -> Result<(), NoMemory>
         ensures gains { OnOk result (MarksGain Self.located Self.stand Self.content candidates_below (Self.stand self.now) (Self.content self.now) out.old.items out.new.items) }
         ensures document { OnOk result (IsDocument (Self.content self.now)) };
 }
 
-/// A reference keeps no location: it is the value alone, and its children share nothing.
+/// A reference has no location: it is the value alone, and its children share nothing.
 impl<'a> Descends<'a> for &'a Value {
     // Adds, as references, what a step selects in the value and in all below it, each value before its children.
     #[inline]
@@ -81,7 +81,7 @@ impl<'a> Descends<'a> for &'a Value {
     }
 }
 
-/// A spot keeps its location. Its children share the way to it.
+/// A `Spot` has its whole location. Its children share that.
 impl<'a> Descends<'a> for Spot<'a> {
     // Adds, as spots, what a step selects in the value and in all below it, each value before its children.
     #[inline]

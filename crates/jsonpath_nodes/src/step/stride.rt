@@ -1,4 +1,4 @@
-//! Strides: plain steps that keep their names, alone or behind `..`.
+//! `Stride`: a plain step that owns its names, alone or after `..`.
 
 ghost use Rattle.std.specs.Prelude.{◌≡◌, map, IfOk};
 ghost use Rattle.std.specs.Cow.{cow_str_bytes};
@@ -10,7 +10,7 @@ use crate::step::plain_step::PlainStep;
 use std::alloc::Global;
 use std::borrow::CowStr;
 
-/// What a plain step selects among the children of a value. Its names are taken as they are.
+/// What a plain step selects among the children of a value. Its names are taken literally.
 ///
 /// ```text
 /// let both = Stride {
@@ -32,11 +32,11 @@ pub enum Selection<'t> {
     Nth(i64),
     /// The items at these indexes, in this order.
     Union(&'t [i64]),
-    /// The items of a range, by from, to and step.
+    /// The items of a slice, by from, to and step.
     Range(Option<i64>, Option<i64>, Option<u64>),
 }
 
-/// A plain step that keeps its names: as `PlainStep`, alone or after `..`.
+/// A plain step that owns its names, alone or after `..`.
 ///
 /// ```text
 /// let every = Stride {
@@ -48,9 +48,9 @@ pub enum Selection<'t> {
 /// ```
 #[derive(Drop)]
 pub struct Stride<'t> {
-    /// Whether it is taken from each value and from all below it.
+    /// Whether `..` comes before it: it is applied to each value and to all its descendants.
     pub leaves: bool,
-    /// What it selects among the children of each.
+    /// What it selects among the children of each value.
     pub selection: Selection<'t>,
 }
 

@@ -1,6 +1,7 @@
-//! The steps of a path on lists of spots. The names are the Rust crate's, or follow its own: `next_` leads to children,
-//! `all` to those of all at or below (but for `all_with_strs`), and so does `below_`; `str` is a name, `num` an index.
-//! `below` gives the spots with all below them; `walk_dedup_all` and `candidates_below` give candidates of filters.
+//! The steps of a path on lists of nodes. The names are the Rust crate's, or follow its own: `next_` leads to
+//! children, `all` to those of a node and all its descendants (but for `all_with_strs`), and so does `below_`; `str`
+//! is a name, `num` an index. `below` gives the nodes with all their descendants; `walk_dedup_all` and
+//! `candidates_below` give candidates of filters.
 
 ghost use Rattle.std.specs.Prelude.{map, IfOk};
 ghost use Rattle.jsonpath_nodes.specs.place.SpotPlace.{LeadsBy};
@@ -16,11 +17,10 @@ use crate::steps_on_marks::{
 };
 use std::alloc::Global;
 
-/// The steps of a path, each on a list of spots at once.
+/// The steps of a path, each applied to a list of nodes at once.
 ///
-/// Every call gives what its step leads to from each spot, in the order of the spots, repeats kept, but for
-/// `walk_dedup_all` and `candidates_below`, which give each location once. The only refusal is `NoMemory`, and then
-/// nothing is given.
+/// Every call returns what its step selects from each node, in the order of the nodes, with duplicates, but for
+/// `walk_dedup_all` and `candidates_below`, which return each location once. The only error is `NoMemory`.
 ///
 /// ```text
 /// let document = read_document(alloc, b"[{\"a\": 1}, {\"a\": 2}]")?;
@@ -47,7 +47,7 @@ impl ValueWalker {
         plain_step_from_each(alloc, spots, &PlainStep::Every)
     }
 
-    /// A name: the member of that name of each object that has one. The name is taken as it is.
+    /// A name: the member of that name of each object that has one. The name is taken literally.
     ///
     /// ```text
     /// let found = ValueWalker::next_with_str(alloc, items.as_slice(), "b")?;
@@ -63,8 +63,8 @@ impl ValueWalker {
         plain_step_from_each(alloc, spots, &PlainStep::Named(name))
     }
 
-    /// A list of names: from each object its members of these names, in the list's order. It leads to children
-    /// alone. The name is the Rust crate's.
+    /// A list of names: from each object its members of these names, in the list's order. It selects children alone.
+    /// The name is the Rust crate's.
     ///
     /// ```text
     /// let found = ValueWalker::all_with_strs(alloc, items.as_slice(), &["b", "a"])?;
@@ -98,7 +98,7 @@ impl ValueWalker {
         plain_step_from_each(alloc, spots, &PlainStep::Nth(n))
     }
 
-    /// A union: from each array the items at these indexes, in the union's order.
+    /// A list of indexes: from each array the items at these indexes, in the list's order.
     ///
     /// ```text
     /// let found = ValueWalker::next_with_nums(alloc, items.as_slice(), &[2, 0])?;
@@ -114,8 +114,8 @@ impl ValueWalker {
         plain_step_from_each(alloc, spots, &PlainStep::Union(ns))
     }
 
-    /// A range: from each array the items at `from`, `from + step`, `from + 2 * step` and so on, below `to`.
-    /// A missing `from` is 0, a missing `to` the length, a missing `step` 1. A `step` of 0 gives nothing.
+    /// A slice: from each array the items at `from`, `from + step`, `from + 2 * step` and so on, below `to`. A
+    /// missing `from` is 0, a missing `to` the length, a missing `step` 1. A `step` of 0 selects nothing.
     ///
     /// ```text
     /// let found = ValueWalker::next_with_range(alloc, items.as_slice(), Some(1), None, None)?;
@@ -133,7 +133,7 @@ impl ValueWalker {
         plain_step_from_each(alloc, spots, &PlainStep::Range(from, to, step))
     }
 
-    /// `..*`: the children of each array and object at or below each spot.
+    /// `..*`: the children of each array and object at or below each node.
     ///
     /// ```text
     /// let found = ValueWalker::all(alloc, &root)?;
@@ -145,7 +145,7 @@ impl ValueWalker {
         plain_step_from_all_below(alloc, spots, &PlainStep::Every)
     }
 
-    /// `..name`: the member of that name, if there is one, of each object at or below each spot.
+    /// `..name`: the member of that name, if there is one, of each object at or below each node.
     ///
     /// ```text
     /// let found = ValueWalker::all_with_str(alloc, &root, "b")?;
@@ -161,8 +161,7 @@ impl ValueWalker {
         plain_step_from_all_below(alloc, spots, &PlainStep::Named(name))
     }
 
-    /// `..` before an index as a path writes it: the item there, if there is one, of each array at or below each
-    /// spot.
+    /// `..[num]`: the item at that index, if there is one, of each array at or below each node.
     ///
     /// ```text
     /// let found = ValueWalker::all_with_num(alloc, &root, 0)?;
@@ -178,7 +177,7 @@ impl ValueWalker {
         plain_step_from_all_below(alloc, spots, &PlainStep::Nth(n))
     }
 
-    /// Each spot and all below it, each value before its children.
+    /// Each node and all its descendants, each before its children.
     ///
     /// ```text
     /// let found = ValueWalker::below(alloc, &root)?;
@@ -194,9 +193,9 @@ impl ValueWalker {
         Ok(found)
     }
 
-    /// The candidates of a filter whose own `@` has a step: each spot that is no array, and for an array
-    /// what is no array and is reached from it through arrays alone. Each location is given once, at its
-    /// first place. The name is the Rust crate's.
+    /// The candidates of a filter that uses a relative query with at least one segment: each node that is no array,
+    /// and for an array the non-array values left after flattening nested arrays. Each location is returned once,
+    /// where it comes first. The name is the Rust crate's.
     ///
     /// ```text
     /// let candidates = ValueWalker::walk_dedup_all(alloc, &root)?;
@@ -213,8 +212,9 @@ impl ValueWalker {
         Ok(kept)
     }
 
-    /// The candidates of a filter after `..` whose own `@` has a step: what is no array and is reached through arrays
-    /// alone from what stands below each spot. Each location is given once, at its first place.
+    /// The candidates of a filter after `..` that uses a relative query with at least one segment: the non-array
+    /// values left after flattening nested arrays, from the descendants of each node. Each location is returned
+    /// once, where it comes first.
     ///
     /// ```text
     /// let candidates = ValueWalker::candidates_below(alloc, &root)?;

@@ -9,9 +9,9 @@ use crate::place::location::Location;
 use crate::update::single::update_at;
 use serde_json::Value;
 
-/// `update_at` at each of the locations, one after another, each in what the earlier updates left. The closure is
-/// handed the value there, and `Some` puts its answer in place, `None` takes the member or item away. At the root and
-/// where a location leads nowhere it is not asked.
+/// `update_at` at each of the locations, one after another, each in what the earlier updates left. The closure gets
+/// the value there; `Some` replaces it, `None` removes the member or item. It is not called at the root, nor at a
+/// location that doesn't exist.
 ///
 /// ```text
 /// let mut document = Value::from_str(alloc, "[1, [2, 3]]")?;
@@ -33,8 +33,8 @@ pub fn replace_at<F: FnMut(Value) -> Option<Value>>(
     }
 }
 
-/// Puts null at the topmost of the locations below the root. The root among them is passed over, and so is a location
-/// that leads nowhere. The locations may stand in any order and repeat.
+/// Puts null at the locations below the root that have no ancestor in the list. The root and locations that don't
+/// exist are skipped. The locations may come in any order and repeat.
 ///
 /// ```text
 /// let mut document = read_document(alloc, b"[1, [2, 3]]")?;

@@ -1,4 +1,4 @@
-//! Updates at a list of locations by a closure that is shown what stands there, and may refuse.
+//! Updates at a list of locations by a closure that gets a reference to the value there, and may return an error.
 
 ghost use Rattle.std.specs.Prelude.{◌≡◌, option_map};
 ghost use Rattle.serde_json.specs.View.{view};
@@ -10,13 +10,12 @@ use crate::place::location::{LocStep, Location};
 use crate::update::single::{update_at_steps, value_at};
 use serde_json::Value;
 
-/// The single updates at the locations, one after another, each on what the earlier ones left, until the
-/// closure refuses one.
+/// Updates the values at the locations one after another, each in what the earlier updates left, until the closure
+/// returns an error.
 ///
-/// The closure is shown the value there, and `Some` puts its answer in place, `None` takes the member or
-/// item away. Its first error ends the updates and is answered: what the updates before it left stays, and
-/// the value that it was shown is as it was. At the root, and where a location leads nowhere, it is not
-/// asked.
+/// The closure gets a reference to the value there; `Some` replaces it, `None` removes the member or item. Its first
+/// error ends the updates and is returned: the updates before it remain, and the value at which it came is
+/// unchanged. It is not called at the root, nor at a location that doesn't exist.
 ///
 /// ```text
 /// let mut document = Value::from_str(alloc, "[1, [2, 3]]")?;

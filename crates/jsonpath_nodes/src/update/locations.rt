@@ -1,4 +1,4 @@
-//! The locations that updates go to: those of spots, each once and in document order.
+//! The locations of nodes, each once and in document order, for updates.
 
 ghost use Rattle.std.specs.Prelude.{◌≡◌, [], ◌∷◌, ◌++◌, map, IfOk, IsTrue};
 ghost use Rattle.std.specs.List.Sorted.{IsStrictlySortedBy};
@@ -12,8 +12,8 @@ use crate::place::spot::Spot;
 use std::alloc::Global;
 use std::collections::BTreeSet;
 
-/// The locations of the spots, each once, in document order. The name is the Rust crate's. Answers `NoMemory` where
-/// there is none for them.
+/// The locations of the nodes, each once, in document order. The name is the Rust crate's. The only error is
+/// `NoMemory`.
 ///
 /// ```text
 /// let document = Value::from_str(alloc, "[1, [2, 3]]")?;

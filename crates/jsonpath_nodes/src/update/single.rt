@@ -11,14 +11,13 @@ use crate::memory::NoMemory;
 use crate::place::location::{LocStep, Location};
 use serde_json::{Map, Value};
 
-/// Updates the value at one location by what the closure answers.
+/// Updates the value at one location by a closure.
 ///
-/// The closure is handed the value there, and `Some` puts its answer in place, `None` takes the member or
-/// item away; later items of the array move down by one. The call answers whether the closure was asked. At the
-/// root, and where the location leads nowhere, it is not asked and nothing changes. A name leads into objects
-/// alone, an index into arrays alone.
+/// The closure gets the value there; `Some` replaces it, `None` removes the member or item, and later items of the
+/// array move down by one. Returns whether the closure was called. At the root, and if the location doesn't exist,
+/// it is not called and nothing changes. A name selects in objects alone, an index in arrays alone.
 ///
-/// The update is made in place and asks for no memory, so `NoMemory` never comes.
+/// The update is made in place without taking memory, so the error `NoMemory` never comes.
 ///
 /// ```text
 /// let mut document = read_document(alloc, b"[1, 2]")?;

@@ -1,4 +1,4 @@
-//! What stands in brackets and is no filter (`steps.rt` takes filters): names, indexes, unions, ranges and `*`.
+//! Parses what is in brackets and no filter (`steps.rt` has filters): names, indexes, lists of both, slices and `*`.
 
 ghost use Rattle.std.specs.Prelude.{◌≤◌, length, Some};
 ghost use Rattle.jsonpath_paths.specs.plan.Parsing.{Reads};

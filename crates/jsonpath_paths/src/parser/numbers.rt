@@ -1,4 +1,4 @@
-//! The numbers that words of a path spell: indexes, steps of ranges, and decimals. `None` where a word spells none.
+//! The numbers of a path: indexes, steps of slices, and decimals. `None` if the word is no number.
 
 ghost use Rattle.std.specs.Prelude.{◌≡◌, ◌<◌, ◌^◌, IfSome, Some, None};
 ghost use Rattle.jsonpath_paths.specs.Numbers.{index_of, range_step_of, decimal_of, digits_of, fraction_of, is_negative, without_minus};

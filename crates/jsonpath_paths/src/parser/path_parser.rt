@@ -1,4 +1,4 @@
-//! `PathParser`, a compiled path: a path text, the tree that it spells and the token list of that tree.
+//! `PathParser`, a compiled path: a path text, its syntax tree and the token list of that tree.
 
 ghost use Rattle.std.specs.Prelude.{◌≡◌, ◌≢◌, ◌++◌, true, false, length, ℕ, List, IfOk, IfErr, IsOk};
 ghost use Rattle.jsonpath_paths.specs.tree.Tree.{Path};
@@ -24,7 +24,8 @@ use crate::tree::token_list::token_list;
 use std::alloc::{AllocError, Global};
 use std::marker::Model;
 
-/// A path text of the grammar, the one tree that it spells and the token list of that tree, which is made once.
+/// A compiled path: a path text, the one syntax tree that it parses to, and the token list of that tree, which is
+/// made once.
 ///
 /// ```text
 /// let path = PathParser::compile(alloc, "$.store['book'][0]")?;
@@ -71,9 +72,9 @@ fn error_at_refused_token_or_character(
 }
 
 impl<'a> PathParser<'a> {
-    /// The path that the text spells: Ok exactly for the texts of the grammar, unless memory runs out. A refused text
-    /// is refused at the first token such that no path begins with the tokens up to it, or at the first character that
-    /// begins no token: `Eof` if that ends the text or the text ends too early, else `Position` of its end in bytes.
+    /// Parses a path text: Ok for exactly the texts of the grammar, unless memory runs out. A syntax error names the
+    /// first token such that no path begins with the tokens up to it, or the first character that begins no token:
+    /// `Eof` if that ends the text or the text ends too early, else `Position` with the byte at which it ends.
     ///
     /// ```text
     /// let refused = PathParser::compile(alloc, "$.a[b]").err();
@@ -108,9 +109,9 @@ impl<'a> PathParser<'a> {
         }
     }
 
-    /// Gives the receiver the token list of the tree, in order, unless the receiver fails, with a
-    /// reader that answers the text's part at each span. It is always `Ok`, also then. Nothing is parsed:
-    /// the name is the Rust crate's.
+    /// Passes the token list of the syntax tree, in order, to the receiver, unless that fails, with a reader that
+    /// returns the part of the text at a span. It is `Ok` in either case. Nothing is parsed: the name is the Rust
+    /// crate's.
     ///
     /// ```text
     /// let path = PathParser::compile(alloc, "$..a")?;
@@ -141,7 +142,7 @@ impl<'a> PathParser<'a> {
         self.text
     }
 
-    /// The tree that the text spells.
+    /// The syntax tree of the text.
     ///
     /// ```text
     /// let path = PathParser::compile(alloc, "$[?(@.a)].b")?;
@@ -154,7 +155,7 @@ impl<'a> PathParser<'a> {
         &self.tree
     }
 
-    /// The token list of the tree that the text spells. It takes no memory.
+    /// The token list of the syntax tree. The call takes no memory.
     ///
     /// ```text
     /// let path = PathParser::compile(alloc, "$..a")?;
@@ -166,7 +167,7 @@ impl<'a> PathParser<'a> {
         self.tokens.as_slice()
     }
 
-    /// Gives up the path for the tree that its text spells.
+    /// Turns the path into the syntax tree of its text.
     ///
     /// ```text
     /// let tree = PathParser::compile(alloc, "$")?.into_tree();
@@ -180,7 +181,7 @@ impl<'a> PathParser<'a> {
         tree
     }
 
-    /// Gives up the path for the tree that its text spells and the token list of that tree.
+    /// Turns the path into the syntax tree of its text and the token list of that tree.
     ///
     /// ```text
     /// let (tree, tokens) = PathParser::compile(alloc, "$.a[0]")?.into_tree_and_tokens();
@@ -202,7 +203,7 @@ impl<'a> PathParser<'a> {
 
 impl<'a> ParserNodeVisitor for PathParser<'a> {}
 
-/// A copy has the same text, tree and token list. It takes memory, and is refused where there is none.
+/// A copy has the same text, tree and token list. The only error is `OutOfMemory`.
 impl<'a> Clone for PathParser<'a> {
     ghost is_clone = { λ parser copy. copy ≡ parser };
 

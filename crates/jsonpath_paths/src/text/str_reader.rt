@@ -1,4 +1,4 @@
-//! A text that is read character by character, by places in bytes.
+//! A text that is read character by character, with positions in bytes.
 
 ghost use Rattle.std.specs.Prelude.{◌≡◌, ◌≤◌, ◌+◌, ◌∷◌, [], ℕ, Bool, Some, drop, length, IfOk, IsOkAnd, MatchResult};
 ghost use Rattle.std.specs.List.{take_while};
@@ -14,7 +14,7 @@ use std::error::Error;
 use std::fmt;
 use std::marker::Model;
 
-/// Why no character is read. `Display` prints `Eof`.
+/// The error of reading a character: there is none left. `Display` prints `Eof`.
 ///
 /// ```text
 /// let mut reader = StrReader::new("");
@@ -38,7 +38,7 @@ impl fmt::Display for ReaderError {
 
 impl Error for ReaderError {}
 
-/// A part of a text: the byte position of its beginning and its length in bytes.
+/// A span of a text: the byte position of its beginning and its length in bytes.
 ///
 /// ```text
 /// let mut reader = StrReader::new("$.a");
@@ -47,14 +47,14 @@ impl Error for ReaderError {}
 /// ```
 #[derive(Clone, Copy, Debug, PartialEq, Eq)]
 pub struct StrRange {
-    /// How many bytes of the text stand before it.
+    /// The position in the text: how many of its bytes come before it.
     pub pos: usize,
     /// How many bytes it has.
     pub offset: usize,
 }
 
 impl StrRange {
-    /// The part that begins at byte `pos` and has `offset` bytes. The names are the Rust crate's.
+    /// The span that begins at byte `pos` and has `offset` bytes. The names are the Rust crate's.
     ///
     /// ```text
     /// let word = StrRange::new(2, 3);
@@ -67,7 +67,7 @@ impl StrRange {
     }
 }
 
-/// A place in a text, from where characters are read on.
+/// A reader of a text, character by character, at a position in it.
 ///
 /// ```text
 /// let mut reader = StrReader::new("a가b");
@@ -137,8 +137,8 @@ impl<'a> StrReader<'a> {
         }
     }
 
-    /// Takes the longest run of characters for each of which `fun` is true, possibly none, and
-    /// answers where it stands. It is always `Ok`.
+    /// Takes the longest run of characters for each of which `fun` is true, possibly none, and returns its span. It
+    /// is always `Ok`.
     ///
     /// ```text
     /// let mut reader = StrReader::new("ab.c");
@@ -165,8 +165,7 @@ impl<'a> StrReader<'a> {
         Ok(StrRange::new(start, self.current_pos() - start))
     }
 
-    /// Takes the next character and answers where it stands, or `Eof` at the end of the text,
-    /// where nothing changes.
+    /// Takes the next character and returns its span, or `Eof` at the end of the text, where nothing changes.
     ///
     /// ```text
     /// let mut reader = StrReader::new("가b");
@@ -202,7 +201,7 @@ impl<'a> StrReader<'a> {
         }
     }
 
-    /// How many bytes of the text are read.
+    /// The position: how many bytes of the text are read.
     ///
     /// ```text
     /// let mut reader = StrReader::new("가b");
@@ -246,7 +245,7 @@ impl<'a> StrReader<'a> {
     }
 }
 
-/// A copy stands at the same place of the same text. It takes no memory.
+/// A copy is at the same position of the same text. It takes no memory.
 impl<'a> Clone for StrReader<'a> {
     ghost use Rattle.std.specs.Prelude.{⊤};
 

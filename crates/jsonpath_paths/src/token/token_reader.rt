@@ -15,7 +15,7 @@ use crate::token::tokens::{Token, TokenError};
 use std::alloc::AllocError;
 use std::marker::Model;
 
-/// A path text that is read token by token, and that keeps how far it was looked at.
+/// Reads a path text token by token, and remembers how far it looked.
 ///
 /// ```text
 /// let mut reader = TokenReader::new("[0]");
@@ -54,8 +54,8 @@ impl<'a> TokenReader<'a> {
         }
     }
 
-    /// The next token, which is looked at up to its end and not taken; `next_token` then answers the
-    /// same. Where no token begins, it is refused as by `next_token`, and nothing is looked at.
+    /// Returns the next token without taking it; `next_token` then returns the same. If no token begins there, the
+    /// error is that of `next_token`, and no character counts as read.
     ///
     /// ```text
     /// let mut reader = TokenReader::new("==1");
@@ -74,9 +74,9 @@ impl<'a> TokenReader<'a> {
         found
     }
 
-    /// Takes the next token. Where no token begins, none is taken, and each later call answers the same: `Eof` at the
-    /// end of the text, in a quoted text that is not closed and where one character alone is left, else `Position` of
-    /// the character's first byte.
+    /// Takes the next token. If no token begins there, the position stays, and each later call returns the same
+    /// error: `Eof` at the end of the text, in a quoted text that is not closed, or if a single character is left,
+    /// else `Position` with the character's first byte.
     ///
     /// ```text
     /// let mut reader = TokenReader::new("@ ");
@@ -95,8 +95,8 @@ impl<'a> TokenReader<'a> {
         found
     }
 
-    /// The error for the place up to which the text was read or looked at: `Eof` if that is the text's end, else
-    /// `Position` of it.
+    /// The error for the position up to which the text was read or looked at: `Eof` if that is the text's end, else
+    /// `Position` with it.
     ///
     /// ```text
     /// let mut reader = TokenReader::new("$[a]");
@@ -130,7 +130,7 @@ impl<'a> TokenReader<'a> {
     }
 }
 
-/// A copy stands at the same place of the same text. It takes no memory.
+/// A copy is at the same position of the same text. It takes no memory.
 impl<'a> Clone for TokenReader<'a> {
     ghost use Rattle.std.specs.Prelude.{⊤};
 

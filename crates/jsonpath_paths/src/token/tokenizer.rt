@@ -1,4 +1,4 @@
-//! The tokens of a text, each the longest front that is one.
+//! The tokens of a text, each the longest possible.
 
 ghost use Rattle.std.specs.Prelude.{◌≡◌, ◌+◌, ◌<◌, ◌≤◌, ◌↔◌, length, drop, IfOk, IfErr, IsTrue, [], Some, None, option_map, if◌then◌else◌};
 ghost use Rattle.std.specs.List.{take_while};
@@ -363,9 +363,9 @@ impl<'a> Tokenizer<'a> {
         self.reader.copy_of_place().peek_char().is_err()
     }
 
-    /// Takes the next token. Where no token begins, nothing changes, so that each later call
-    /// answers the same: `Eof` at the end of the text, in a quoted text that is not closed and
-    /// where one character alone is left, else `Position` of the character's first byte.
+    /// Takes the next token. If no token begins there, the position stays, and each later call returns the same
+    /// error: `Eof` at the end of the text, in a quoted text that is not closed, or if a single character is left,
+    /// else `Position` with the character's first byte.
     ///
     /// ```text
     /// let mut tokenizer = Tokenizer::new("=1");
@@ -383,7 +383,7 @@ impl<'a> Tokenizer<'a> {
     }
 }
 
-/// A copy stands at the same place of the same text. It takes no memory.
+/// A copy is at the same position of the same text. It takes no memory.
 impl<'a> Clone for Tokenizer<'a> {
     ghost use Rattle.std.specs.Prelude.{⊤};
 

@@ -1,4 +1,4 @@
-//! The tokens of a path text, why there is none or the text is refused, and the tokens of a tree's token list.
+//! The tokens of a path text, the error where there is none, and the tokens of a syntax tree's token list.
 
 ghost use Rattle.std.specs.Prelude.{◌≡◌, ◌↔◌, Some, IsTrue};
 ghost use Rattle.jsonpath_paths.specs.RefusalTexts.{token_error_text};
@@ -12,8 +12,8 @@ use std::alloc::AllocError;
 use std::error::Error;
 use std::fmt;
 
-/// Why a path text is refused, or why there is no further token. `Display` prints `Eof`, `Position:` with the byte
-/// position behind it, or `out of memory`.
+/// The error of reading a path text: a syntax error with its position, the end of the text, or out of memory.
+/// `Display` prints `Eof`, `Position:` with the byte position after the error, or `out of memory`.
 ///
 /// ```text
 /// let error = PathParser::compile(alloc, "$[a]")
@@ -24,13 +24,13 @@ use std::fmt;
 /// ```
 #[derive(Clone, Copy, Debug, PartialEq, Eq)]
 pub enum TokenError {
-    /// The text ends too early, or what is refused ends it.
+    /// The text ends too early, or the error is at its very end.
     Eof,
-    /// A byte position in the text, at most its length: `Tokenizer` gives that where the refused
-    /// character begins, `PathParser` that where the refused token or character ends, and
-    /// `TokenReader::to_error` that up to which the text was read or looked at.
+    /// A byte position in the text, at most its length: from `Tokenizer` that where the wrong character begins, from
+    /// `PathParser` that where the wrong token or character ends, from `TokenReader::to_error` that up to which the
+    /// text was read or looked at.
     Position(usize),
-    /// A growth of memory was refused.
+    /// Out of memory.
     OutOfMemory,
 }
 
@@ -58,7 +58,7 @@ impl From<AllocError> for TokenError {
     }
 }
 
-/// What a token is, without its span.
+/// The kind of a token, without its span.
 #[derive(Clone, Copy, PartialEq, Eq)]
 pub enum Kind {
     Absolute,
@@ -145,7 +145,7 @@ pub enum Token {
     And(StrRange),
     /// `||`.
     Or(StrRange),
-    /// Blanks, as many as stand together.
+    /// A run of blanks, as long as possible.
     Whitespace(StrRange),
 }
 
@@ -325,7 +325,7 @@ impl FilterToken {
     }
 }
 
-/// One token of a path's token list, as a visitor hands it over. Spans keep their quotes and backslashes.
+/// One token of a path's token list, as a visitor passes it on. Spans keep their quotes and backslashes.
 ///
 /// ```text
 /// let path = PathParser::compile(alloc, "$.*")?;
@@ -338,9 +338,9 @@ pub enum ParseToken {
     Absolute,
     /// A path from the candidate of a filter.
     Relative,
-    /// The step is on the children of each node.
+    /// The step selects among the children of each node.
     In,
-    /// The step is on each node and all nodes below it.
+    /// The step selects among the children of each node and of all its descendants.
     Leaves,
     /// All children.
     All,
@@ -352,15 +352,15 @@ pub enum ParseToken {
     Array,
     /// A bracket closes.
     ArrayEof,
-    /// A comparison or a connective, behind its two sides.
+    /// A comparison or a connective, after its two sides.
     Filter(FilterToken),
-    /// From, to and step of a range, each of which may be missing.
+    /// From, to and step of a slice, each of which may be missing.
     Range(Option<i64>, Option<i64>, Option<u64>),
-    /// A union of two indexes or more.
+    /// A list of two indexes or more.
     Union(Items<i64>),
     /// One index, or a number as a side of a comparison.
     Number(Decimal),
-    /// A truth as a side of a comparison.
+    /// A boolean as a side of a comparison.
     Bool(bool),
     /// Never occurs in a compiled path.
     Eof,

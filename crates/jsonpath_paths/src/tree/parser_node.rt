@@ -1,4 +1,4 @@
-//! The tree of a path.
+//! The syntax tree of a path.
 
 ghost use Rattle.std.specs.Prelude.{◌≡◌};
 ghost use Rattle.jsonpath_paths.specs.tree.View.{path_of, steps_of_list};
@@ -6,7 +6,7 @@ ghost use Rattle.jsonpath_paths.specs.tree.Tree.{path};
 
 use crate::token::tokens::{FilterToken, ParseToken};
 
-/// A path: from the document's root if it is absolute, else from the candidate of a filter.
+/// The syntax tree of a path: from the document's root if it is absolute, else from the candidate of a filter.
 ///
 /// ```text
 /// let path = PathParser::compile(alloc, "$.a[0]")?;
@@ -32,9 +32,9 @@ pub struct ParserNode {
 #[cycle(tree)]
 #[derive(Drop)]
 pub struct ParserStep {
-    /// Whether two dots begin it, so that it is on each node and all nodes below it.
+    /// Whether two dots begin it, so that it selects among the children of each node and of all its descendants.
     pub leaves: bool,
-    /// Whether it stands in brackets.
+    /// Whether the segment is written in brackets.
     pub bracket: bool,
     /// What it selects.
     pub inner: Inner,
@@ -50,7 +50,7 @@ pub struct ParserStep {
 #[cycle(tree)]
 #[derive(Drop)]
 pub enum Inner {
-    /// Names, indexes, a range or all children.
+    /// Names, indexes, a slice or all children.
     Token(ParseToken),
     /// The candidates that meet the condition.
     Filter(Condition),
@@ -66,7 +66,7 @@ pub enum Inner {
 #[cycle(tree)]
 #[derive(Drop)]
 pub enum Condition {
-    /// The path reaches something.
+    /// The path selects something.
     Lone(ParserNode),
     /// Two sides and the comparison between them.
     Compare(Term, FilterToken, Term),
@@ -87,7 +87,7 @@ pub enum Condition {
 #[cycle(tree)]
 #[derive(Drop)]
 pub enum Term {
-    /// The values that the path reaches.
+    /// The values that the path selects.
     Path(ParserNode),
     /// A quoted text as a `Key`, a `Number` or a `Bool`.
     Literal(ParseToken),

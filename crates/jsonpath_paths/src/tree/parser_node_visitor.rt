@@ -1,4 +1,4 @@
-//! Hands the token list of a tree over to a receiver, token by token.
+//! Passes the token list of a syntax tree to a receiver, token by token.
 
 ghost use Rattle.std.specs.Prelude.{◌≡◌, ◌++◌, false, true};
 ghost use Rattle.jsonpath_paths.specs.declared.text.str_reader.StrRange.{StrRange};
@@ -13,7 +13,7 @@ use crate::tree::parser_node::{Condition, Inner, ParserNode, ParserStep, Term};
 use crate::tree::parser_token_handler::ParserTokenHandler;
 use crate::tree::token_list::root_token;
 
-/// What hands the token list of a tree over to a receiver.
+/// A syntax tree that can pass its token list to a receiver.
 ///
 /// ```text
 /// struct Walker;
@@ -21,9 +21,9 @@ use crate::tree::token_list::root_token;
 /// impl ParserNodeVisitor for Walker {}
 /// ```
 pub trait ParserNodeVisitor {
-    /// Gives the receiver, `handler`, the token list of the tree, in order, unless it fails. `reader` answers what
-    /// stands at a span of the tree, as a `V` (mostly `&str`); the receiver may call it, and what it answers has to be
-    /// what the receiver `takes` there.
+    /// Passes the token list of the tree, in order, to the receiver `handler`, unless that fails. `reader` turns a
+    /// span of the tree into a `V` (mostly `&str`); the receiver may call it, and its result has to be what the
+    /// receiver `takes` there.
     fn visit<V, H: ParserTokenHandler<V>, R: Fn(&StrRange) -> V>(
         &self,
         node: &ParserNode,

@@ -5,8 +5,8 @@ ghost use Rattle.std.specs.Prelude.{◌≡◌, ◌++◌, ◌∷◌, [], List, Bo
 use crate::text::str_reader::StrRange;
 use crate::token::tokens::ParseToken;
 
-/// A receiver of the token list of a tree, token by token (`ParseToken`). `V` is what the reader gives for a span, as
-/// `&str`.
+/// A receiver of the token list of a syntax tree, token by token (`ParseToken`). `V` is what the reader makes of a
+/// span, as `&str`.
 ///
 /// ```text
 /// impl<V> ParserTokenHandler<V> for Collector {
@@ -36,17 +36,17 @@ pub trait ParserTokenHandler<V> {
     ghost use Rattle.jsonpath_paths.specs.tree.Visit.{MayRead};
     ghost use denote.Ref.{Bor};
 
-    /// The tokens that it was given, in their order.
+    /// The tokens that it received, in their order.
     ghost tokens: { Self → List ParseToken };
 
-    /// Whether it has failed, from which on its tokens say nothing.
+    /// Whether it has failed; from then on `tokens` means nothing.
     ghost has_failed: { Self → Bool };
 
-    /// What it takes as the reading of a span, as the text's part there. By default anything.
+    /// What it accepts as the reading of a span, as the part of the text there. By default anything.
     ghost takes: { Self → StrRange → V → Type 0 } = { λ _ _ _. Unit {0} };
 
-    /// Takes one token more, or fails, as for want of memory. It may call `reader` on the spans of the token; what that
-    /// answers has to be what this receiver `takes` there.
+    /// Takes one token more, or fails, as when memory runs out. It may call `reader` on the spans of the token; the
+    /// result has to be what this receiver `takes` there.
     fn handle<R: Fn(&StrRange) -> V>(&mut self, token: &ParseToken, reader: &R)
         requires may { MayRead (R.pre reader.now) token.now }
         requires reads { (s : Bor StrRange) (v : V) → R.post reader.now s v → takes self.old s.now v }

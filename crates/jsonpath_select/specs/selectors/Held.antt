@@ -11,8 +11,8 @@ use Rattle.jsonpath_nodes.specs.declared.place.spot.Spot.{Spot}
 use Rattle.jsonpath_select.specs.Meaning.{Selects, SelectsAt, SelectsSpots}
 use Rattle.jsonpath_select.specs.ErrorCases.{ByCase, NoMessage}
 use Rattle.jsonpath_select.specs.answer.AnswerText.{list_text, holds_unread, SaysUnread}
-use Rattle.jsonpath_select.specs.declared.selectors.selector.HeldNode.{HeldNode}
-use Rattle.jsonpath_select.specs.declared.selectors.selector.HeldNode.TheVariants.{Own, Lent}
+use Rattle.jsonpath_select.specs.declared.selectors.walked_path.WalkedPath.{WalkedPath}
+use Rattle.jsonpath_select.specs.declared.selectors.walked_path.WalkedPath.TheVariants.{Own, Lent}
 use Rattle.jsonpath_select.specs.declared.error.JsonPathError.{JsonPathError}
 
 -- ---- what is held
@@ -32,7 +32,7 @@ abbrev pub document : Held → Option Data
 document h = option_map view h.value
 
 -- the text of a path of its own, or of one that is lent
-abbrev pub text_held : HeldNode → List ℕ
+abbrev pub text_held : WalkedPath → List ℕ
 text_held (Own node) = node
 text_held (Lent node) = node.now
 

@@ -8,8 +8,8 @@ use crate::error::{JsonPathError, serde_error};
 use serde_json::Value;
 use std::alloc::{AllocError, Global};
 
-/// The document whose JSON text the bytes are. Refused with `Serde`, and `serde_json`'s message,
-/// where they are no document's text, and with `OutOfMemory`.
+/// Reads a JSON text. Errors: `Serde`, with `serde_json`'s message, if the bytes are no JSON document, or
+/// `OutOfMemory`.
 ///
 /// ```text
 /// let document = read_document(alloc, b"{\"b\": 1, \"a\": [2]}")?;
@@ -26,8 +26,8 @@ pub fn read_document(alloc: Global, bytes: &[u8]) -> Result<Value, JsonPathError
     }
 }
 
-/// The compact JSON text of a document. Refused with `Serde` exactly where an unread number, one that is no whole
-/// number of 64 bits, stands in it, at any depth, and with `OutOfMemory`.
+/// The compact JSON text of a document. Errors: `Serde` exactly if it contains, at any depth, a number that is not
+/// an integer of 64 bits, or `OutOfMemory`.
 ///
 /// ```text
 /// let document = read_document(alloc, b"{ \"a\": [1, null] }")?;

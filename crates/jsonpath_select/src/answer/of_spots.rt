@@ -1,4 +1,4 @@
-//! The locations of spots, and the values at them.
+//! The locations of nodes, and their values.
 ghost use Rattle.std.specs.Prelude.{◌≡◌, List, ℕ, map, IfOk, IfErr};
 ghost use Rattle.jsonpath_nodes.specs.place.SpotPlace.{location_of, value_of};
 ghost use Rattle.serde_json.specs.Data.{Data};

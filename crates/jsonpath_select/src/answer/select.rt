@@ -1,4 +1,4 @@
-//! What a compiled path or a bare token list selects in a value, as spots and as values.
+//! What a compiled path or a bare token list selects in a value, as nodes and as values.
 ghost use Rattle.std.specs.Prelude.{◌≡◌, ℕ, List, map, IfOk, IfErr};
 ghost use Rattle.serde_json.specs.Data.{Data};
 ghost use Rattle.serde_json.specs.View.{view};
@@ -23,8 +23,8 @@ use jsonpath_paths::{ParseToken, ParserNode, PathParser};
 use serde_json::Value;
 use std::alloc::Global;
 
-/// Spots at what the path selects in the value, in the path's order, with its repeats. They borrow
-/// the value alone. Refused with `OutOfMemory` alone.
+/// The nodes that the path selects in the value, in the path's order, with duplicates. They borrow the value alone.
+/// The only error is `OutOfMemory`.
 ///
 /// ```text
 /// let document = read_document(alloc, b"[1, 2, 3]")?;
@@ -42,11 +42,11 @@ pub fn select_path<'a>(
     spots_by_parts(alloc, json, path.parts())
 }
 
-/// Spots at what the path with this token list selects in the value, in the path's order, with its
-/// repeats. They borrow the value alone.
+/// The nodes that the path with this token list selects in the value, in the path's order, with duplicates. They
+/// borrow the value alone.
 ///
-/// The list is that of some path, of any depth, and at each of its spans the text has a word or a
-/// quoted text (`tokens_fit` tells); the text need not be a path. Refused with `OutOfMemory` alone.
+/// The list has to be that of some path, of any depth, and the text has to have a word or a quoted name at each of
+/// its spans (`tokens_fit` tests both); the text need not be a path. The only error is `OutOfMemory`.
 ///
 /// ```text
 /// let document = read_document(alloc, br#"{"a": 1}"#)?;
@@ -78,9 +78,9 @@ pub fn select_tokens<'a>(
     }
 }
 
-/// Spots at what the path selects in the value, as a set: the places that `select_path` gives, in any order, where
-/// repeats may be left out. However often a path with many `..` leads to a place, the time is bounded by path times
-/// document times its depth, with `..` in conditions times the square of its depth. Refused with `OutOfMemory` alone.
+/// The nodes that the path selects in the value, as a set: those of `select_path`, in any order, possibly without
+/// duplicates. The time is bounded by path times document times its depth, with `..` in conditions times the square
+/// of its depth, in however many ways several `..` reach a node. The only error is `OutOfMemory`.
 ///
 /// ```text
 /// let document = read_document(alloc, b"[[[1]]]")?;

@@ -11,9 +11,8 @@ use itoa::Buffer;
 use serde_json::Value;
 use std::alloc::{AllocError, Global};
 
-/// The text of a list of values: their compact JSON texts in order, joined by commas, in brackets. Refused with `Serde`
-/// exactly where an unread number, one that is no whole number of 64 bits, stands in one of them, at any depth, and
-/// with `OutOfMemory`.
+/// The JSON text of a list of values: their compact texts in order, joined by commas, in brackets. Errors: `Serde`
+/// exactly if one of them contains, at any depth, a number that is not an integer of 64 bits, or `OutOfMemory`.
 ///
 /// ```text
 /// let document = read_document(alloc, b"[1, \"b\"]")?;

@@ -1,4 +1,4 @@
-//! Updates by a closure that may refuse.
+//! Updates by a closure that may return an error.
 ghost use Rattle.std.specs.Prelude.{◌≡◌, Ok, IfErr, OnOk};
 ghost use Rattle.serde_json.specs.View.{view};
 ghost use Rattle.jsonpath_select.specs.AnyPath.{ArePartsOf};
@@ -13,7 +13,7 @@ use std::alloc::Global;
 use std::error::Error;
 use std::fmt;
 
-/// Why updates by a closure that may refuse ended.
+/// Why updates by a closure that may return an error ended.
 ///
 /// ```text
 /// let refuse = &mut |_old: &Value| Err::<Option<Value>, u8>(7);
@@ -24,13 +24,13 @@ use std::fmt;
 /// ```
 #[derive(Drop)]
 pub enum TryFault<E> {
-    /// The closure was not asked, for this reason. Nothing has changed.
+    /// The error came before the closure was called. Nothing has changed.
     Unasked(JsonPathError),
-    /// The closure's first refusal. What the updates before it left stands.
+    /// The closure's first error. The updates before it remain.
     Refused(E),
 }
 
-/// The text of the reason, or that of the closure's refusal.
+/// The text of the error before the first call, or of the closure's error.
 impl<E: fmt::Display> fmt::Display for TryFault<E> {
     ghost output = { try_fault_text E.output };
 
@@ -52,7 +52,7 @@ impl<E: fmt::Display> fmt::Debug for TryFault<E> {
 
 impl<E: Error> Error for TryFault<E> {}
 
-/// The reason, or the closure's refusal: which of them it was is not kept.
+/// The error before the first call, or the closure's error; which of them it was is lost.
 impl From<TryFault<JsonPathError>> for JsonPathError {
     ghost from_gives = { λ fault error. error ≡ error_behind fault };
 

@@ -9,9 +9,8 @@ use serde::DeserializeOwned;
 use serde_json::{Error, Value};
 use std::alloc::Global;
 
-/// One typed value for each value, in order. Refused with `Serde` where an unread number, one that
-/// is no whole number of 64 bits, stands in one of them, or where `serde_json` makes no `T` of one;
-/// and with `OutOfMemory`.
+/// Deserializes each value to a `T`, in order. Errors: `Serde` if one of them contains a number that is not an
+/// integer of 64 bits, or if `serde_json` can't make a `T` of one; or `OutOfMemory`.
 ///
 /// ```text
 /// let document = read_document(alloc, b"[[1, 2], [3]]")?;

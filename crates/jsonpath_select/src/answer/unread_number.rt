@@ -1,4 +1,5 @@
-//! Unread numbers, of which neither a text nor a typed value is made: whether one stands in a value, and the error.
+//! Numbers that are not integers of 64 bits, which are neither printed nor deserialized: whether a value contains
+//! one, and the error.
 ghost use Rattle.std.specs.Prelude.{◌≡◌, map};
 ghost use Rattle.serde_json.specs.View.{view, items_view, members_view};
 ghost use Rattle.serde_json.specs.Written.{has_float, items_have_float, members_have_float};

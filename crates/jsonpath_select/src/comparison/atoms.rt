@@ -1,4 +1,4 @@
-//! What a comparison sees of the values of marks and of literals.
+//! What a comparison sees of the values of nodes and of literals.
 
 ghost use Rattle.std.specs.Prelude.{◌≡◌, map, IfOk};
 ghost use Rattle.jsonpath_nodes.specs.compare.Comparisons.{seen};

@@ -11,22 +11,20 @@ ghost use Rattle.jsonpath_select.specs.Tried.{IsTried, IsEnded};
 use crate::answer::count_first_exists::{exists_by_parts, first_by_parts};
 use crate::answer::of_spots::locations_of_selected_spots;
 use crate::answer::select::{spots_by_parts, values_by_parts};
-use crate::answer::targets::{
-    put_null_at_targets, remove_targets, replace_at_targets, set_at_targets,
-};
+use crate::answer::targets::targets_of;
 use crate::answer::text::list_to_text;
 use crate::answer::try_replace::{TryFault, try_replace_at_targets};
 use crate::answer::typed::list_to_typed;
 use crate::compile::node::Node;
 use crate::error::JsonPathError;
-use jsonpath_nodes::{Location, Spot};
+use jsonpath_nodes::{Location, Spot, delete_at, replace_at, set_at_once, take_at_once};
 use jsonpath_paths::{ParseToken, ParserNode, PathParser};
 use serde::DeserializeOwned;
 use serde_json::Value;
 use std::alloc::Global;
 use std::rc::Rc;
 
-/// What a compiled path lends: its text, the tree that the text spells, and its token list.
+/// The parts of a compiled path, borrowed: its text, its syntax tree, and its token list.
 ///
 /// ```text
 /// let path = Parser::compile(alloc, "$[0]")?;
@@ -38,14 +36,14 @@ use std::rc::Rc;
 pub struct PathParts<'p> {
     /// The path text, as it was compiled.
     pub text: &'p str,
-    /// The tree that the text spells.
+    /// The syntax tree of the text.
     pub tree: &'p ParserNode,
     /// The token list of the path.
     pub tokens: &'p [ParseToken],
 }
 
-/// A compiled path: one that borrows its text, one that owns it, or a shared one. It answers every document as a path
-/// compiled anew would. Calls over `&mut Value` change the document at what the path selects in it.
+/// A compiled path: one that borrows its text, one that owns it, or a shared one. Calls with a `&Value` select in
+/// it, calls with a `&mut Value` change it at what the path selects.
 ///
 /// ```text
 /// let mut document = read_document(alloc, b"[1, 2, 3]")?;
@@ -58,7 +56,7 @@ pub trait AnyPath {
     // The text of the path.
     ghost spelling: { Self → List ℕ };
 
-    /// Its text, its tree and its token list. It takes no memory.
+    /// Its text, its syntax tree and its token list. It takes no memory.
     ///
     /// ```text
     /// let path = compile_path(alloc, "$.*")?;
@@ -68,8 +66,8 @@ pub trait AnyPath {
     fn parts(&self) -> PathParts<'_>
         ensures { ArePartsOf (spelling self.now) result };
 
-    /// The values that the path selects in the document, in the path's order, with its repeats. They
-    /// borrow the document alone. Refused with `OutOfMemory` alone.
+    /// The values that the path selects in the document, in the path's order, with duplicates. They borrow the
+    /// document alone. The only error is `OutOfMemory`.
     ///
     /// ```text
     /// let document = read_document(alloc, b"[1, 2, 3]")?;
@@ -84,8 +82,8 @@ pub trait AnyPath {
         values_by_parts(alloc, value, self.parts())
     }
 
-    /// Spots at what the path selects in the document, in the path's order, with its repeats. They borrow
-    /// the document alone. Refused with `OutOfMemory` alone.
+    /// The nodes that the path selects in the document, each a value with its location, in the path's order, with
+    /// duplicates. They borrow the document alone. The only error is `OutOfMemory`.
     ///
     /// ```text
     /// let document = read_document(alloc, b"[1, 2, 3]")?;
@@ -105,8 +103,8 @@ pub trait AnyPath {
         spots_by_parts(alloc, value, self.parts())
     }
 
-    /// The locations that the path selects in the document, in the path's order, with its repeats.
-    /// Refused with `OutOfMemory` alone.
+    /// The locations that the path selects in the document, in the path's order, with duplicates. The only error is
+    /// `OutOfMemory`.
     ///
     /// ```text
     /// let document = read_document(alloc, b"[1, 2, 3]")?;
@@ -123,9 +121,9 @@ pub trait AnyPath {
         locations_of_selected_spots(alloc, spots.as_slice())
     }
 
-    /// The text of the selected values: `[`, their compact texts joined by `,`, and `]`. Refused as
-    /// `select`, and with `Serde` exactly where an unread number, one that is no whole number of 64 bits,
-    /// stands in one of them, at any depth.
+    /// The selected values as a JSON text: `[`, their compact texts joined by `,`, and `]`. Errors: those of
+    /// `select`, and `Serde` exactly if one of the values contains, at any depth, a number that is not an integer of
+    /// 64 bits.
     ///
     /// ```text
     /// let document = read_document(alloc, b"[1, 2, 3]")?;
@@ -140,9 +138,8 @@ pub trait AnyPath {
         list_to_text(alloc, found.as_slice())
     }
 
-    /// One typed value for each selected value, in order. Refused as `select`, and with `Serde` where an
-    /// unread number, one that is no whole number of 64 bits, stands in one of them or `serde_json` makes
-    /// no `T` of one.
+    /// Deserializes each selected value to a `T`, in order. Errors: those of `select`, and `Serde` if one of the
+    /// values contains a number that is not an integer of 64 bits, or if `serde_json` can't make a `T` of one.
     ///
     /// ```text
     /// let document = read_document(alloc, b"[1, 2, 3]")?;
@@ -163,8 +160,8 @@ pub trait AnyPath {
         list_to_typed(alloc, found.as_slice())
     }
 
-    /// How many values the path selects in the document, each repeat counted. They are listed for it. Refused with
-    /// `OutOfMemory` alone.
+    /// The number of values that the path selects in the document, duplicates included. It takes the memory of the
+    /// list. The only error is `OutOfMemory`.
     ///
     /// ```text
     /// let document = read_document(alloc, b"[1, 2, 3]")?;
@@ -179,8 +176,8 @@ pub trait AnyPath {
         Ok(found.len())
     }
 
-    /// The first of the values that the path selects, in the path's order, if there is one. It
-    /// borrows the document alone. Refused with `OutOfMemory` alone.
+    /// The first of the values that the path selects, in the path's order, or `None`. It borrows the document alone.
+    /// The only error is `OutOfMemory`.
     ///
     /// ```text
     /// let document = read_document(alloc, b"[1, 2, 3]")?;
@@ -195,7 +192,7 @@ pub trait AnyPath {
         first_by_parts(alloc, value, self.parts())
     }
 
-    /// Whether the path selects a value in the document. Refused with `OutOfMemory` alone.
+    /// Whether the path selects a value in the document. The only error is `OutOfMemory`.
     ///
     /// ```text
     /// let document = read_document(alloc, b"[1, 2, 3]")?;
@@ -209,8 +206,8 @@ pub trait AnyPath {
         exists_by_parts(alloc, value, self.parts())
     }
 
-    /// Puts null at the topmost locations below the root that the path selects. All else stays as it is.
-    /// Refused with `OutOfMemory` alone, and then the value is unchanged.
+    /// Replaces by null each selected value below the root that lies in no other selected one. All else stays as it
+    /// is. The only error is `OutOfMemory`, and then the document is unchanged.
     ///
     /// ```text
     /// let mut document = read_document(alloc, b"[1, [2, 3]]")?;
@@ -223,11 +220,13 @@ pub trait AnyPath {
         ensures refused { IfErr result (λ e. e ≡ JsonPathError.OutOfMemory) }
         ensures kept { OnErr result (value.new ≡ value.old) }
     {
-        put_null_at_targets(alloc, value, self.parts())
+        let targets = targets_of(alloc, value, self.parts())?;
+        delete_at(value, targets.as_slice());
+        Ok(())
     }
 
-    /// Takes away the topmost values below the root that the path selects, all at once. What remains of
-    /// an array keeps its order. Refused with `OutOfMemory` alone, and then the value is unchanged.
+    /// Removes the selected values below the root, all at once: the other items of an array keep their order. The
+    /// only error is `OutOfMemory`, and then the document is unchanged.
     ///
     /// ```text
     /// let mut document = read_document(alloc, b"[1, 2, 3]")?;
@@ -240,11 +239,13 @@ pub trait AnyPath {
         ensures refused { IfErr result (λ e. e ≡ JsonPathError.OutOfMemory) }
         ensures kept { OnErr result (value.new ≡ value.old) }
     {
-        remove_targets(alloc, value, self.parts())
+        let targets = targets_of(alloc, value, self.parts())?;
+        take_at_once(value, targets.as_slice())?;
+        Ok(())
     }
 
-    /// Puts a copy of `new` at the topmost locations below the root that the path selects, all at once. All else stays
-    /// as it is. Refused with `OutOfMemory` alone, and then the value is unchanged.
+    /// Replaces by a copy of `new` each selected value below the root that lies in no other selected one, all at
+    /// once. All else stays as it is. The only error is `OutOfMemory`, and then the document is unchanged.
     ///
     /// ```text
     /// let mut document = read_document(alloc, b"[1, [2, 3]]")?;
@@ -257,13 +258,15 @@ pub trait AnyPath {
         ensures refused { IfErr result (λ e. e ≡ JsonPathError.OutOfMemory) }
         ensures kept { OnErr result (value.new ≡ value.old) }
     {
-        set_at_targets(alloc, value, self.parts(), new)
+        let targets = targets_of(alloc, value, self.parts())?;
+        set_at_once(alloc, value, targets.as_slice(), new)?;
+        Ok(())
     }
 
-    /// Hands the values that the path selects to the closure, in document order, each location once, and
-    /// puts what it answers in their place, or takes away where it answers none. Each update is made on
-    /// what the earlier ones left; a location that is no longer there is passed over, and so is the
-    /// root. Refused with `OutOfMemory` alone; then the value is unchanged and the closure was not asked.
+    /// Calls the closure with each selected value, in document order, each location once: `Some` replaces the value,
+    /// `None` removes it. Each update is made in what the earlier ones left; a location that no longer exists is
+    /// skipped, and so is the root. The only error is `OutOfMemory`; then the document is unchanged and the closure
+    /// was not called.
     ///
     /// ```text
     /// let mut document = read_document(alloc, b"[1, 2, 3]")?;
@@ -284,15 +287,17 @@ pub trait AnyPath {
         ensures unasked { OnErr result (fun.new ≡ fun.old) }
         ensures callable { F.IsAlwaysCallable fun.new }
     {
-        replace_at_targets(alloc, value, self.parts(), fun)
+        let targets = targets_of(alloc, value, self.parts())?;
+        replace_at(value, targets.as_slice(), fun);
+        Ok(())
     }
 
-    /// Shows the values that the path selects to the closure, in document order, each location once, and puts
-    /// what it answers in their place, or takes away where it answers none. Each update is made on what the
-    /// earlier ones left; a location that is no longer there is passed over, and so is the root.
+    /// Calls the closure with a reference to each selected value, in document order, each location once: `Some`
+    /// replaces the value, `None` removes it. Each update is made in what the earlier ones left; a location that no
+    /// longer exists is skipped, and so is the root.
     ///
-    /// The closure's first error ends the updates, as `Refused`; what the updates before it left stands.
-    /// `Unasked` for `OutOfMemory` alone.
+    /// The closure's first error ends the updates, as `Refused`; the updates before it remain. The only other error
+    /// is `Unasked`, with `OutOfMemory`.
     ///
     /// ```text
     /// let mut document = read_document(alloc, b"[1, \"x\", 3]")?;

@@ -1,4 +1,4 @@
-//! `compile_path`, which compiles a path text to a `PathParser` that borrows it; a refusal is a `JsonPathError`.
+//! `compile_path`, which compiles a path text to a `PathParser` that borrows it; its error is a `JsonPathError`.
 ghost use Rattle.std.specs.Prelude.{◌≡◌, IfOk, IfErr};
 ghost use Rattle.jsonpath_paths.specs.Spelling.{IsInGrammar};
 ghost use Rattle.jsonpath_select.specs.JsonPathErrors.{IsPathRefused};
@@ -7,8 +7,8 @@ use crate::error::{JsonPathError, path_error};
 use jsonpath_paths::PathParser;
 use std::alloc::Global;
 
-/// The path that a text spells. Refused with `Path` exactly where the text is outside the grammar,
-/// and with `OutOfMemory` where memory runs out before that is known.
+/// Compiles a path text. Errors: `Path` exactly if the text is outside the grammar, or `OutOfMemory` if memory runs
+/// out before that is known.
 ///
 /// ```text
 /// let path = compile_path(alloc, "$[*]")?;

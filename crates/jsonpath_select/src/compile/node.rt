@@ -8,8 +8,8 @@ use jsonpath_paths::{ParseToken, ParserNode};
 use std::alloc::{AllocError, Global};
 use std::marker::Model;
 
-/// A path text of the grammar, with the one tree that it spells and its token list. It owns all of them. The name is
-/// the Rust crate's; no node of a document is meant.
+/// A compiled path that owns its text, syntax tree and token list. The name is the Rust crate's; it is no node of a
+/// document.
 ///
 /// ```text
 /// let node = Parser::compile(alloc, "$[0]")?;
@@ -71,7 +71,7 @@ impl Node {
     }
 }
 
-/// A copy has the same text, tree and token list. It takes memory, and is refused where there is none.
+/// A copy has the same text, tree and token list. The only error is out of memory.
 impl Clone for Node {
     ghost is_clone = { λ node copy. copy ≡ node };
 

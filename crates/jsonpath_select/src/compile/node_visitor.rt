@@ -1,4 +1,4 @@
-//! Hands the token list of a compiled path over to a visitor, token by token.
+//! Passes the token list of a compiled path to a visitor, token by token.
 ghost use Rattle.std.specs.Prelude.{◌≡◌, ◌++◌, ◌∷◌, [], List, Bool, false, true};
 ghost use Rattle.jsonpath_paths.specs.tree.View.{path_of, inner_of, condition_of, term_of};
 ghost use Rattle.jsonpath_paths.specs.tree.Visit.{root_token, path_tokens, one_step, inner_tokens, condition_tokens, term_tokens};
@@ -7,7 +7,7 @@ use crate::compile::node::Node;
 use jsonpath_paths::laws::one_tree_per_text;
 use jsonpath_paths::{Condition, Inner, ParseToken, ParserNode, ParserStep, Term};
 
-/// A receiver of the tokens of a compiled path.
+/// A receiver of the tokens of a compiled path, one after another.
 ///
 /// ```text
 /// impl NodeVisitor for Tokens {
@@ -32,7 +32,7 @@ use jsonpath_paths::{Condition, Inner, ParseToken, ParserNode, ParserStep, Term}
 /// }
 /// ```
 ///
-/// A path's `Node` is handed to one by `visit`:
+/// `visit` runs it over a path's `Node`:
 ///
 /// ```text
 /// let mut plain = Tokens {
@@ -47,18 +47,18 @@ pub trait NodeVisitor {
     ghost use Rattle.jsonpath_paths.specs.tree.Tree.{Path};
     ghost use Rattle.jsonpath_paths.specs.tree.Visit.{path_tokens};
 
-    /// The tokens that it was given, in their order.
+    /// The tokens that it received, in their order.
     ghost tokens: { Self → List ParseToken };
 
-    /// Whether it has failed, from which on its tokens say nothing.
+    /// Whether it has failed; from then on `tokens` means nothing.
     ghost has_failed: { Self → Bool };
 
-    /// Takes one token more, or fails, as for want of memory.
+    /// Takes one token more, or fails, as when memory runs out.
     fn visit_token(&mut self, token: &ParseToken)
         ensures stays_failed { has_failed self.old ≡ true → has_failed self.new ≡ true }
         ensures given { has_failed self.new ≡ false → tokens self.new ≡ tokens self.old ++ token.now ∷ [] };
 
-    /// Is told that a side of a comparison has ended. It takes no token and does not fail.
+    /// Called when a side of a comparison has ended. It takes no token and does not fail.
     fn end_term(&mut self)
         ensures failed { has_failed self.new ≡ has_failed self.old }
         ensures tokens { tokens self.new ≡ tokens self.old }
@@ -68,7 +68,7 @@ pub trait NodeVisitor {
     fn failed(&self) -> bool
         ensures { result ≡ has_failed self.now };
 
-    /// Is given the token list of the path's tree, in order, unless it fails.
+    /// Receives the token list of the path's syntax tree, in order, unless it fails.
     final fn visit(&mut self, node: &Node)
         ensures stays_failed { has_failed self.old ≡ true → has_failed self.new ≡ true }
         ensures given { has_failed self.new ≡ false → (p : Path) → Spells node.now p → tokens self.new ≡ tokens self.old ++ path_tokens p }

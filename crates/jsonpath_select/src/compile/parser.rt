@@ -1,5 +1,5 @@
-//! `Parser`, which compiles a path text to a `Node` that owns it, and `ParseFault`, its refusal, with the row of `^`
-//! that its message has.
+//! `Parser`, which compiles a path text to a `Node` that owns it, and `ParseFault`, its error, whose message has a
+//! row of `^`.
 ghost use Rattle.std.specs.Prelude.{◌≡◌, ◌<◌, ◌^◌, ◌++◌, List, ℕ, Some, None, codes, decimal, string_bytes, IfOk, IfErr};
 ghost use Rattle.jsonpath_paths.specs.Spelling.{IsInGrammar};
 ghost use Rattle.jsonpath_select.specs.compile.Faults.{caret_text, parse_fault_text, IsEndOfRow, IsFaultOf, IsParseRefused};
@@ -10,7 +10,7 @@ use std::alloc::{AllocError, Global};
 use std::error::Error;
 use std::fmt;
 
-/// Why a text is no `Node`. `Display` and `Debug` print the same text.
+/// The error of `Parser`. `Display` and `Debug` print the same text.
 ///
 /// ```text
 /// let refused = match Parser::compile(alloc, "$[a]") {
@@ -21,17 +21,16 @@ use std::fmt;
 /// ```
 #[derive(Drop)]
 pub enum ParseFault {
-    /// The text is no path. What is printed is the text, a line end and a row of `^` that ends
-    /// below the last byte of what is refused, or below the last byte of the text where that ends
-    /// too early.
+    /// The text is no path. It prints the text, a line end and a row of `^` that ends below the last byte of the
+    /// wrong token, or below the last byte of the text if that ends too early.
     Text(String),
-    /// Memory was asked for and refused: `out of memory`.
+    /// Out of memory. It prints `out of memory`.
     OutOfMemory,
 }
 
 impl ParseFault {
-    /// The byte position at which the row of `^` ends: behind the token or character that is refused, or behind the
-    /// text's last byte where that ends too early. There is none where memory was refused.
+    /// The byte position at which the row of `^` ends: that after the wrong token or character, or after the text's
+    /// last byte if that ends too early. `None` for out of memory.
     ///
     /// ```text
     /// match Parser::compile(alloc, "$.a[b]") {
@@ -80,8 +79,8 @@ impl Error for ParseFault {}
 pub struct Parser;
 
 impl Parser {
-    /// The path that a text spells, with a copy of the text. Refused with `Text` exactly where the text is outside the
-    /// grammar, and with `OutOfMemory` alone where memory runs out.
+    /// Compiles a path text, with a copy of the text. Errors: `Text` exactly if the text is outside the grammar, or
+    /// `OutOfMemory`.
     ///
     /// ```text
     /// let node = Parser::compile(alloc, "$[0]")?;

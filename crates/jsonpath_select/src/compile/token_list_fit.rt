@@ -1,4 +1,4 @@
-//! Whether a list of tokens is that of a path, told by one pass over it with a stack of what is open or complete so
+//! Whether a list of tokens is that of a path, found in one pass over it with a stack of what is open or complete so
 //! far; and whether a text has names at its spans.
 
 ghost use Rattle.std.specs.Prelude.{◌≡◌, ◌↔◌, IsTrue, Some, IfOk, IfErr};
@@ -34,9 +34,8 @@ pub enum Entry {
     Logical,
 }
 
-/// Whether the tokens are the token list of some path, of any depth, and the part of the text at each
-/// of their spans, taken by itself, is a word or a quoted text. The text need not be a path. Refused
-/// with `OutOfMemory` alone.
+/// Whether the tokens are the token list of some path, of any depth, and the part of the text at each of their spans
+/// is, by itself, a word or a quoted name. The text need not be a path. The only error is `OutOfMemory`.
 ///
 /// ```text
 /// let tokens = [ParseToken::Absolute, ParseToken::In, ParseToken::Key(StrRange::new(2, 1))];

@@ -1,6 +1,6 @@
-//! The first place that a path selects. The candidates of its first filter are decided, and led to the path's end, in
-//! slices of 1, 4, 16 and so on, until one of them leads to something. A path without filters takes the places from
-//! which its last step goes in such slices.
+//! The first node that a path selects. The candidates of its first filter are decided, and the rest of the path
+//! applied to them, in slices of 1, 4, 16 and so on, until one slice selects something. A path without filters takes
+//! the nodes before its last step in such slices.
 
 ghost use Rattle.std.specs.Prelude.{◌≡◌, ◌<◌, ◌≤◌, [], ◌∷◌, true, List, IfOk, IfErr, Option};
 ghost use Rattle.serde_json.specs.View.{view};

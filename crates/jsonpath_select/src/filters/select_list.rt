@@ -1,6 +1,6 @@
-//! What a path selects, as a list: its filters one after the other, each decided for all of its candidates at once. How
-//! the places stand to each other that lead to a filter tells, where it can, that no candidate is met twice, so that no
-//! repeats are looked for.
+//! What a path selects, as a list: its filters one after the other, each decided for all of its candidates at once.
+//! If the locations before a filter are known to be apart, no candidate can come twice, and duplicates are not
+//! looked for.
 
 ghost use Rattle.std.specs.Prelude.{◌≡◌, true, List, filter, IfOk, IfErr, IsTrue};
 ghost use Rattle.std.specs.List.{list_all};

@@ -1,5 +1,5 @@
-//! How the machine executes one instruction, for all candidates at once. As in `Instruction`, `leaves` says that `..`
-//! stands before a step or a filter, and `deep` that a filter's own `@` has a step.
+//! How the machine executes one instruction, for all candidates at once. As in `Instruction`, `leaves` means that
+//! `..` comes before a step or a filter, and `deep` that a filter uses a relative query with at least one segment.
 
 ghost use Rattle.std.specs.Prelude.{◌≡◌, true, IfOk, IfErr, OnOk};
 ghost use Rattle.serde_json.specs.Data.{Data};

@@ -1,5 +1,5 @@
-//! How the places of a list stand to each other, step after step: it tells whether a filter behind the steps may meet a
-//! candidate twice.
+//! How the nodes of a list lie to each other, step after step: whether a filter after the steps may find a candidate
+//! twice.
 
 ghost use Rattle.std.specs.Prelude.{◌≡◌, ◌<◌, Bool, List, false, filter, length, true, IfOk, IsTrue};
 ghost use Rattle.serde_json.specs.Data.{Data};

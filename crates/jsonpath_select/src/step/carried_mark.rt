@@ -1,4 +1,4 @@
-//! What the machine and the walks carry of a value from step to step: a reference to it, or a spot.
+//! What the machine and the walks pass from step to step for each node: a reference to the value, or a `Spot`.
 
 ghost use Rattle.std.specs.Prelude.{◌≡◌, [], ◌∷◌, true, IfOk, IfErr};
 ghost use Rattle.serde_json.specs.View.{view};

@@ -1,4 +1,4 @@
-//! The names of steps, and the quoted texts of comparisons, that stand in a path text at spans of it.
+//! The names of steps, and the quoted texts of comparisons, at spans of a path text.
 
 ghost use Rattle.std.specs.Prelude.{◌≡◌, ◌==◌, ◌-◌, length, take, map, string_bytes, IfOk, IfSome, MatchOption};
 ghost use Rattle.std.specs.Cow.{cow_str_bytes};
@@ -80,9 +80,8 @@ fn inside_quotes(text: &str) -> Option<&str>
     }
 }
 
-/// The name or text that the word or quoted text at a span of a path text means, where it stands there as it is;
-/// `None` where a backslash is to be dropped from it, as in `'a\'b'`. A span that cuts a character or passes the end
-/// means the empty name.
+/// The name or text at a span of a path text, borrowed if it is there as it is; `None` if a backslash has to be
+/// dropped from it, as in `'a\'b'`. A span that cuts a character or passes the end means the empty name.
 ///
 /// ```text
 /// let name = borrowed_name_at("$['a']", StrRange::new(2, 3));

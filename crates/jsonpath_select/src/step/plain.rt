@@ -1,4 +1,4 @@
-//! A plain step: what its token selects, and where it leads from marks.
+//! A plain step: what its token selects from nodes.
 
 ghost use Rattle.std.specs.Prelude.{◌≡◌, IfOk, if◌then◌else◌};
 ghost use Rattle.jsonpath_nodes.specs.place.Mark.{MarksLeadBy};

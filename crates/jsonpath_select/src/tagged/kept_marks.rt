@@ -1,4 +1,4 @@
-//! The marks of a list that stand at some indexes of it, kept with their tags.
+//! The node references of a list at some indexes of it, with their tags.
 
 ghost use Rattle.std.specs.Prelude.{◌≡◌, ◌+◌, [], ◌∷◌, ◌++◌, if◌then◌else◌, IfOk, OnOk};
 ghost use Rattle.jsonpath_select.specs.plan.Machine.{kept_by_number};

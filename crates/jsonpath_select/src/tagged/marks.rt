@@ -1,4 +1,4 @@
-//! The marks of all candidates of a filter in one list, each with the number of its candidate.
+//! The node references of all candidates of a filter in one list, each tagged with the number of its candidate.
 
 ghost use Rattle.std.specs.Prelude.{◌≡◌, length};
 

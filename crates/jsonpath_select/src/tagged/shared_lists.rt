@@ -1,4 +1,4 @@
-//! Lists of marks that all candidates share.
+//! Lists of node references that all candidates share.
 
 ghost use Rattle.std.specs.Prelude.{◌≡◌, List, IfOk, map};
 ghost use Rattle.serde_json.specs.Data.{Data};

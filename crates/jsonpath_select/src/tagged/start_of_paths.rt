@@ -1,4 +1,4 @@
-//! The tagged marks with which a path starts: the root, the candidates, or their members of one name.
+//! The tagged node references with which a path starts: the root, the candidates, or their members of one name.
 
 ghost use Rattle.std.specs.Prelude.{List, IfOk, ◌<◌, ◌-◌, true, [], ◌∷◌};
 ghost use Rattle.serde_json.specs.Data.{Data};

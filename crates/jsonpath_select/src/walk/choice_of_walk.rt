@@ -1,5 +1,5 @@
-//! Which walk a path needs, told by its tree alone: which steps can lead to one place more than once, and which
-//! conditions are better decided by sets. Whichever is taken, the answer is the same.
+//! Which walk a path needs, by its syntax tree alone: which steps can reach one location more than once, and which
+//! conditions are better decided by sets. The answer is the same by either.
 
 use crate::step::distinct_selections::{indexes_select_distinct_items, names_are_distinct};
 use jsonpath_nodes::NoMemory;

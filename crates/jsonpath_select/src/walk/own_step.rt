@@ -1,4 +1,5 @@
-//! Whether a condition's own `@` has a step, by which its filter's candidates are found.
+//! Whether a condition uses a relative query with at least one segment, which decides how its filter's candidates
+//! are found.
 
 ghost use Rattle.std.specs.Prelude.{◌≡◌};
 ghost use Rattle.jsonpath_paths.specs.tree.View.{path_of, condition_of, term_of};

@@ -1,5 +1,6 @@
-//! The walk over sets: where a path leads from all candidates of a filter at once, each location once, and at which of
-//! them a condition holds. A filter inside is decided once for each location, and a descent begins at the topmost.
+//! The walk over sets: what a path selects from all candidates of a filter at once, each location once, and at which
+//! of them a condition holds. An inner filter is decided once for each location, and a descent begins at the nodes
+//! with no ancestor in the set.
 
 ghost use Rattle.std.specs.Prelude.{◌≡◌, List, length, map, filter, if◌then◌else◌, true, false, IfOk, IfErr};
 ghost use Rattle.serde_json.specs.Data.{Data};

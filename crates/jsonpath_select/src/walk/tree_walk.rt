@@ -1,5 +1,5 @@
-//! The walk: what a path's tree selects in a document. A filter's candidates are decided one by one, or by sets where
-//! `choice_of_walk` says so.
+//! The walk: what a path's syntax tree selects in a document. A filter's candidates are decided one by one, or by
+//! sets if `choice_of_walk` says so.
 
 ghost use Rattle.std.specs.Prelude.{◌≡◌, [], ◌∷◌, ◌++◌, map, filter, IfOk, OnOk, if◌then◌else◌};
 ghost use Rattle.std.specs.Cow.{cow_str_bytes};

@@ -1,4 +1,4 @@
-//! The programs of docs/GUIDE.md, word for word, under the library's own error.
+//! The programs of docs/LIBRARY.md, word for word, under the library's own error.
 
 use crate::answers::{fails, gives, says_some};
 use crate::outcomes::says;

@@ -1,4 +1,4 @@
-//! A location printed as its text: a path that selects just what stands there.
+//! A location printed as a normalized path, which selects just the node at that location.
 
 ghost use Rattle.std.specs.Prelude.{Some};
 ghost use Rattle.std.specs.Fmt.{DisplaysOnOk};
@@ -51,9 +51,9 @@ impl fmt::Display for LocStep {
     }
 }
 
-/// A location as the path that selects just what stands there: `$['store']['book'][0]`. A backslash
-/// guards each single quote and each backslash of a name. No path has an index of 2^63 or more;
-/// that of such a location is refused where it is compiled.
+/// Prints the location as a normalized path, which selects just the node there: `$['store']['book'][0]`. Single
+/// quotes and backslashes in a name are escaped by a backslash. No path has an index of 2^63 or more: the text of
+/// such a location doesn't compile.
 impl fmt::Display for Location {
     ghost output = { λ location. Some (location_text location) };
 

@@ -1,4 +1,5 @@
-//! The candidates of a filter whose own `@` has a step, at or below a value, as spots, found in one descent.
+//! The candidates of a filter that uses a relative query with at least one segment, at or below a value, as nodes,
+//! found in one descent.
 
 ghost use Rattle.std.specs.Prelude.{◌≡◌, false, Some, OnOk, IfOk};
 ghost use Rattle.serde_json.specs.Data.{array, object};

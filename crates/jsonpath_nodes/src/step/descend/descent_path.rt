@@ -1,4 +1,4 @@
-//! The path of a descent: what leads to where it is. It is shared only where a step may find something.
+//! The location of a descent on its way down. It is shared only if a step may find something.
 
 ghost use Rattle.std.specs.Prelude.{◌≡◌, [], ◌∷◌, ◌++◌, ◌+◌, ◌-◌, ◌<◌, ◌≤◌, take, vec_len, IfOk, OnOk};
 ghost use Rattle.jsonpath_nodes.specs.place.SpotPlace.{location_at, path_location, held_path_location};

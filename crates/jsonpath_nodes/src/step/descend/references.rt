@@ -1,4 +1,4 @@
-//! What a step selects in a value and in all below it, as references.
+//! What a step selects in a value and in all its descendants, as references.
 
 ghost use Rattle.std.specs.Prelude.{[], false, OnOk};
 ghost use Rattle.serde_json.specs.Data.{array, object};

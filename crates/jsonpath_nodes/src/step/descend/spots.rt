@@ -1,4 +1,4 @@
-//! What a step selects in a value and in all below it, and a value with all below it, as spots.
+//! What a step selects in a value and in all its descendants, and a value with all its descendants, as `Spot`s.
 
 ghost use Rattle.std.specs.Prelude.{◌≡◌, [], ◌∷◌, ◌++◌, false, Some, OnOk, IfOk};
 ghost use Rattle.serde_json.specs.Data.{array, object};

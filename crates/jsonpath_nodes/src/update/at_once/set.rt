@@ -15,11 +15,11 @@ use crate::update::single::update_at_steps;
 use serde_json::Value;
 use std::alloc::Global;
 
-/// Puts a copy of `new` at each of the topmost of the locations, all at once: what stood there goes, with all below it.
-/// The root stays as it is, and so does a location that leads nowhere. The locations stand in document order, each
-/// once, as `compute_paths` gives them.
+/// Puts a copy of `new` at each of the locations with no ancestor in the list, all at once, in place of the value
+/// there and all below it. The root and locations that don't exist are left as they are. The list is in document
+/// order, each location once, as `compute_paths` returns it.
 ///
-/// The copies are made before anything changes: `NoMemory` leaves the value as it was.
+/// The copies are made before anything changes: at `NoMemory` the value is unchanged.
 ///
 /// ```text
 /// let mut document = Value::from_str(alloc, "[1, [2, 3]]")?;

@@ -1,4 +1,4 @@
-//! Taking away what stands at all of a list of locations at once, in one pass over each array.
+//! Removing the values at a list of locations all at once, in one pass over each array.
 
 ghost use Rattle.std.specs.Prelude.{◌≡◌, ◌+◌, ◌-◌, ◌++◌, ◌<◌, ◌≤◌, None, IfSome, IsOk, vec_len, slice_range, take, drop, length, option_map};
 ghost use Rattle.std.specs.List.Sorted.{IsStrictlySortedBy};
@@ -12,11 +12,11 @@ use crate::memory::NoMemory;
 use crate::place::location::{LocStep, Location};
 use serde_json::{Map, Value};
 
-/// Takes away what stands at the topmost of the locations below the root, all at once: what remains of an array keeps
-/// its order. The root among them is passed over, and so is a location that leads nowhere. The locations stand in
-/// document order, each once, as `compute_paths` gives them.
+/// Removes the values at the locations below the root, all at once: the other items of an array keep their order.
+/// The root and locations that don't exist are skipped. The list is in document order, each location once, as
+/// `compute_paths` returns it.
 ///
-/// The values are taken in place and no memory is asked for, so `NoMemory` never comes.
+/// The values are removed in place without taking memory, so the error `NoMemory` never comes.
 ///
 /// ```text
 /// let mut document = Value::from_str(alloc, "[1, [2, 3]]")?;

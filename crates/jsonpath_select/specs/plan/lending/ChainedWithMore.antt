@@ -32,7 +32,7 @@ use Rattle.std.specs.declared.result.Result.TheVariants.{Ok, Err}
 use Rattle.std.proofs.alloc.Global.TheLaws as global_laws
 use Rattle.jsonpath_select.specs.plan.lending.Lending.{alone}
 use Rattle.jsonpath_select.specs.plan.lending.Chained.{chains, in_place, stayed, G, chained}
-use Rattle.jsonpath_select.specs.plan.lending.ChainedCalls.{Alloc, Said, asked, heard_long}
+use Rattle.jsonpath_select.specs.plan.lending.ChainedCalls.{Alloc, Said}
 use Rattle.jsonpath_select.specs.plan.lending.LentForCall.{Answered, lent_at, left_at}
 
 -- of a parameter that is handed on, what is said of what it leaves is had
@@ -48,26 +48,33 @@ pub record HandsOn {M : Type 1} (𝓤 : Ura M) (m : ℕ) (P : Lfts m → RattleT
   pub hears : (λs : Lfts m) (x : (P λs).Denot) (A B : SProp 𝓤) → (Known λs x → ent 𝓤 A B) → ent 𝓤 (sep 𝓤 A (asks λs x)) B
   pub tells : (λs : Lfts m) (x : (P λs).Denot) → Known λs x → ent 𝓤 (emp 𝓤) (asks λs x)
 
--- a value of this type, of which nothing is asked
-abbrev pub as_typed : {M : Type 1} (𝓤 : Ura M) (m : ℕ) (P : Lfts m → RattleType) (β : Ty) → ((λs : Lfts m) (x : (P λs).Denot) (vs : List Val) → Is (P λs) x vs → Typed (β ∷ []) vs) → HandsOn 𝓤 m P
-as_typed 𝓤 m P β typed = record {
-  Shown = λ p. T (has_ty β p) × WT p;
-  one = λ λs x vs is. alone β vs (typed λs x vs is);
-  Known = λ λs x. Unit {0};
-  asks = λ λs x. emp 𝓤;
-  hears = λ λs x A B holds. via 𝓤 A (fst∗ 𝓤 A (emp 𝓤)) (holds tt);
-  tells = λ λs x known. id⊢ 𝓤 (emp 𝓤);
-}
+-- these facts alone
+abbrev pub facts : {M : Type 1} (𝓤 : Ura M) → List (Type 0) → SProp 𝓤
+facts 𝓤 [] = emp 𝓤
+facts 𝓤 (Long ∷ more) = sep 𝓤 (fact 𝓤 Long) (facts 𝓤 more)
 
--- a parameter that is handed on as it came, beside a fact of the lifetimes
-abbrev pub as_typed_long : {M : Type 1} {𝓤 : Ura M} (𝓛 : Logic 𝓤) (m : ℕ) (P : Lfts m → RattleType) (β : Ty) → ((λs : Lfts m) (x : (P λs).Denot) (vs : List Val) → Is (P λs) x vs → Typed (β ∷ []) vs) → (Lfts m → Type 0) → HandsOn 𝓤 m P
-as_typed_long {𝓤 = 𝓤} 𝓛 m P β typed Long = record {
+abbrev pub AreAll : List (Type 0) → Type 0
+AreAll [] = Unit {0}
+AreAll (Long ∷ more) = Long × AreAll more
+
+module _ {M : Type 1} {𝓤 : Ura M} (𝓛 : Logic 𝓤) where
+  pub hear : (Longs : List (Type 0)) (A B : SProp 𝓤) → (AreAll Longs → ent 𝓤 A B) → ent 𝓤 (sep 𝓤 A (facts 𝓤 Longs)) B
+  hear [] A B holds = via 𝓤 A (fst∗ 𝓤 A (emp 𝓤)) (holds tt)
+  hear (Long ∷ more) A B holds = qed 𝓛 (raw A ∷ (raw (fact 𝓤 Long) ⊛ raw (facts 𝓤 more)) ∷ []) ∵ move ! (1 ∷ []) $ split ! $ heard ! _ (λ long. move ! (1 ∷ 0 ∷ []) $ join ! $ by ! (hear more A B (λ rest. holds (long, rest))))
+
+  pub tell : (Longs : List (Type 0)) → AreAll Longs → ent 𝓤 (emp 𝓤) (facts 𝓤 Longs)
+  tell [] known = id⊢ 𝓤 (emp 𝓤)
+  tell (Long ∷ more) known = qed 𝓛 [] ∵ use0 𝓛 (raw (facts 𝓤 more)) (tell more known.1) $ use0 𝓛 (raw (fact 𝓤 Long)) (fact_i 𝓤 Long (emp 𝓤) known.0) $ join ! $ done !
+
+-- a value of this type, beside facts of the lifetimes
+abbrev pub as_typed : {M : Type 1} {𝓤 : Ura M} (𝓛 : Logic 𝓤) (m : ℕ) (P : Lfts m → RattleType) (β : Ty) → ((λs : Lfts m) (x : (P λs).Denot) (vs : List Val) → Is (P λs) x vs → Typed (β ∷ []) vs) → (Lfts m → List (Type 0)) → HandsOn 𝓤 m P
+as_typed {𝓤 = 𝓤} 𝓛 m P β typed Longs = record {
   Shown = λ p. T (has_ty β p) × WT p;
   one = λ λs x vs is. alone β vs (typed λs x vs is);
-  Known = λ λs x. Long λs;
-  asks = λ λs x. sep 𝓤 (fact 𝓤 (Long λs)) (emp 𝓤);
-  hears = λ λs x. heard_long 𝓛 (Long λs);
-  tells = λ λs x. asked 𝓛 (Long λs);
+  Known = λ λs x. AreAll (Longs λs);
+  asks = λ λs x. facts 𝓤 (Longs λs);
+  hears = λ λs x. hear 𝓛 (Longs λs);
+  tells = λ λs x. tell 𝓛 (Longs λs);
 }
 
 -- a reference to a value of which this is asked, beside two facts of the lifetimes

@@ -7,5 +7,6 @@ invariant-loop g l = record {
   ready : IsReady l.feed;
   given : g.R.Input.given l.reader ≡ g.R.Input.given l.fn.reader ++ left l.feed;
   whole : l.feed.is_whole ≡ true → g.R.Input.has_ended l.reader ≡ true;
+  read : g.R.Input.has_failed l.reader ≡ g.R.Input.has_failed l.fn.reader;
   written : g.V.Visitor.written l.visitor ≡ g.V.Visitor.written l.fn.visitor;
 }

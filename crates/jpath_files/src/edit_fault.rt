@@ -1,0 +1,56 @@
+//! Why a file is not edited in place.
+
+use std::fmt::{self, Display, Formatter};
+use std::io;
+
+/// Why a file is not edited in place.
+#[derive(Debug, Drop)]
+pub enum EditFault {
+    /// It is a folder, a pipe, a device or the like.
+    NotRegular,
+    /// It has so many names, and an edit under one of them would part it from the others.
+    HardLinks(u64),
+    /// Another program holds a lock on it.
+    Locked,
+    /// It can't be locked.
+    NoLock(io::Error),
+    /// It was changed after it was read.
+    Changed,
+    /// A new file in its place can't have its owner, group and mode.
+    OwnerLost,
+    /// A part of the edited text is in the file, and its old text can't be put back.
+    Torn(io::Error),
+    /// A call of the system failed.
+    Failed(io::Error),
+}
+
+impl From<io::Error> for EditFault {
+    fn from(error: io::Error) -> EditFault {
+        EditFault::Failed(error)
+    }
+}
+
+impl Display for EditFault {
+    fn fmt<W: fmt::Write>(&self, f: &mut Formatter<W>) -> fmt::Result {
+        match self {
+            EditFault::NotRegular => f.write_str("only a regular file is edited in place"),
+            EditFault::HardLinks(links) => write!(
+                f,
+                "the file has {links} names (hard links), which an edit would part: --copy writes into it"
+            ),
+            EditFault::Locked => f.write_str("another program holds a lock on the file"),
+            EditFault::NoLock(error) => write!(f, "the file can't be locked: {error}"),
+            EditFault::Changed => {
+                f.write_str("the file was changed while it was edited, so it is left as it is")
+            }
+            EditFault::OwnerLost => f.write_str(
+                "a new file can't have the owner, group and mode of this one: --copy writes into it",
+            ),
+            EditFault::Torn(error) => write!(
+                f,
+                "{error}; a part of the edited text is in the file, and the old text can't be put back"
+            ),
+            EditFault::Failed(error) => write!(f, "{error}"),
+        }
+    }
+}

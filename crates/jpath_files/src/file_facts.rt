@@ -1,0 +1,60 @@
+//! What the system knows of a file, as far as an edit in place goes by it.
+
+ghost use Rattle.std.specs.Prelude.{◌≡◌, true};
+
+use std::fs::Metadata;
+use std::os::unix::fs::MetadataExt;
+
+// The bits of a mode that say who may do what.
+const RIGHTS: u32 = 0o7777;
+
+/// What the system knows of a file.
+#[derive(Clone, Copy, Debug, Drop, PartialEq, Eq)]
+pub struct FileFacts {
+    pub is_regular: bool,
+    /// How many names it has.
+    pub links: u64,
+    pub device: u64,
+    pub inode: u64,
+    pub size: u64,
+    /// When its bytes changed last: seconds since 1970, and nanoseconds.
+    pub modified: (i64, i64),
+    /// When its bytes or anything of these facts changed last.
+    pub changed: (i64, i64),
+    /// Who may read, write and run it.
+    pub rights: u32,
+    pub owner: u32,
+    pub group: u32,
+}
+
+impl FileFacts {
+    /// The facts of a file by what the system knows of it.
+    pub fn of_metadata(found: &Metadata) -> FileFacts {
+        FileFacts {
+            is_regular: found.is_file(),
+            links: found.nlink(),
+            device: found.dev(),
+            inode: found.ino(),
+            size: found.size(),
+            modified: (found.mtime(), found.mtime_nsec()),
+            changed: (found.ctime(), found.ctime_nsec()),
+            rights: found.mode() & RIGHTS,
+            owner: found.uid(),
+            group: found.gid(),
+        }
+    }
+
+    /// Whether a file belongs to the same owner and group as another.
+    pub fn has_same_owner(&self, other: &FileFacts) -> bool
+        ensures yes { result ≡ true → (self.now.owner ≡ other.now.owner) × (self.now.group ≡ other.now.group) }
+    {
+        self.owner == other.owner && self.group == other.group
+    }
+
+    /// Whether these are of the same file, whatever was done to it between.
+    pub fn is_same_file(&self, other: &FileFacts) -> bool
+        ensures yes { result ≡ true → (self.now.device ≡ other.now.device) × (self.now.inode ≡ other.now.inode) }
+    {
+        self.device == other.device && self.inode == other.inode
+    }
+}

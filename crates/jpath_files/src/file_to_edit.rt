@@ -1,0 +1,123 @@
+//! A file that is open to be edited in place.
+
+ghost use Rattle.std.specs.Prelude.{◌≡◌, ◌≤◌, true, OnOk, IfOk};
+
+use crate::edit_fault::EditFault;
+use crate::file_facts::FileFacts;
+use std::fs::{self, File, TryLockError};
+use std::path::PathBuf;
+use std::time::Duration;
+use std::{io, thread};
+
+// How often a file is tried that is locked, or that another has just taken the place of, and what is waited between.
+const TRIES: u32 = 500;
+
+const WAIT_MILLISECONDS: u64 = 20;
+
+/// How the edited text comes into a file.
+#[derive(Clone, Copy, Debug, Drop, PartialEq, Eq)]
+pub enum Way {
+    /// A new file takes its place.
+    NewFile,
+    /// It is written into the file.
+    IntoFile,
+}
+
+/// A regular file that is open to be edited. While it is open it is locked for other edits.
+#[derive(Drop)]
+pub struct FileToEdit {
+    pub file: File,
+    /// Where it is, by no symbolic link.
+    pub path: PathBuf,
+    /// What it was when it was opened.
+    pub found: FileFacts,
+    pub way: Way,
+}
+
+/// Opens a file to be edited in this way, and locks it; a symbolic link leads to its file. Where another edit has it,
+/// waits until that is done, some ten seconds at most. An error if it is no regular file, if it has several names and a
+/// new file is to take its place, if it stays locked, and if it can't be opened or locked.
+pub fn open_to_edit(rt: &HostRuntime, name: &str, way: Way) -> Result<FileToEdit, EditFault>
+    ensures regular { IfOk result (λ edited. edited.found.is_regular ≡ true) }
+    ensures one_name { IfOk result (λ edited. way ≡ Way.NewFile → edited.found.links ≤ 1) }
+    ensures way { IfOk result (λ edited. edited.way ≡ way) }
+{
+    for _ in 0..TRIES {
+        let path = fs::canonicalize(rt, name)?;
+        refuse_unfit(&facts_at(rt, &path)?, way)?;
+        if let Some(file) = open_and_lock(rt, &path, way)? {
+            let found = FileFacts::of_metadata(&file.metadata()?);
+            if found == facts_at(rt, &path)? {
+                refuse_unfit(&found, way)?;
+                return Ok(FileToEdit {
+                    file,
+                    path,
+                    found,
+                    way,
+                });
+            }
+        }
+        thread::sleep(rt, Duration::from_millis(WAIT_MILLISECONDS));
+    }
+    Err(EditFault::Locked)
+}
+
+/// What the system knows of the file at this path.
+pub(crate) fn facts_at(rt: &HostRuntime, path: &PathBuf) -> io::Result<FileFacts> {
+    Ok(FileFacts::of_metadata(&fs::metadata(rt, path)?))
+}
+
+// Refuses a file that isn't regular, and one with several names of which a new file would take one.
+fn refuse_unfit(found: &FileFacts, way: Way) -> Result<(), EditFault>
+    ensures regular { OnOk result (found.now.is_regular ≡ true) }
+    ensures one_name { OnOk result (way ≡ Way.NewFile → found.now.links ≤ 1) }
+{
+    if !found.is_regular {
+        return Err(EditFault::NotRegular);
+    }
+    match way {
+        Way::NewFile => {
+            if found.links > 1 {
+                return Err(EditFault::HardLinks(found.links));
+            }
+            Ok(())
+        }
+        Way::IntoFile => Ok(()),
+    }
+}
+
+// What became of an attempt to lock a file.
+#[derive(Drop)]
+enum Attempt {
+    Locked(File),
+    // Another holds the lock.
+    Busy,
+    Refused(io::Error),
+}
+
+// The file, open and locked; `None` where another holds its lock. Some file systems lock only what is open to be
+// written.
+fn open_and_lock(rt: &HostRuntime, path: &PathBuf, way: Way) -> Result<Option<File>, EditFault> {
+    match try_lock_for(rt, path, way)? {
+        Attempt::Locked(file) => Ok(Some(file)),
+        Attempt::Busy => Ok(None),
+        Attempt::Refused(_) => match try_lock_for(rt, path, Way::IntoFile)? {
+            Attempt::Locked(file) => Ok(Some(file)),
+            Attempt::Busy => Ok(None),
+            Attempt::Refused(error) => Err(EditFault::NoLock(error)),
+        },
+    }
+}
+
+// Opens a file to be read, and to be written where that is the way, and tries to lock it.
+fn try_lock_for(rt: &HostRuntime, path: &PathBuf, way: Way) -> io::Result<Attempt> {
+    let file = File::options()
+        .read(true)
+        .write(way == Way::IntoFile)
+        .open(rt, path)?;
+    match file.try_lock() {
+        Ok(()) => Ok(Attempt::Locked(file)),
+        Err(TryLockError::WouldBlock) => Ok(Attempt::Busy),
+        Err(TryLockError::Error(error)) => Ok(Attempt::Refused(error)),
+    }
+}

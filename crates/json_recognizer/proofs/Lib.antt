@@ -1,0 +1,10 @@
+pub mod Rest
+pub mod SoundBehind
+pub mod SoundNumbers
+pub mod SoundTexts
+pub mod Sound
+pub mod Complete
+pub mod Live
+pub mod Beginnings
+pub mod Frames
+pub mod Streams

@@ -1,0 +1,14 @@
+//! Lemmas about the machine.
+ghost use Rattle.std.specs.Prelude.{◌≡◌, List, [], ℕ, map, true};
+ghost use Rattle.json_recognizer.specs.Classes.{class_of};
+ghost use Rattle.json_recognizer.specs.declared.class.Class.{Class};
+ghost use Rattle.json_recognizer.specs.declared.machine.Mode.TheVariants.{Value};
+ghost use Rattle.json_recognizer.specs.Machine.{accepts, after_all, refused};
+ghost use Rattle.json_recognizer.specs.Grammar.{Begins, IsWritten, max_depth};
+
+/// The machine accepts the documents, and no other text.
+pub fn accepts_documents()
+    ensures accepted { (text : List Class) → accepts Value [] max_depth text ≡ true → IsWritten text }
+    ensures written { (text : List Class) → IsWritten text → accepts Value [] max_depth text ≡ true }
+    ensures refused { (front : List ℕ) → after_all Value [] max_depth (map class_of front) ≡ refused → Begins front → ⊥ }
+{}

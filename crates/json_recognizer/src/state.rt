@@ -1,0 +1,95 @@
+//! The state, and the step.
+ghost use Rattle.std.specs.Prelude.{◌≡◌, ◌≤◌, ◌-◌, [], true, false};
+ghost use Rattle.json_recognizer.specs.Machine.{step, refused, top_of, goes, first_in};
+ghost use Rattle.json_recognizer.specs.Grammar.{max_depth};
+ghost use Rattle.json_recognizer.specs.State.{frames, next_of, Reaches};
+ghost use Rattle.json_recognizer.specs.Stream.{is_over};
+ghost use Rattle.json_recognizer.specs.declared.machine.Mode.TheVariants.{Value};
+
+use crate::class::Class;
+use crate::machine::{Mode, Move, Top};
+use crate::moves::move_of;
+
+/// Where a text leaves off, and what is open.
+#[derive(Drop)]
+pub struct State {
+    pub mode: Mode,
+    pub depth: usize,
+    /// From the outermost; true: an object.
+    pub kinds: [bool; 127],
+}
+
+/// The state before a text.
+#[inline(always)]
+pub fn start() -> State
+    ensures is { next_of result ≡ goes Value [] max_depth }
+    ensures depth { result.depth ≤ max_depth }
+    ensures goes_on { is_over result ≡ false }
+    ensures reaches { Reaches [] result }
+{
+    State {
+        mode: Mode::Value,
+        depth: 0,
+        kinds: [false; 127],
+    }
+}
+
+#[inline(always)]
+pub(crate) fn top(state: &State) -> Top
+    requires { state.now.depth ≤ max_depth }
+    ensures { result ≡ top_of (frames state.now.depth state.now.kinds) }
+{
+    if state.depth == 0 {
+        Top::Outside
+    } else if state.kinds[state.depth - 1] {
+        Top::InObject
+    } else {
+        Top::InArray
+    }
+}
+
+// What is wanted behind a bracket that opens.
+#[inline(always)]
+fn first_in(is_object: bool) -> Mode
+    ensures { result ≡ first_in is_object }
+{
+    if is_object {
+        Mode::FirstName
+    } else {
+        Mode::First
+    }
+}
+
+/// Takes one byte more. False: no text goes on so to a document, and the state is what it was.
+#[inline(always)]
+pub fn take(state: &mut State, class: Class) -> bool
+    requires { state.old.depth ≤ max_depth }
+    ensures goes { result ≡ true → step state.old.mode (frames state.old.depth state.old.kinds) (max_depth - state.old.depth) class ≡ next_of state.new }
+    ensures refused { result ≡ false → step state.old.mode (frames state.old.depth state.old.kinds) (max_depth - state.old.depth) class ≡ refused }
+    ensures depth { state.new.depth ≤ max_depth }
+{
+    match move_of(state.mode, top(state), class) {
+        Move::To(mode) => {
+            state.mode = mode;
+            true
+        }
+        Move::Opens(is_object) => {
+            if state.depth == 127 {
+                return false;
+            }
+            state.kinds[state.depth] = is_object;
+            state.depth += 1;
+            state.mode = first_in(is_object);
+            true
+        }
+        Move::Shuts => {
+            if state.depth == 0 {
+                return false;
+            }
+            state.depth -= 1;
+            state.mode = Mode::Behind;
+            true
+        }
+        Move::Wrong => false,
+    }
+}

@@ -1,0 +1,167 @@
+//! The words of an error.
+ghost use Rattle.std.specs.Prelude.{◌≡◌, ◌≢◌, ◌≤◌, true};
+ghost use Rattle.json_recognizer.specs.Grammar.{max_depth};
+ghost use Rattle.json_recognizer.specs.State.{frames};
+ghost use Rattle.json_recognizer.specs.Wanted.{names};
+ghost use Rattle.json_recognizer.specs.Machine.{move, top_of, move_behind, move_number, move_text};
+ghost use Rattle.json_recognizer.specs.declared.class.Class.{Class};
+ghost use Rattle.json_recognizer.specs.declared.machine.Move.TheVariants.{Wrong};
+
+use crate::class::{Class, class_of};
+use crate::machine::{Mode, NumberPart, TextPart, Top};
+use crate::state::{State, top};
+use std::fmt::{self, Display, Formatter};
+
+/// What was wanted in the place of a byte, or what is wrong with it.
+#[derive(Clone, Copy, Debug, Drop, PartialEq, Eq)]
+pub enum Wanted {
+    Value,
+    ValueOrBracket,
+    Name,
+    NameOrBrace,
+    Colon,
+    CommaOrBracket,
+    CommaOrBrace,
+    /// The document is over: blanks alone may follow.
+    End,
+    Digit,
+    DigitOrSign,
+    /// The rest of `true`, `false` or `null`; so `nan` is wrong at its second letter, and `NaN` at its first.
+    Word,
+    HexDigit,
+    Escape,
+    /// Half of a surrogate pair, without the other.
+    LoneSurrogate,
+    /// A control character, which a text has only escaped.
+    Control,
+    NotUtf8,
+    /// More than 127 arrays and objects in one another.
+    TooDeep,
+    /// A comma is before the bracket or brace.
+    CommaBefore,
+    Comment,
+    /// `NaN` or `Infinity`.
+    NotANumber,
+}
+
+/// The sentence of an error.
+impl Display for Wanted {
+    fn fmt<W: fmt::Write>(&self, f: &mut Formatter<W>) -> fmt::Result {
+        f.write_str(match self {
+            Wanted::Value => "a value is wanted",
+            Wanted::ValueOrBracket => "a value or ] is wanted",
+            Wanted::Name => "a name in quotes is wanted",
+            Wanted::NameOrBrace => "a name in quotes or } is wanted",
+            Wanted::Colon => "a colon is wanted",
+            Wanted::CommaOrBracket => "a comma or ] is wanted",
+            Wanted::CommaOrBrace => "a comma or } is wanted",
+            Wanted::End => "a blank is wanted behind the document",
+            Wanted::Digit => "a digit is wanted",
+            Wanted::DigitOrSign => "a digit or a sign is wanted",
+            Wanted::Word => "the rest of true, false or null is wanted",
+            Wanted::HexDigit => "a hexadecimal digit is wanted",
+            Wanted::Escape => "a text has no such escape",
+            Wanted::LoneSurrogate => "half of a surrogate pair stands alone",
+            Wanted::Control => "a text has this control character by an escape alone",
+            Wanted::NotUtf8 => "the text is no UTF-8",
+            Wanted::TooDeep => "it nests deeper than 127 levels",
+            Wanted::CommaBefore => "a comma stands before the bracket",
+            Wanted::Comment => "JSON has no comments",
+            Wanted::NotANumber => "JSON has no NaN and no Infinity",
+        })
+    }
+}
+
+fn behind(top: Top, class: Class) -> Wanted
+    ensures { (c : Class) → names result c ≡ true → move_behind top c ≢ Wrong }
+{
+    match (top, class) {
+        (_, Class::Slash) => Wanted::Comment,
+        (Top::Outside, _) => Wanted::End,
+        (Top::InArray, _) => Wanted::CommaOrBracket,
+        (Top::InObject, _) => Wanted::CommaOrBrace,
+    }
+}
+
+fn in_number(part: NumberPart, top: Top, class: Class) -> Wanted
+    ensures { (c : Class) → names result c ≡ true → move_number part top c ≢ Wrong }
+{
+    match part {
+        NumberPart::AfterMinus | NumberPart::AfterDot | NumberPart::AfterSign => Wanted::Digit,
+        NumberPart::AfterE => Wanted::DigitOrSign,
+        _ => behind(top, class),
+    }
+}
+
+fn in_text(part: TextPart, is_name: bool, class: Class) -> Wanted
+    ensures { (c : Class) → names result c ≡ true → move_text part is_name c ≢ Wrong }
+{
+    match (part, class) {
+        (TextPart::InChars, Class::White | Class::Control) => Wanted::Control,
+        (TextPart::AfterBackslash, _) => Wanted::Escape,
+        (
+            TextPart::UnitD,
+            Class::AnyC
+            | Class::AnyD
+            | Class::SmallE
+            | Class::LargeE
+            | Class::SmallF
+            | Class::LargeF,
+        ) => { Wanted::LoneSurrogate }
+        (TextPart::HighEnd | TextPart::HighU | TextPart::LowD | TextPart::LowC, _) =>
+            Wanted::LoneSurrogate,
+        (
+            TextPart::Unit4
+            | TextPart::UnitD
+            | TextPart::Unit3
+            | TextPart::Unit2
+            | TextPart::Unit1
+            | TextPart::High2
+            | TextPart::High1,
+            _,
+        ) => Wanted::HexDigit,
+        (_, _) => Wanted::NotUtf8,
+    }
+}
+
+/// The words for a wrong byte. Each byte that they name would have been right.
+pub fn what_was_wanted(mode: Mode, top: Top, class: Class) -> Wanted
+    ensures { (c : Class) → names result c ≡ true → move mode top c ≢ Wrong }
+{
+    match (mode, class) {
+        (Mode::Value | Mode::First | Mode::Name | Mode::FirstName, Class::Slash) => Wanted::Comment,
+        (Mode::Value | Mode::First, Class::OpenBracket | Class::OpenBrace) => Wanted::TooDeep,
+        (Mode::Value, Class::CloseBracket) => match top {
+            Top::InArray => Wanted::CommaBefore,
+            _ => Wanted::Value,
+        },
+        (Mode::Name, Class::CloseBrace) => Wanted::CommaBefore,
+        (Mode::Value, _) => Wanted::Value,
+        (Mode::First, _) => match top {
+            Top::InArray => Wanted::ValueOrBracket,
+            _ => Wanted::Value,
+        },
+        (Mode::Name, _) => Wanted::Name,
+        (Mode::FirstName, _) => match top {
+            Top::InObject => Wanted::NameOrBrace,
+            _ => Wanted::Name,
+        },
+        (Mode::AfterName, _) => Wanted::Colon,
+        (Mode::Behind, _) => behind(top, class),
+        (Mode::InNumber(part), _) => in_number(part, top, class),
+        (Mode::InWord(_), _) => Wanted::Word,
+        (Mode::InText(part, is_name), _) => in_text(part, is_name, class),
+    }
+}
+
+/// The words for a wrong byte behind what led to this state. Each byte that they name would have been right, but
+/// for too many arrays and objects in one another.
+pub fn wanted_at(state: &State, byte: u8) -> Wanted
+    requires { state.now.depth ≤ max_depth }
+    ensures { (c : Class) → names result c ≡ true → move state.now.mode (top_of (frames state.now.depth state.now.kinds)) c ≢ Wrong }
+{
+    match (state.mode, byte) {
+        (Mode::Value | Mode::First, b'N' | b'I') => Wanted::NotANumber,
+        _ => what_was_wanted(state.mode, top(state), class_of(byte)),
+    }
+}

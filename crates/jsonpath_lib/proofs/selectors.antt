@@ -1,2 +1,0 @@
--- Held documents, and the calls that give them back.
-pub mod HeldCallLemmas

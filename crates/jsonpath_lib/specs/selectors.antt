@@ -1,2 +1,0 @@
--- What update types end as.
-pub mod HeldDocumentLends

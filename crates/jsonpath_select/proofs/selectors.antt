@@ -1,0 +1,2 @@
+-- Held pairs, and the calls that give them back.
+pub mod PairCallLemmas

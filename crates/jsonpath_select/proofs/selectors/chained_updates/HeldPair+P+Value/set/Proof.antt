@@ -1,0 +1,47 @@
+-- `set` gives itself back where `set_in_place` answers `Ok`. Assumes `Logic`.
+use mathlib.Core.Path.{refl}
+use mathlib.Core.List.{[], ◌∷◌}
+use mir.Syntax.{Dict, Fn, named}
+use mir.MapTy.{inst_fn}
+use contract.BorrowLft.{◌⊑◌}
+use contract.Lifetimes.{Lfts}
+use contract.Running.{tables, tables_of}
+use prog.Wp.{Tables}
+use denote.Memory.{lone}
+use denote.Param.{param}
+use denote.RattleType.{RattleType}
+use denote.Triple.Spec.{triple_of}
+use denote.Triple.Table.{entered, framed}
+use denote.Ref.{ShrRef, shr_Lawful}
+use Rattle.serde_json.specs.contracts.value.Value as value
+use Rattle.jsonpath_select.specs.contracts.selectors.chained_updates.HeldPair+P+Value.set as F
+use Rattle.jsonpath_select.specs.contracts.selectors.chained_updates.HeldPair+P+Value.set.Key.{name as #self}
+use Rattle.jsonpath_select.specs.contracts.selectors.updates_in_place.HeldPair+P+Value.set_in_place as g
+use Rattle.jsonpath_select.specs.contracts.selectors.updates_in_place.HeldPair+P+Value.set_in_place.Key.{name as #in_place}
+use Rattle.jsonpath_select.specs.selectors.PairLends.{updated_row}
+use Rattle.jsonpath_select.specs.plan.lending.ChainedCalls.{Alloc, passed_on, refused_on, still_outlives}
+use Rattle.jsonpath_select.specs.plan.lending.ChainedCode.{runs_two}
+use Rattle.jsonpath_select.specs.plan.lending.ChainedWithMore.{as_typed, with_one_more}
+use Rattle.jsonpath_select.proofs.selectors.PairCallLemmas.{E, typed, args}
+use Rattle.jsonpath_select.proofs.selectors.updates_in_place.HeldPair+P+Value.set_in_place.Met.{met}
+use Rattle.jsonpath_select.proofs.selectors.chained_updates.HeldPair+P+Value.set.Statement as stated
+use Rattle.jsonpath_select.proofs.selectors.chained_updates.HeldPair+P+Value.set.Code as code
+
+abbrev function : RattleType → Dict → Fn
+function P p = inst_fn (args P p) code.function
+
+abbrev New : Lfts 2 → RattleType
+New κs = ShrRef (named 1) κs.0 value.the_row
+
+pub set_spec : {M : Type 1} → stated.statement M
+unfolding tables_of
+set_spec 𝓤 𝓛 𝓜 𝓡 wired P laws any p met_any =
+    let 𝓣 : Tables 𝓤 𝓛.H = tables_of 𝓤 𝓛.H 𝓜 (tables 𝓤 𝓛.H 𝓜 𝓡 𝓡.env) in
+    let fm = framed 𝓤 𝓛.H 𝓜 (tables 𝓤 𝓛.H 𝓜 𝓡 𝓡.env) in
+    let S : RattleType = updated_row (param 0 P) any in
+    let key = #in_place (args P p) in
+    entered 𝓤 𝓛.H (triple_of 𝓛 (F.signature P any p) (F.spec P any p 𝓛 𝓜.mem 𝓡.returns)) 𝓣.C 𝓣.Λ (#self (args P p)) (function P p) (code.unfolded 𝓤 𝓛.H 𝓜 𝓡 wired (P, tt) p)
+    (with_one_more 2 (F.signature P any p).outlives (λ κs. S) E New 𝓛 (typed 𝓛) (as_typed 𝓛 2 New (lone (New ([], ([], tt))).mir) (λ κs x vs. (shr_Lawful 𝓛 (named 1) κs.0 value.the_row).typed x vs) (λ κs. (κs.1.0 ⊑ P.lives) ∷ [])) (λ κs α bd. (still_outlives κs.0 κs.1.1.0 α bd.0, tt))
+    (λ κs a. (F.clauses P any p 𝓛 𝓜.mem 𝓡.returns κs a).ensures tt) (λ κs a. (g.clauses P any p 𝓛 𝓜.mem 𝓡.returns κs a).ensures tt)
+    (λ κs place heap x l y w. passed_on 𝓛 S place E.Denot y refl) (λ κs place heap x l e y w. refused_on 𝓛 S place E.Denot e y (λ still. still)) key (function P p) 𝓣 fm (met 𝓤 𝓛 𝓜 𝓡 (code.calls-jsonpath_select::selectors::updates_in_place::HeldPair+P+Value::set_in_place 𝓡.env wired) P laws any p met_any)
+    (runs_two code.function.lifetimes code.function.outlives key S S (lone Alloc.mir) (lone E.mir) 𝓛 𝓣.C 𝓣.Λ fm (lone (New ([], ([], tt))).mir)))

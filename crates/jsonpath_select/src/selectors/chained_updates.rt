@@ -1,0 +1,119 @@
+//! Updates of the document of an update type, which chain: at `Ok` each returns the update type itself.
+ghost use Rattle.std.specs.Prelude.{◌≡◌, IfOk, IfErr, OnErr};
+ghost use Rattle.std.specs.Borrow.{sem};
+ghost use Rattle.serde_json.specs.View.{view};
+ghost use Rattle.jsonpath_select.specs.selectors.Held.{document, IsSelectRefused};
+ghost use Rattle.jsonpath_select.specs.selectors.HeldChanges.{DeletesHeld, RemovesHeld, SetsHeld, ReplacesHeld};
+ghost use Rattle.jsonpath_select.specs.selectors.PairLends.{held_lends};
+
+use crate::compile::any_path::AnyPath;
+use crate::error::JsonPathError;
+use crate::selectors::held_pair::HeldPair;
+use serde_json::Value;
+use std::alloc::Global;
+
+impl<P: AnyPath> HeldPair<P, Value> {
+    /// Replaces by null each selected value below the root that lies in no other selected one. All else stays as it
+    /// is.
+    ///
+    /// Errors: `EmptyPath` exactly if there is no path, `EmptyValue` exactly if there is a path and no document,
+    /// else `OutOfMemory` alone; nothing has changed then.
+    ///
+    /// ```text
+    /// let mut held = SelectorMut::new();
+    /// held.value(read_document(alloc, b"[1, 2, 3]")?);
+    /// held.str_path(alloc, "$[1:]")?;
+    /// let changed = held.delete(alloc)?.take().unwrap_or(Value::Null);
+    /// assert!(rt; document_to_text(alloc, &changed)?.as_str() == "[1,null,null]");
+    /// ```
+    pub fn delete(&mut self, alloc: Global) -> Result<&mut Self, JsonPathError>
+        ensures* kept { sem 𝓛 (held_lends P.row P.AnyPath self.entry result) }
+        ensures place { IfOk result (λ s. s.ghost_name ≡ self.entry.ghost_name) }
+        ensures path { IfOk result (λ s. s.now.path ≡ self.old.path) }
+        ensures ok { IfOk result (λ s. DeletesHeld self.old.path (document self.old) (document s.now)) }
+        ensures refused { IfErr result (IsSelectRefused self.old.path (document self.old)) }
+    {
+        match self.delete_in_place(alloc) {
+            Ok(()) => Ok(self),
+            Err(error) => Err(error),
+        }
+    }
+
+    /// Removes the selected values below the root, all at once: the other items of an array keep their order. Errors
+    /// are those of `delete`.
+    ///
+    /// ```text
+    /// let mut held = SelectorMut::new();
+    /// held.value(read_document(alloc, b"[1, 2, 3]")?);
+    /// held.str_path(alloc, "$[1:]")?;
+    /// let changed = held.remove(alloc)?.take().unwrap_or(Value::Null);
+    /// assert!(rt; document_to_text(alloc, &changed)?.as_str() == "[1]");
+    /// ```
+    pub fn remove(&mut self, alloc: Global) -> Result<&mut Self, JsonPathError>
+        ensures* kept { sem 𝓛 (held_lends P.row P.AnyPath self.entry result) }
+        ensures place { IfOk result (λ s. s.ghost_name ≡ self.entry.ghost_name) }
+        ensures path { IfOk result (λ s. s.now.path ≡ self.old.path) }
+        ensures ok { IfOk result (λ s. RemovesHeld self.old.path (document self.old) (document s.now)) }
+        ensures refused { IfErr result (IsSelectRefused self.old.path (document self.old)) }
+    {
+        match self.remove_in_place(alloc) {
+            Ok(()) => Ok(self),
+            Err(error) => Err(error),
+        }
+    }
+
+    /// Replaces by a copy of `new` each selected value below the root that lies in no other selected one, all at
+    /// once. All else stays as it is. Errors are those of `delete`; nothing has changed then.
+    ///
+    /// ```text
+    /// let mut held = SelectorMut::new();
+    /// held.value(read_document(alloc, b"[1, 2, 3]")?);
+    /// held.str_path(alloc, "$[1:]")?;
+    /// let changed = held.set(alloc, &Value::Bool(true))?.take().unwrap_or(Value::Null);
+    /// assert!(rt; document_to_text(alloc, &changed)?.as_str() == "[1,true,true]");
+    /// ```
+    pub fn set(&mut self, alloc: Global, new: &Value) -> Result<&mut Self, JsonPathError>
+        ensures* kept { sem 𝓛 (held_lends P.row P.AnyPath self.entry result) }
+        ensures place { IfOk result (λ s. s.ghost_name ≡ self.entry.ghost_name) }
+        ensures path { IfOk result (λ s. s.now.path ≡ self.old.path) }
+        ensures ok { IfOk result (λ s. SetsHeld (view new.now) self.old.path (document self.old) (document s.now)) }
+        ensures refused { IfErr result (IsSelectRefused self.old.path (document self.old)) }
+    {
+        match self.set_in_place(alloc, new) {
+            Ok(()) => Ok(self),
+            Err(error) => Err(error),
+        }
+    }
+
+    /// Calls the closure with each selected value, in document order, each location once: `Some` replaces the value,
+    /// `None` removes it. Each update is made in what the earlier ones left; a location that no longer exists is
+    /// skipped, and so is the root. Errors are those of `delete`; the closure was not called then.
+    ///
+    /// ```text
+    /// let mut held = SelectorMut::new();
+    /// held.value(read_document(alloc, b"[1, 2, 3]")?);
+    /// held.str_path(alloc, "$[1:]")?;
+    /// let to_null = &mut |_old: Value| Some(Value::Null);
+    /// held.replace_with(alloc, to_null)?;
+    /// assert!(rt; held.select_as_str(alloc)?.as_str() == "[null,null]");
+    /// ```
+    pub fn replace_with<F: FnMut(Value) -> Option<Value>>(
+        &mut self,
+        alloc: Global,
+        fun: &mut F,
+    ) -> Result<&mut Self, JsonPathError>
+        requires { F.IsAlwaysCallable fun.old }
+        ensures* kept { sem 𝓛 (held_lends P.row P.AnyPath self.entry result) }
+        ensures place { IfOk result (λ s. s.ghost_name ≡ self.entry.ghost_name) }
+        ensures path { IfOk result (λ s. s.now.path ≡ self.old.path) }
+        ensures ok { IfOk result (λ s. ReplacesHeld F.FnMut self.old.path (document self.old) fun.old fun.new (document s.now)) }
+        ensures refused { IfErr result (IsSelectRefused self.old.path (document self.old)) }
+        ensures unasked { OnErr result (fun.new ≡ fun.old) }
+        ensures callable { F.IsAlwaysCallable fun.new }
+    {
+        match self.replace_in_place(alloc, fun) {
+            Ok(()) => Ok(self),
+            Err(error) => Err(error),
+        }
+    }
+}

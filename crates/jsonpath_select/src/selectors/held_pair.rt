@@ -1,0 +1,194 @@
+//! A pair of a path and a value, and what the path selects in the value.
+ghost use Rattle.std.specs.Prelude.{◌≡◌, Some, None, option_map, string_bytes, vec_len, IfOk, IfErr};
+ghost use Rattle.serde_json.specs.View.{view};
+ghost use Rattle.serde_json.specs.declared.value.Value.{Value};
+ghost use Rattle.jsonpath_select.specs.selectors.Held.{document, AreLocationsFor, AreValuesFor, IsTextFor, IsCountFor, IsSelectRefused, IsTextRefusedFor, IsTypedRefusedFor};
+ghost use Rattle.jsonpath_select.specs.answer.Counted.{IsCountOf, TellsIfAny};
+
+use crate::compile::any_path::AnyPath;
+use crate::error::JsonPathError;
+use jsonpath_nodes::Location;
+use serde::DeserializeOwned;
+use serde_json::Value;
+use std::alloc::Global;
+use std::marker::Model;
+
+/// The value of a selector or update type: an owned one, or a reference.
+///
+/// ```text
+/// let document = read_document(alloc, b"7")?;
+/// let reference = &document;
+/// assert!(rt; HeldValue::lent(&reference).as_u64() == Some(7));
+/// ```
+pub trait HeldValue {
+    // The value.
+    ghost held: { Self → Value };
+
+    /// The value itself.
+    ///
+    /// ```text
+    /// let document = read_document(alloc, b"7")?;
+    /// assert!(rt; HeldValue::lent(&document).as_u64() == Some(7));
+    /// ```
+    fn lent(&self) -> &Value
+        ensures { result.now ≡ held self.now };
+}
+
+impl HeldValue for Value {
+    ghost held = { λ value. value };
+
+    fn lent(&self) -> &Value {
+        self
+    }
+}
+
+impl<'a> HeldValue for &'a Value {
+    ghost held = { λ value. value.now };
+
+    fn lent(&self) -> &Value {
+        *self
+    }
+}
+
+/// A pair of a path, or none, and a value, or none, each the one set last. [`JsonSelector`](crate::JsonSelector) and
+/// [`Selector`](crate::Selector) are such pairs, which borrow the value, and so are
+/// [`JsonSelectorMut`](crate::JsonSelectorMut) and [`SelectorMut`](crate::SelectorMut), which own it and change it.
+///
+/// ```text
+/// let mut held: HeldPair<Node, Value> = HeldPair::default();
+/// held.value(read_document(alloc, b"[1, 2, 3]")?);
+/// assert!(rt; matches!(held.count(alloc), Err(JsonPathError::EmptyPath)));
+/// ```
+#[derive(Drop)]
+pub struct HeldPair<P: AnyPath, V: HeldValue> {
+    pub(crate) path: Option<P>,
+    pub(crate) value: Option<V>,
+}
+
+impl<P: AnyPath, V: HeldValue> Model for HeldPair<P, V> {
+    ghost use Rattle.jsonpath_select.specs.selectors.Held.{Held, held_code};
+
+    ghost Value = { Held };
+
+    ghost coded = { held_code };
+
+    ghost use Rattle.std.specs.Prelude.{option_map};
+
+    ghost view = { λ s. record { path = option_map P.spelling s.path; value = option_map V.held s.value } };
+}
+
+/// A pair with no path and no value. It takes no memory.
+impl<P: AnyPath, V: HeldValue> Default for HeldPair<P, V> {
+    ghost is_default = { λ held. held ≡ record { path = None; value = None } };
+
+    fn default() -> HeldPair<P, V> {
+        HeldPair {
+            path: None,
+            value: None,
+        }
+    }
+}
+
+impl<P: AnyPath, V: HeldValue> HeldPair<P, V> {
+    // The path and the value. Refused with `EmptyPath` where no path is held, and with `EmptyValue` where a path and no
+    // value is.
+    pub(crate) fn path_and_value(&self) -> Result<(&P, &Value), JsonPathError>
+        ensures path { IfOk result (λ held. self.now.path ≡ Some (P.spelling held.0.now)) }
+        ensures value { IfOk result (λ held. document self.now ≡ Some (view held.1.now)) }
+        ensures refused { IfErr result (IsSelectRefused self.now.path (document self.now)) }
+    {
+        let path = self.path.as_ref().ok_or(JsonPathError::EmptyPath)?;
+        let value = self.value.as_ref().ok_or(JsonPathError::EmptyValue)?;
+        Ok((path, value.lent()))
+    }
+
+    /// The locations that the path selects in the value, in the path's order, with duplicates. Errors: `EmptyPath`
+    /// exactly if there is no path, `EmptyValue` exactly if there is a path and no value, or `OutOfMemory`.
+    ///
+    /// ```text
+    /// let document = read_document(alloc, b"[1, 2, 3]")?;
+    /// let mut held = JsonSelector::new(alloc, compile_path(alloc, "$[1:]")?)?;
+    /// held.value(&document);
+    /// let found = held.select_locations(alloc)?;
+    /// assert_eq!(rt; found.len(), 2);
+    /// assert!(rt; found[1].to_string(alloc)?.as_str() == "$[2]");
+    /// ```
+    pub fn select_locations(&self, alloc: Global) -> Result<Vec<Location>, JsonPathError>
+        ensures ok { IfOk result (λ found. AreLocationsFor self.now.path (document self.now) found.items) }
+        ensures refused { IfErr result (IsSelectRefused self.now.path (document self.now)) }
+    {
+        let (path, value) = self.path_and_value()?;
+        path.select_locations(alloc, value)
+    }
+
+    /// The selected values as a JSON text: `[`, their compact texts joined by `,`, and `]`. Errors: those of
+    /// `select_locations`, and `Serde` exactly if one of the values contains, at any depth, a number that is not an
+    /// integer of 64 bits.
+    ///
+    /// ```text
+    /// let mut held = SelectorMut::new();
+    /// held.value(read_document(alloc, b"[1, 2, 3]")?);
+    /// held.str_path(alloc, "$[1:]")?;
+    /// assert!(rt; held.select_as_str(alloc)?.as_str() == "[2,3]");
+    /// ```
+    pub fn select_as_str(&self, alloc: Global) -> Result<String, JsonPathError>
+        ensures ok { IfOk result (λ text. IsTextFor self.now.path (document self.now) (string_bytes text)) }
+        ensures refused { IfErr result (IsTextRefusedFor self.now.path (document self.now)) }
+    {
+        let (path, value) = self.path_and_value()?;
+        path.select_as_str(alloc, value)
+    }
+
+    /// Deserializes each selected value to a `T`, in order. Errors: those of `select_locations`, and `Serde` if one
+    /// of the values contains a number that is not an integer of 64 bits, or if `serde_json` can't make a `T` of
+    /// one.
+    ///
+    /// ```text
+    /// let document = read_document(alloc, b"[1, 2, 3]")?;
+    /// let mut held = Selector::new();
+    /// held.value(&document).str_path(alloc, "$[1:]")?;
+    /// let numbers = held.select_as::<u8>(alloc)?;
+    /// assert_eq!(rt; numbers.len(), 2);
+    /// assert_eq!(rt; numbers[1], 3);
+    /// ```
+    pub fn select_as<T: DeserializeOwned>(&self, alloc: Global) -> Result<Vec<T>, JsonPathError>
+        ensures ok { IfOk result (λ found. IsCountFor self.now.path (document self.now) (vec_len found)) }
+        ensures refused { IfErr result (IsTypedRefusedFor self.now.path (document self.now)) }
+    {
+        let (path, value) = self.path_and_value()?;
+        path.select_as(alloc, value)
+    }
+
+    /// The number of values that the path selects in the value, duplicates included. Errors are those of
+    /// `select_locations`.
+    ///
+    /// ```text
+    /// let document = read_document(alloc, b"[1, 2, 3]")?;
+    /// let mut held = JsonSelector::new(alloc, compile_path(alloc, "$[1:]")?)?;
+    /// held.value(&document);
+    /// assert_eq!(rt; held.count(alloc)?, 2);
+    /// ```
+    pub fn count(&self, alloc: Global) -> Result<usize, JsonPathError>
+        ensures ok { IfOk result (IsCountOf (AreValuesFor self.now.path (document self.now))) }
+        ensures refused { IfErr result (IsSelectRefused self.now.path (document self.now)) }
+    {
+        let (path, value) = self.path_and_value()?;
+        path.count(alloc, value)
+    }
+
+    /// Whether the path selects anything in the value. Errors are those of `select_locations`.
+    ///
+    /// ```text
+    /// let mut held = SelectorMut::new();
+    /// held.value(read_document(alloc, b"[1, 2, 3]")?);
+    /// held.str_path(alloc, "$[1:]")?;
+    /// assert!(rt; held.exists(alloc)?);
+    /// ```
+    pub fn exists(&self, alloc: Global) -> Result<bool, JsonPathError>
+        ensures ok { IfOk result (TellsIfAny (AreValuesFor self.now.path (document self.now))) }
+        ensures refused { IfErr result (IsSelectRefused self.now.path (document self.now)) }
+    {
+        let (path, value) = self.path_and_value()?;
+        path.exists(alloc, value)
+    }
+}

@@ -1,0 +1,112 @@
+//! Selectors, which borrow their value; their answers borrow it, too.
+ghost use Rattle.std.specs.Prelude.{◌≡◌, Some, map, option_map, IfOk, IfErr};
+ghost use Rattle.serde_json.specs.View.{view};
+ghost use Rattle.jsonpath_select.specs.selectors.Held.{document, AreSpotsFor, AreValuesFor, IsSelectRefused};
+ghost use Rattle.jsonpath_select.specs.answer.Counted.{IsFirstOf};
+
+use crate::compile::any_path::AnyPath;
+use crate::error::JsonPathError;
+use crate::selectors::held_pair::HeldPair;
+use jsonpath_nodes::Spot;
+use serde_json::Value;
+use std::alloc::Global;
+
+impl<'a, P: AnyPath> HeldPair<P, &'a Value> {
+    /// Replaces the value. It takes no memory. The name is the Rust crate's.
+    ///
+    /// ```text
+    /// let document = read_document(alloc, b"[1, 2, 3]")?;
+    /// let mut held = JsonSelector::new(alloc, compile_path(alloc, "$[1:]")?)?;
+    /// held.value(&document);
+    /// assert_eq!(rt; held.count(alloc)?, 2);
+    /// ```
+    pub fn value(&mut self, value: &'a Value) -> &mut Self
+        ensures place { result.ghost_name ≡ self.entry.ghost_name }
+        ensures held { result.now ≡ record self.entry.now { value = Some value.now } }
+    {
+        self.value = Some(value);
+        self
+    }
+
+    /// Changes nothing: no answer is cached. The name is the Rust crate's.
+    ///
+    /// ```text
+    /// let document = read_document(alloc, b"[1, 2, 3]")?;
+    /// let mut held = Selector::new();
+    /// held.value(&document).str_path(alloc, "$[1:]")?;
+    /// assert_eq!(rt; held.reset_value().count(alloc)?, 2);
+    /// ```
+    pub fn reset_value(&mut self) -> &mut Self
+        ensures place { result.ghost_name ≡ self.entry.ghost_name }
+        ensures same { result.now ≡ self.entry.now }
+    {
+        self
+    }
+
+    // The path and the value, refused as a selection is.
+    fn path_and_lent_value(&self) -> Result<(&P, &'a Value), JsonPathError>
+        ensures path { IfOk result (λ held. self.now.path ≡ Some (P.spelling held.0.now)) }
+        ensures value { IfOk result (λ held. document self.now ≡ Some (view held.1.now)) }
+        ensures refused { IfErr result (IsSelectRefused self.now.path (document self.now)) }
+    {
+        let path = self.path.as_ref().ok_or(JsonPathError::EmptyPath)?;
+        let value = self.value.ok_or(JsonPathError::EmptyValue)?;
+        Ok((path, value))
+    }
+
+    /// The values that the path selects in the value, in the path's order, with duplicates. They borrow the value
+    /// alone. Errors: `EmptyPath` exactly if there is no path, `EmptyValue` exactly if there is a path and no value,
+    /// else `OutOfMemory` alone.
+    ///
+    /// ```text
+    /// let document = read_document(alloc, b"[1, 2, 3]")?;
+    /// let mut held = JsonSelector::new(alloc, compile_path(alloc, "$[1:]")?)?;
+    /// held.value(&document);
+    /// let found = held.select(alloc)?;
+    /// assert!(rt; list_to_text(alloc, found.as_slice())?.as_str() == "[2,3]");
+    /// ```
+    pub fn select(&self, alloc: Global) -> Result<Vec<&'a Value>, JsonPathError>
+        ensures ok { IfOk result (λ found. AreValuesFor self.now.path (document self.now) (map (λ v. view v.now) found.items)) }
+        ensures refused { IfErr result (IsSelectRefused self.now.path (document self.now)) }
+    {
+        let (path, value) = self.path_and_lent_value()?;
+        path.select(alloc, value)
+    }
+
+    /// The nodes that the path selects in the value, each a value with its location, in the path's order, with
+    /// duplicates. They borrow the value alone. Errors are those of `select`.
+    ///
+    /// ```text
+    /// let document = read_document(alloc, b"[1, 2, 3]")?;
+    /// let mut held = Selector::new();
+    /// held.value(&document).str_path(alloc, "$[1:]")?;
+    /// let spots = held.select_spots(alloc)?;
+    /// assert_eq!(rt; spots.len(), 2);
+    /// assert!(rt; spots[1].value().as_u64() == Some(3));
+    /// ```
+    pub fn select_spots(&self, alloc: Global) -> Result<Vec<Spot<'a>>, JsonPathError>
+        ensures ok { IfOk result (λ found. AreSpotsFor self.now.path (document self.now) found.items) }
+        ensures refused { IfErr result (IsSelectRefused self.now.path (document self.now)) }
+    {
+        let (path, value) = self.path_and_lent_value()?;
+        path.select_spots(alloc, value)
+    }
+
+    /// The first of the values that the path selects, in the path's order, or `None`. It borrows the value alone.
+    /// Errors are those of `select`.
+    ///
+    /// ```text
+    /// let document = read_document(alloc, b"[1, 2, 3]")?;
+    /// let mut held = JsonSelector::new(alloc, compile_path(alloc, "$[1:]")?)?;
+    /// held.value(&document);
+    /// let first = held.first(alloc)?.unwrap_or(&Value::Null);
+    /// assert!(rt; first.as_u64() == Some(2));
+    /// ```
+    pub fn first(&self, alloc: Global) -> Result<Option<&'a Value>, JsonPathError>
+        ensures ok { IfOk result (λ first. IsFirstOf (AreValuesFor self.now.path (document self.now)) (option_map (λ v. view v.now) first)) }
+        ensures refused { IfErr result (IsSelectRefused self.now.path (document self.now)) }
+    {
+        let (path, value) = self.path_and_lent_value()?;
+        path.first(alloc, value)
+    }
+}

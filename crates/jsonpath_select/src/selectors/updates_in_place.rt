@@ -1,0 +1,148 @@
+//! Updates of the document of an update type, as statements: each returns whether it was made.
+ghost use Rattle.std.specs.Prelude.{◌≡◌, Ok, IfErr, OnOk, OnErr};
+ghost use Rattle.serde_json.specs.View.{view};
+ghost use Rattle.jsonpath_select.specs.selectors.Held.{document, IsSelectRefused};
+ghost use Rattle.jsonpath_select.specs.selectors.HeldChanges.{DeletesHeld, RemovesHeld, SetsHeld, ReplacesHeld, TriesHeld, EndsHeld};
+
+use crate::answer::try_replace::TryFault;
+use crate::compile::any_path::AnyPath;
+use crate::error::JsonPathError;
+use crate::selectors::held_pair::HeldPair;
+use serde_json::Value;
+use std::alloc::Global;
+
+impl<P: AnyPath> HeldPair<P, Value> {
+    /// Replaces by null each selected value below the root that lies in no other selected one. Errors are those of
+    /// `delete`, which chains; here a caller's proof knows the state after an error, too: nothing has changed.
+    ///
+    /// ```text
+    /// let mut held = SelectorMut::new();
+    /// held.value(read_document(alloc, b"[1, 2, 3]")?);
+    /// held.str_path(alloc, "$[1:]")?;
+    /// held.delete_in_place(alloc)?;
+    /// assert!(rt; held.select_as_str(alloc)?.as_str() == "[null,null]");
+    /// ```
+    pub fn delete_in_place(&mut self, alloc: Global) -> Result<(), JsonPathError>
+        ensures path { self.new.path ≡ self.old.path }
+        ensures ok { OnOk result (DeletesHeld self.old.path (document self.old) (document self.new)) }
+        ensures refused { IfErr result (IsSelectRefused self.old.path (document self.old)) }
+        ensures kept { OnErr result (self.new ≡ self.old) }
+    {
+        let path = self.path.as_ref().ok_or(JsonPathError::EmptyPath)?;
+        let Some(value) = &mut self.value else {
+            return Err(JsonPathError::EmptyValue);
+        };
+        path.delete_in(alloc, value)
+    }
+
+    /// Removes the selected values below the root, all at once. Errors are those of `remove`, which chains; here a
+    /// caller's proof knows the state after an error, too: nothing has changed.
+    ///
+    /// ```text
+    /// let mut held = SelectorMut::new();
+    /// held.value(read_document(alloc, b"[1, 2, 3]")?);
+    /// held.str_path(alloc, "$[1:]")?;
+    /// held.remove_in_place(alloc)?;
+    /// assert!(rt; !held.exists(alloc)?);
+    /// ```
+    pub fn remove_in_place(&mut self, alloc: Global) -> Result<(), JsonPathError>
+        ensures path { self.new.path ≡ self.old.path }
+        ensures ok { OnOk result (RemovesHeld self.old.path (document self.old) (document self.new)) }
+        ensures refused { IfErr result (IsSelectRefused self.old.path (document self.old)) }
+        ensures kept { OnErr result (self.new ≡ self.old) }
+    {
+        let path = self.path.as_ref().ok_or(JsonPathError::EmptyPath)?;
+        let Some(value) = &mut self.value else {
+            return Err(JsonPathError::EmptyValue);
+        };
+        path.remove_in(alloc, value)
+    }
+
+    /// Replaces by a copy of `new` each selected value below the root that lies in no other selected one, all at
+    /// once. Errors are those of `set`, which chains; here a caller's proof knows the state after an error, too:
+    /// nothing has changed.
+    ///
+    /// ```text
+    /// let mut held = SelectorMut::new();
+    /// held.value(read_document(alloc, b"[1, 2, 3]")?);
+    /// held.str_path(alloc, "$[1:]")?;
+    /// held.set_in_place(alloc, &Value::Bool(true))?;
+    /// assert!(rt; held.select_as_str(alloc)?.as_str() == "[true,true]");
+    /// ```
+    pub fn set_in_place(&mut self, alloc: Global, new: &Value) -> Result<(), JsonPathError>
+        ensures path { self.new.path ≡ self.old.path }
+        ensures ok { OnOk result (SetsHeld (view new.now) self.old.path (document self.old) (document self.new)) }
+        ensures refused { IfErr result (IsSelectRefused self.old.path (document self.old)) }
+        ensures kept { OnErr result (self.new ≡ self.old) }
+    {
+        let path = self.path.as_ref().ok_or(JsonPathError::EmptyPath)?;
+        let Some(value) = &mut self.value else {
+            return Err(JsonPathError::EmptyValue);
+        };
+        path.set_in(alloc, value, new)
+    }
+
+    /// Calls the closure with each selected value, as `replace_with` does, which chains: `Some` replaces the value,
+    /// `None` removes it. Here a caller's proof knows the state after an error, too: nothing has changed.
+    ///
+    /// ```text
+    /// let mut held = SelectorMut::new();
+    /// held.value(read_document(alloc, b"[1, 2, 3]")?);
+    /// held.str_path(alloc, "$[1:]")?;
+    /// let to_null = &mut |_old: Value| Some(Value::Null);
+    /// held.replace_in_place(alloc, to_null)?;
+    /// assert!(rt; held.select_as_str(alloc)?.as_str() == "[null,null]");
+    /// ```
+    pub fn replace_in_place<F: FnMut(Value) -> Option<Value>>(
+        &mut self,
+        alloc: Global,
+        fun: &mut F,
+    ) -> Result<(), JsonPathError>
+        requires { F.IsAlwaysCallable fun.old }
+        ensures path { self.new.path ≡ self.old.path }
+        ensures ok { OnOk result (ReplacesHeld F.FnMut self.old.path (document self.old) fun.old fun.new (document self.new)) }
+        ensures refused { IfErr result (IsSelectRefused self.old.path (document self.old)) }
+        ensures kept { OnErr result (self.new ≡ self.old) }
+        ensures unasked { OnErr result (fun.new ≡ fun.old) }
+        ensures callable { F.IsAlwaysCallable fun.new }
+    {
+        let path = self.path.as_ref().ok_or(JsonPathError::EmptyPath)?;
+        let Some(value) = &mut self.value else {
+            return Err(JsonPathError::EmptyValue);
+        };
+        path.replace_in(alloc, value, fun)
+    }
+
+    /// Calls a closure that may return an error with a reference to each selected value, in document order, each
+    /// location once: `Some` replaces the value, `None` removes it; the root, and a location that no longer exists,
+    /// are skipped. The closure's first error ends the updates, as `Refused`; the updates before it remain.
+    /// `Unasked` has the errors of `delete`.
+    ///
+    /// ```text
+    /// let mut held = SelectorMut::new();
+    /// held.value(read_document(alloc, b"[1, 2, 3]")?);
+    /// held.str_path(alloc, "$[1:]")?;
+    /// let refuse = &mut |_old: &Value| Err::<Option<Value>, u8>(7);
+    /// let tried = held.try_replace_in_place(alloc, refuse);
+    /// assert!(rt; matches!(tried, Err(TryFault::Refused(7))));
+    /// ```
+    pub fn try_replace_in_place<E, F: FnMut(&Value) -> Result<Option<Value>, E>>(
+        &mut self,
+        alloc: Global,
+        fun: &mut F,
+    ) -> Result<(), TryFault<E>>
+        requires { F.IsAlwaysCallable fun.old }
+        ensures path { self.new.path ≡ self.old.path }
+        ensures ok { OnOk result (TriesHeld F.FnMut self.old.path (document self.old) fun.old (Ok tt) fun.new (document self.new)) }
+        ensures refused { IfErr result (EndsHeld F.FnMut self.old.path (document self.old) fun.old fun.new (document self.new)) }
+        ensures callable { F.IsAlwaysCallable fun.new }
+    {
+        let Some(path) = &self.path else {
+            return Err(TryFault::Unasked(JsonPathError::EmptyPath));
+        };
+        let Some(value) = &mut self.value else {
+            return Err(TryFault::Unasked(JsonPathError::EmptyValue));
+        };
+        path.try_replace_in(alloc, value, fun)
+    }
+}

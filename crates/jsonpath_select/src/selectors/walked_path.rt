@@ -1,0 +1,85 @@
+//! The path of a `Selector`: a `Node`, whose nodes in a document are found by the walk over its syntax tree.
+ghost use Rattle.std.specs.Prelude.{◌≡◌};
+ghost use Rattle.jsonpath_select.specs.selectors.Held.{text_held};
+
+use crate::answer::select::spots_by_tree;
+use crate::compile::any_path::{AnyPath, PathParts};
+use crate::compile::node::Node;
+use crate::error::JsonPathError;
+use jsonpath_nodes::Spot;
+use serde_json::Value;
+use std::alloc::Global;
+
+/// A compiled path that a selector owns or borrows. What it selects, with locations, is found by a walk over its
+/// syntax tree.
+///
+/// ```text
+/// let path = WalkedPath::Own(Parser::compile(alloc, "$.a")?);
+/// let document = read_document(alloc, b"{\"a\": 7}")?;
+/// assert!(rt; path.count(alloc, &document)? == 1);
+/// ```
+#[derive(Drop)]
+pub enum WalkedPath<'b> {
+    /// Owned.
+    Own(Node),
+    /// Borrowed.
+    Lent(&'b Node),
+}
+
+impl<'b> WalkedPath<'b> {
+    // The path, wherever it is.
+    pub(crate) fn node(&self) -> &Node
+        ensures { result.now ≡ text_held self.now }
+    {
+        match self {
+            WalkedPath::Own(node) => node,
+            WalkedPath::Lent(node) => *node,
+        }
+    }
+}
+
+impl<'b> AnyPath for WalkedPath<'b> {
+    ghost spelling = { text_held };
+
+    fn parts(&self) -> PathParts<'_> {
+        self.node().parts()
+    }
+
+    fn select_spots<'v>(
+        &self,
+        alloc: Global,
+        value: &'v Value,
+    ) -> Result<Vec<Spot<'v>>, JsonPathError> {
+        let node = self.node();
+        spots_by_tree(alloc, value, node.text(), node.tree())
+    }
+}
+
+/// A path type that can be made of a `Node`, so that a text can be compiled in its place.
+///
+/// ```text
+/// let path: WalkedPath<'_> = OfNode::of_node(Parser::compile(alloc, "$.a")?);
+/// assert!(rt; path.parts().text == "$.a");
+/// ```
+pub trait OfNode: AnyPath {
+    /// Makes a path of this `Node`.
+    ///
+    /// ```text
+    /// let node: Node = OfNode::of_node(Parser::compile(alloc, "$.a")?);
+    /// assert!(rt; node.text() == "$.a");
+    /// ```
+    fn of_node(node: Node) -> Self
+        ensures { Self.spelling result ≡ node };
+}
+
+impl OfNode for Node {
+    fn of_node(node: Node) -> Node {
+        node
+    }
+}
+
+impl<'b> OfNode for WalkedPath<'b> {
+    fn of_node(node: Node) -> WalkedPath<'b> {
+        WalkedPath::Own(node)
+    }
+}

@@ -1,0 +1,174 @@
+//! The verbs of `AnyPath` at a `PathParser`, with clauses that name the path itself, while those of the trait name
+//! its syntax tree.
+ghost use Rattle.std.specs.Prelude.{◌≡◌, Ok, map, option_map, string_bytes, vec_len, IfOk, IfErr, OnOk, OnErr};
+ghost use Rattle.serde_json.specs.View.{view};
+ghost use Rattle.jsonpath_select.specs.answer.Counted.{IsCountOf, IsFirstOf, TellsIfAny};
+ghost use Rattle.jsonpath_select.specs.answer.Given.{IsTextOfAnswer, IsTypedCountOf, IsTextRefusedOf, IsTypedRefusedOf};
+ghost use Rattle.jsonpath_select.specs.Meaning.{Selects, SelectsAt, SelectsSpots};
+ghost use Rattle.jsonpath_select.specs.Targets.{IsDeleted, IsRemoved, IsSet, IsReplaced};
+ghost use Rattle.jsonpath_select.specs.Tried.{IsTried, IsEnded};
+
+use jsonpath_lib::{AnyPath, JsonPathError, Location, PathParser, Spot, TryFault};
+use serde::DeserializeOwned;
+use serde_json::Value;
+use std::alloc::Global;
+
+/// The values that the path selects.
+pub fn select<'v>(
+    path: &PathParser<'_>,
+    alloc: Global,
+    value: &'v Value,
+) -> Result<Vec<&'v Value>, JsonPathError>
+    ensures ok { IfOk result (λ found. Selects path.now (view value.now) (map (λ v. view v.now) found.items)) }
+    ensures refused { IfErr result (λ e. e ≡ JsonPathError.OutOfMemory) }
+{
+    path.select(alloc, value)
+}
+
+/// The nodes that the path selects.
+pub fn select_spots<'v>(
+    path: &PathParser<'_>,
+    alloc: Global,
+    value: &'v Value,
+) -> Result<Vec<Spot<'v>>, JsonPathError>
+    ensures ok { IfOk result (λ found. SelectsSpots path.now (view value.now) found.items) }
+    ensures refused { IfErr result (λ e. e ≡ JsonPathError.OutOfMemory) }
+{
+    path.select_spots(alloc, value)
+}
+
+/// The locations that the path selects.
+pub fn select_locations(
+    path: &PathParser<'_>,
+    alloc: Global,
+    value: &Value,
+) -> Result<Vec<Location>, JsonPathError>
+    ensures ok { IfOk result (λ found. SelectsAt path.now (view value.now) found.items) }
+    ensures refused { IfErr result (λ e. e ≡ JsonPathError.OutOfMemory) }
+{
+    path.select_locations(alloc, value)
+}
+
+/// The text of the values that the path selects.
+pub fn select_as_str(
+    path: &PathParser<'_>,
+    alloc: Global,
+    value: &Value,
+) -> Result<String, JsonPathError>
+    ensures ok { IfOk result (λ text. IsTextOfAnswer (Selects path.now (view value.now)) (string_bytes text)) }
+    ensures refused { IfErr result (IsTextRefusedOf (Selects path.now (view value.now))) }
+{
+    path.select_as_str(alloc, value)
+}
+
+/// The values that the path selects, each as a `T`.
+pub fn select_as<T: DeserializeOwned>(
+    path: &PathParser<'_>,
+    alloc: Global,
+    value: &Value,
+) -> Result<Vec<T>, JsonPathError>
+    ensures ok { IfOk result (λ found. IsTypedCountOf (Selects path.now (view value.now)) (vec_len found)) }
+    ensures refused { IfErr result (IsTypedRefusedOf (Selects path.now (view value.now))) }
+{
+    path.select_as(alloc, value)
+}
+
+/// How many values the path selects.
+pub fn count(path: &PathParser<'_>, alloc: Global, value: &Value) -> Result<usize, JsonPathError>
+    ensures ok { IfOk result (IsCountOf (Selects path.now (view value.now))) }
+    ensures refused { IfErr result (λ e. e ≡ JsonPathError.OutOfMemory) }
+{
+    path.count(alloc, value)
+}
+
+/// The first value that the path selects.
+pub fn first<'v>(
+    path: &PathParser<'_>,
+    alloc: Global,
+    value: &'v Value,
+) -> Result<Option<&'v Value>, JsonPathError>
+    ensures ok { IfOk result (λ first. IsFirstOf (Selects path.now (view value.now)) (option_map (λ v. view v.now) first)) }
+    ensures refused { IfErr result (λ e. e ≡ JsonPathError.OutOfMemory) }
+{
+    path.first(alloc, value)
+}
+
+/// Whether the path selects any value.
+pub fn exists(path: &PathParser<'_>, alloc: Global, value: &Value) -> Result<bool, JsonPathError>
+    ensures ok { IfOk result (TellsIfAny (Selects path.now (view value.now))) }
+    ensures refused { IfErr result (λ e. e ≡ JsonPathError.OutOfMemory) }
+{
+    path.exists(alloc, value)
+}
+
+/// Puts null at what the path selects.
+pub fn delete_in(
+    path: &PathParser<'_>,
+    alloc: Global,
+    value: &mut Value,
+) -> Result<(), JsonPathError>
+    ensures ok { OnOk result (IsDeleted path.now (view value.old) (view value.new)) }
+    ensures refused { IfErr result (λ e. e ≡ JsonPathError.OutOfMemory) }
+    ensures kept { OnErr result (value.new ≡ value.old) }
+{
+    path.delete_in(alloc, value)
+}
+
+/// Removes what the path selects.
+pub fn remove_in(
+    path: &PathParser<'_>,
+    alloc: Global,
+    value: &mut Value,
+) -> Result<(), JsonPathError>
+    ensures ok { OnOk result (IsRemoved path.now (view value.old) (view value.new)) }
+    ensures refused { IfErr result (λ e. e ≡ JsonPathError.OutOfMemory) }
+    ensures kept { OnErr result (value.new ≡ value.old) }
+{
+    path.remove_in(alloc, value)
+}
+
+/// Puts a value at what the path selects.
+pub fn set_in(
+    path: &PathParser<'_>,
+    alloc: Global,
+    value: &mut Value,
+    new: &Value,
+) -> Result<(), JsonPathError>
+    ensures ok { OnOk result (IsSet path.now (view new.now) (view value.old) (view value.new)) }
+    ensures refused { IfErr result (λ e. e ≡ JsonPathError.OutOfMemory) }
+    ensures kept { OnErr result (value.new ≡ value.old) }
+{
+    path.set_in(alloc, value, new)
+}
+
+/// Replaces what the path selects by the closure's results.
+pub fn replace_in<F: FnMut(Value) -> Option<Value>>(
+    path: &PathParser<'_>,
+    alloc: Global,
+    value: &mut Value,
+    fun: &mut F,
+) -> Result<(), JsonPathError>
+    requires { F.IsAlwaysCallable fun.old }
+    ensures ok { OnOk result (IsReplaced F.FnMut path.now (view value.old) fun.old fun.new (view value.new)) }
+    ensures refused { IfErr result (λ e. e ≡ JsonPathError.OutOfMemory) }
+    ensures kept { OnErr result (value.new ≡ value.old) }
+    ensures unasked { OnErr result (fun.new ≡ fun.old) }
+    ensures callable { F.IsAlwaysCallable fun.new }
+{
+    path.replace_in(alloc, value, fun)
+}
+
+/// Replaces what the path selects by the results of a closure that may return an error.
+pub fn try_replace_in<E, F: FnMut(&Value) -> Result<Option<Value>, E>>(
+    path: &PathParser<'_>,
+    alloc: Global,
+    value: &mut Value,
+    fun: &mut F,
+) -> Result<(), TryFault<E>>
+    requires { F.IsAlwaysCallable fun.old }
+    ensures ok { OnOk result (IsTried F.FnMut path.now (view value.old) fun.old (Ok tt) fun.new (view value.new)) }
+    ensures refused { IfErr result (IsEnded F.FnMut (λ e. e ≡ JsonPathError.OutOfMemory) path.now (view value.old) fun.old fun.new (view value.new)) }
+    ensures callable { F.IsAlwaysCallable fun.new }
+{
+    path.try_replace_in(alloc, value, fun)
+}
