@@ -13,7 +13,7 @@ use json::Value as Exact;
 use jsonpath_nodes::Location;
 use std::alloc::Global;
 
-/// What an edit does with the value at a target.
+/// What an edit does with each value that its path selects.
 #[derive(Clone, Copy, Debug, Drop)]
 pub enum Change<'c> {
     /// Replaces it by this text.

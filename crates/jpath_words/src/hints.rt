@@ -135,8 +135,8 @@ fn hint_to_quote_name(alloc: Global, rest: &str) -> Result<String, AllocError> {
     }
 }
 
-/// Warns on standard error if `&&` and `||` are side by side in a path: they have the same precedence, and group to
-/// the right.
+/// Warns on standard error if a path has `&&` and `||` in one condition without parentheses between them: here both
+/// have the same precedence and group to the right, not so in RFC 9535.
 pub fn warn_of_mixed_connectives(rt: &(impl Eprint + Alloc<A = Global>), path: &str) {
     if let Ok(true) = has_mixed_connectives(rt.alloc(), path) {
         let _ = eprintln!(rt;

@@ -5,8 +5,8 @@ use jsonpath_paths::{PathParser, TokenError, Tokenizer};
 use std::alloc::{AllocError, Global};
 use unicode_width::UnicodeWidthStr;
 
-/// Prints a syntax error on standard error: the path text, a caret under the position, and a hint, if there is one;
-/// or that memory ran out.
+/// Prints on standard error why a path text is no path: the text, a caret under the position of the syntax error, and a
+/// hint, if there is one. If memory ran out instead, it prints that.
 pub fn tell_refused_path(rt: &(impl Eprint + Alloc<A = Global>), path: &str, error: &TokenError) {
     if let TokenError::OutOfMemory = error {
         let _ = eprintln!(rt; "jpath: out of memory");

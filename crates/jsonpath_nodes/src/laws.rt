@@ -193,8 +193,8 @@ pub fn steps_keep_locations_disjoint()
     ensures candidates { CandidatesStayDisjoint }
 {}
 
-/// Lemma: locations that are apart are distinct, and no candidate is found from two of them. A single location is
-/// apart, and so are the candidates from any locations.
+/// Lemma: locations are apart if no two are the same, or lead from one to the other by indexes alone. Then no candidate
+/// is found from two of them. A single location is apart, and so are the candidates from any locations.
 ///
 /// ```text
 /// laws::apart_locations_meet_candidates_once();
@@ -206,10 +206,10 @@ pub fn apart_locations_meet_candidates_once()
     ensures no_repeat { ApartHasNoRepeat }
 {}
 
-/// Lemma: a name leads from distinct locations to ones that are apart; so do a list of different names, and `..`
-/// before a name from one location of a document. From locations that are apart, so does each other step but `*`
-/// that selects no child of a value twice: an index, a slice, and a list of different indexes that count from the
-/// front. A filter's result stays apart.
+/// Lemma: which steps lead to locations that are apart, as `apart_locations_meet_candidates_once` says. From any
+/// distinct locations: a name, or a list of different names. From one location: `..` before a name. From locations that
+/// are apart: an index, a slice, and a list of different indexes that count from the front. Those of them that meet a
+/// filter's condition are apart, too.
 ///
 /// ```text
 /// laws::steps_keep_locations_apart();

@@ -108,7 +108,8 @@ pub fn add_named_member<'a, M: Mark<'a>>(
     Ok(())
 }
 
-/// Applies a plain step to each node and to all its descendants, each before its children.
+/// Applies a plain step to each node and to all its descendants, each before its children, as `..` does. The only error
+/// is `NoMemory`.
 ///
 /// ```text
 /// let found = steps_on_marks::plain_step_from_all_below(alloc, &[&document], &PlainStep::Named("a"))?;

@@ -13,7 +13,7 @@ use std::alloc::{AllocError, AllocFailed, Global};
 use std::error::Error;
 use std::fmt;
 
-/// The error of a call. `Display` and `Debug` print the same text.
+/// The error that this library's calls return. `Display` and `Debug` print the same text.
 ///
 /// ```text
 /// let refused = match compile_path(alloc, "$[") {
@@ -24,16 +24,16 @@ use std::fmt;
 /// ```
 #[derive(Drop)]
 pub enum JsonPathError {
-    /// No path is set, whether a value is set or not: `path not set`.
+    /// No path is set, whether or not a value is set. Printed as `path not set`.
     EmptyPath,
-    /// A path is set and no value: `json value not set`.
+    /// A path is set, but no value. Printed as `json value not set`.
     EmptyValue,
     /// A text is no path. The message is `Eof` if the text ends too early, else `Position:` and the byte position
     /// after the wrong token. For an error of `Parser` the message is the path text, a line end and a row of `^`.
     /// Printed as `path error: `, a line end, the message and a line end.
     Path(String),
-    /// A text is no JSON, a value can't be made a value of the wanted type, or a number that has to be printed or
-    /// typed is not an integer of 64 bits. Printed as `serde error: `, a line end, the message and a line end.
+    /// A text is no JSON, a value can't be made a value of the wanted type, or a number that has to be printed or typed
+    /// is neither an `i64` nor a `u64`. Printed as `serde error: `, a line end, the message and a line end.
     Serde(String),
     /// Out of memory. Printed as `out of memory`.
     OutOfMemory,

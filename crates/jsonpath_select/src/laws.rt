@@ -111,7 +111,7 @@ pub fn selects_by_any_tree()
     one_tree_per_text();
 }
 
-/// Lemma: for a text of the grammar the only error is out of memory.
+/// Lemma: compiling a text of the path grammar fails only if memory runs out.
 ///
 /// ```text
 /// laws::refused_for_memory_alone();

@@ -43,7 +43,7 @@ pub fn value_at<'a>(
     select(alloc, json, text.as_str())
 }
 
-/// The text of the list of values that a path selects, such as one column of a document.
+/// The selected values as the text of a JSON array: by `$[*].name`, say, the names in a list of records.
 pub fn column_text(alloc: Global, json: &Value, path: &str) -> Result<String, JsonPathError>
     ensures { IfOk result (λ text. (values : List Data) × Selects path.now (view json.now) values × (list_text values ≡ Some (string_bytes text))) }
 {

@@ -63,8 +63,8 @@ pub fn remove_price_twice(alloc: Global, json: &mut Value) -> Result<(), JsonPat
     Ok(())
 }
 
-/// The value without what any of these paths selects in it; all of them select before anything is removed. If a path
-/// is wrong, the value is dropped.
+/// The value without what any of these paths selects in it. All of them select before anything is removed. If a text is
+/// no path, that is the error, and the value is dropped.
 pub fn without_secrets(alloc: Global, json: Value, secrets: &[&str]) -> Result<Value, JsonPathError>
     ensures { IfOk result (λ left. AreRemoved (map (λ p. p.now) secrets.now) (view json) (view left)) }
 {

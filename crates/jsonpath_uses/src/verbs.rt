@@ -158,7 +158,8 @@ pub fn replace_in<F: FnMut(Value) -> Option<Value>>(
     path.replace_in(alloc, value, fun)
 }
 
-/// Replaces what the path selects by the results of a closure that may return an error.
+/// Replaces what the path selects by the results of a closure. Its first error ends the updates; those before it
+/// remain.
 pub fn try_replace_in<E, F: FnMut(&Value) -> Result<Option<Value>, E>>(
     path: &PathParser<'_>,
     alloc: Global,

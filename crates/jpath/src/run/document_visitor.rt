@@ -61,7 +61,7 @@ pub struct DocumentVisitor<'r, 'w, T, W> {
 }
 
 impl<'r, 'w, T: Eprint + Alloc<A = Global>, W: Output> DocumentVisitor<'r, 'w, T, W> {
-    /// A visitor before the first file: no output is buffered, and no document had an error.
+    /// A visitor that has visited nothing yet: no output is buffered, and no document had an error.
     pub fn new(rt: &'r T, wanted: &'r Wanted<'w>, writer: W) -> DocumentVisitor<'r, 'w, T, W> {
         DocumentVisitor {
             rt,

@@ -9,9 +9,9 @@ use serde_json::Value;
 use std::alloc::Global;
 use std::marker::Model;
 
-/// A compiled path for many documents: `select` is as with a path compiled anew. [`Compiled`](crate::Compiled) owns
-/// its text, [`PathCompiled`](crate::PathCompiled) borrows it, and its copies share it. The other verbs are those of
-/// [`AnyPath`](crate::AnyPath).
+/// A compiled path for many documents; it selects what the path compiled anew would select.
+/// [`Compiled`](crate::Compiled) owns its text, [`PathCompiled`](crate::PathCompiled) borrows it, and its copies share
+/// it. The other verbs are those of [`AnyPath`](crate::AnyPath).
 ///
 /// ```text
 /// let path: KeptPath<Node> = Compiled::compile(alloc, "$[1:]")?;
@@ -78,9 +78,9 @@ impl<P: AnyPath> KeptPath<P> {
         Ok(changed)
     }
 
-    /// Calls the closure with each selected value below the root, in document order, each location once, and returns
-    /// the document with the results: `Some` replaces the value, `None` removes it. A location that an earlier
-    /// update removed is skipped. Errors are those of `delete`; the closure is then not called.
+    /// Calls the closure once for each selected location below the root, in document order, with the value that the
+    /// earlier updates left there, and returns the document with the results: `Some` replaces the value, `None` removes
+    /// it. A location that no longer exists is skipped. Errors are those of `delete`; the closure is then not called.
     ///
     /// ```text
     /// let document = read_document(alloc, b"[1, 2, 3]")?;

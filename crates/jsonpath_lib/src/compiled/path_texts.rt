@@ -69,8 +69,8 @@ pub(crate) fn write_paths_fault<W: fmt::Write>(
     }
 }
 
-/// Compiles the path texts, in order. The error has the index of the first text that is no path, or, without an
-/// index, is out of memory.
+/// Compiles the path texts, in order. The error has the index of the first text that is no path; if memory ran out, it
+/// has none.
 ///
 /// ```text
 /// match compile_paths(alloc, &["$[0]", "$["]) {

@@ -26,10 +26,10 @@ pub fn delete(alloc: Global, value: Value, path: &str) -> Result<Value, JsonPath
     Ok(changed)
 }
 
-/// Calls the closure with each selected value below the root, in document order, each location once, and returns the
-/// document with the results: `Some` replaces the value, `None` removes it. A location that an earlier update
-/// removed is skipped. Errors: `Path` exactly if the text is no path, or `OutOfMemory`; the closure is then not
-/// called, and the document is dropped.
+/// Calls the closure once for each selected location below the root, in document order, with the value that the earlier
+/// updates left there, and returns the document with the results: `Some` replaces the value, `None` removes it. A
+/// location that no longer exists is skipped. Errors: `Path` exactly if the text is no path, or `OutOfMemory`; the
+/// closure is then not called, and the document is dropped.
 ///
 /// ```text
 /// let document = read_document(alloc, b"[1, 2, 3]")?;

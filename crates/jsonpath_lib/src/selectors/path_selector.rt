@@ -90,8 +90,8 @@ pub fn selector_as<'a, T: DeserializeOwned>(json: &'a Value) -> PathSelectorAs<'
 
 impl<'a, T: DeserializeOwned> PathSelectorAs<'a, T> {
     /// Deserializes each value that the path selects in the document to a `T`, in the path's order, with duplicates.
-    /// Errors: `Path` exactly if the text is no path; `Serde` if a selected value contains a number that is not an
-    /// integer of 64 bits, or if `serde_json` can't make a `T` of one; or `OutOfMemory`.
+    /// Errors: `Path` exactly if the text is no path; `Serde` if a value contains a number that is neither an `i64` nor
+    /// a `u64`, as any fraction, even if `T` is `f64`, or if `serde_json` can't make a `T` of it; or `OutOfMemory`.
     ///
     /// ```text
     /// let document = read_document(alloc, b"[1, 2, 3]")?;

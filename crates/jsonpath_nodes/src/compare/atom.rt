@@ -25,7 +25,7 @@ pub enum Atom<'a> {
     Number(Decimal),
     /// A text, without quotes or backslashes.
     Text(&'a str),
-    /// A number that is not an integer of 64 bits.
+    /// A number that is neither an `i64` nor a `u64`, as any fraction.
     Unread,
     /// An array, whatever is in it.
     List,
@@ -33,8 +33,7 @@ pub enum Atom<'a> {
     Object,
 }
 
-/// Converts the number to a decimal; `None` if it is not an integer of 64 bits, that is, if neither `as_i64` nor
-/// `as_u64` reads it.
+/// Converts the number to a decimal; `None` if it is neither an `i64` nor a `u64`, as any fraction.
 ///
 /// ```text
 /// let seven = to_num(&Number::from(7u64));
@@ -53,8 +52,7 @@ pub fn to_num(number: &Number) -> Option<Decimal>
 }
 
 impl<'a> Atom<'a> {
-    /// The atom of a value: the content of a boolean, a text or an integer of 64 bits, and of all else the kind
-    /// alone.
+    /// The atom of a value: its kind, with the content of a boolean, a text, or a number that is an `i64` or a `u64`.
     ///
     /// ```text
     /// assert!(rt; matches!(Atom::of(&Value::Null), Atom::Null));

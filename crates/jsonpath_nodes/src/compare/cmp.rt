@@ -269,7 +269,7 @@ pub fn holds_atoms(op: FilterToken, left: &Atom<'_>, right: &Atom<'_>) -> bool
 }
 
 /// Whether two values satisfy a comparison. The token is one of the six that compare. Two arrays, two objects and
-/// values of different kinds satisfy `!=` alone, and so does a number that is not an integer of 64 bits.
+/// values of different kinds satisfy `!=` alone, and so does a number that is neither an `i64` nor a `u64`.
 ///
 /// ```text
 /// let (one, two) = (Value::from(1u64), Value::from(2u64));

@@ -45,7 +45,7 @@ pub trait Mark<'a>: Drop + Sized {
 
     ghost members_stand: { Self.Members → Location };
 
-    /// The value.
+    /// The value of the node.
     fn value(&self) -> &'a Value
         ensures { view result.now ≡ content self.now };
 

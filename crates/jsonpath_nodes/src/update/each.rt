@@ -9,8 +9,8 @@ use crate::place::location::Location;
 use crate::update::single::update_at;
 use serde_json::Value;
 
-/// `update_at` at each of the locations, one after another, each in what the earlier updates left. The closure gets
-/// the value there; `Some` replaces it, `None` removes the member or item. It is not called at the root, nor at a
+/// Calls `update_at` at each of the locations, one after another, each on what the earlier updates left. The closure
+/// gets the value there; `Some` replaces it, `None` removes the member or item. It is not called at the root, nor at a
 /// location that doesn't exist.
 ///
 /// ```text

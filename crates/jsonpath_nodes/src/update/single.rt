@@ -14,10 +14,10 @@ use serde_json::{Map, Value};
 /// Updates the value at one location by a closure.
 ///
 /// The closure gets the value there; `Some` replaces it, `None` removes the member or item, and later items of the
-/// array move down by one. Returns whether the closure was called. At the root, and if the location doesn't exist,
-/// it is not called and nothing changes. A name selects in objects alone, an index in arrays alone.
+/// array move down by one. Returns whether the closure was called. At the root, and if the location doesn't exist, it
+/// is not called and nothing changes. A name selects in objects alone, an index in arrays alone.
 ///
-/// The update is made in place without taking memory, so the error `NoMemory` never comes.
+/// The update takes no memory, so the error that the type allows never comes.
 ///
 /// ```text
 /// let mut document = read_document(alloc, b"[1, 2]")?;

@@ -325,7 +325,8 @@ impl FilterToken {
     }
 }
 
-/// One token of a path's token list, as a visitor passes it on. Spans keep their quotes and backslashes.
+/// One token of a path's token list, which says in one row what the syntax tree says. The span of a name covers it as
+/// it is in the path text, with its quotes and backslashes.
 ///
 /// ```text
 /// let path = PathParser::compile(alloc, "$.*")?;

@@ -66,7 +66,7 @@ pub enum Inner {
 #[cycle(tree)]
 #[derive(Drop)]
 pub enum Condition {
-    /// The path selects something.
+    /// A path alone: it has to select something.
     Lone(ParserNode),
     /// Two sides and the comparison between them.
     Compare(Term, FilterToken, Term),
@@ -74,7 +74,7 @@ pub enum Condition {
     Join(FilterToken, Box<Condition>, Box<Condition>),
 }
 
-/// A side of a comparison.
+/// One side of a comparison in a filter: a path or a literal.
 ///
 /// ```text
 /// let path = PathParser::compile(alloc, "$[?(@.price < 10)]")?;

@@ -23,8 +23,8 @@ use jsonpath_paths::{ParseToken, ParserNode, PathParser};
 use serde_json::Value;
 use std::alloc::Global;
 
-/// The nodes that the path selects in the value, in the path's order, with duplicates. They borrow the value alone.
-/// The only error is `OutOfMemory`.
+/// The nodes that the path selects in the value, in the path's order, with duplicates. They borrow only the value. The
+/// only error is `OutOfMemory`.
 ///
 /// ```text
 /// let document = read_document(alloc, b"[1, 2, 3]")?;
@@ -42,11 +42,11 @@ pub fn select_path<'a>(
     spots_by_parts(alloc, json, path.parts())
 }
 
-/// The nodes that the path with this token list selects in the value, in the path's order, with duplicates. They
-/// borrow the value alone.
+/// The nodes that the path with this token list selects in the value, in the path's order, with duplicates. They borrow
+/// only the value. The only error is `OutOfMemory`.
 ///
-/// The list has to be that of some path, of any depth, and the text has to have a word or a quoted name at each of
-/// its spans (`tokens_fit` tests both); the text need not be a path. The only error is `OutOfMemory`.
+/// A caller has to prove, by `tokens_fit`, say, that the tokens are the token list of some path, nested to any depth,
+/// and that the text has a word or a quoted name at each span in them. The text itself need not be a path.
 ///
 /// ```text
 /// let document = read_document(alloc, br#"{"a": 1}"#)?;

@@ -12,7 +12,8 @@ use serde_json::Value;
 use std::alloc::{AllocError, Global};
 
 /// The JSON text of a list of values: their compact texts in order, joined by commas, in brackets. Errors: `Serde`
-/// exactly if one of them contains, at any depth, a number that is not an integer of 64 bits, or `OutOfMemory`.
+/// exactly if one of them contains, at any depth, a number that is neither an `i64` nor a `u64`, as any fraction; or
+/// `OutOfMemory`.
 ///
 /// ```text
 /// let document = read_document(alloc, b"[1, \"b\"]")?;

@@ -13,7 +13,7 @@ use std::alloc::Global;
 use std::error::Error;
 use std::fmt;
 
-/// Why updates by a closure that may return an error ended.
+/// Why updates by a closure that may return an error ended before the last one.
 ///
 /// ```text
 /// let refuse = &mut |_old: &Value| Err::<Option<Value>, u8>(7);

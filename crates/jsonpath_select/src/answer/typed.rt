@@ -9,8 +9,9 @@ use serde::DeserializeOwned;
 use serde_json::{Error, Value};
 use std::alloc::Global;
 
-/// Deserializes each value to a `T`, in order. Errors: `Serde` if one of them contains a number that is not an
-/// integer of 64 bits, or if `serde_json` can't make a `T` of one; or `OutOfMemory`.
+/// Deserializes each value to a `T`, in the list's order. Errors: `Serde` if a value contains a number that is neither
+/// an `i64` nor a `u64`, as any fraction, even if `T` is `f64`, or if `serde_json` can't make a `T` of it; or
+/// `OutOfMemory`.
 ///
 /// ```text
 /// let document = read_document(alloc, b"[[1, 2], [3]]")?;

@@ -42,8 +42,8 @@ pub struct PathParts<'p> {
     pub tokens: &'p [ParseToken],
 }
 
-/// A compiled path: one that borrows its text, one that owns it, or a shared one. Calls with a `&Value` select in
-/// it, calls with a `&mut Value` change it at what the path selects.
+/// A compiled path: one that borrows its text, one that owns it, or a shared one. Its calls with a `&Value` select in
+/// that, those with a `&mut Value` change it where the path selects.
 ///
 /// ```text
 /// let mut document = read_document(alloc, b"[1, 2, 3]")?;
@@ -56,7 +56,7 @@ pub trait AnyPath {
     // The text of the path.
     ghost spelling: { Self → List ℕ };
 
-    /// Its text, its syntax tree and its token list. It takes no memory.
+    /// The path's text, syntax tree and token list. It takes no memory.
     ///
     /// ```text
     /// let path = compile_path(alloc, "$.*")?;
@@ -121,9 +121,9 @@ pub trait AnyPath {
         locations_of_selected_spots(alloc, spots.as_slice())
     }
 
-    /// The selected values as a JSON text: `[`, their compact texts joined by `,`, and `]`. Errors: those of
-    /// `select`, and `Serde` exactly if one of the values contains, at any depth, a number that is not an integer of
-    /// 64 bits.
+    /// The selected values as a JSON text: `[`, their compact texts joined by `,`, and `]`. Errors: those of `select`,
+    /// and `Serde` exactly if one of the values contains, at any depth, a number that is neither an `i64` nor a `u64`,
+    /// as any fraction.
     ///
     /// ```text
     /// let document = read_document(alloc, b"[1, 2, 3]")?;
@@ -138,8 +138,9 @@ pub trait AnyPath {
         list_to_text(alloc, found.as_slice())
     }
 
-    /// Deserializes each selected value to a `T`, in order. Errors: those of `select`, and `Serde` if one of the
-    /// values contains a number that is not an integer of 64 bits, or if `serde_json` can't make a `T` of one.
+    /// Deserializes each selected value to a `T`, in the path's order, with duplicates. Errors: those of `select`, and
+    /// `Serde` if a value contains a number that is neither an `i64` nor a `u64`, as any fraction, even if `T` is
+    /// `f64`, or if `serde_json` can't make a `T` of it.
     ///
     /// ```text
     /// let document = read_document(alloc, b"[1, 2, 3]")?;
@@ -160,8 +161,8 @@ pub trait AnyPath {
         list_to_typed(alloc, found.as_slice())
     }
 
-    /// The number of values that the path selects in the document, duplicates included. It takes the memory of the
-    /// list. The only error is `OutOfMemory`.
+    /// The number of values that the path selects in the document, duplicates included. Their list is made to be
+    /// counted. The only error is `OutOfMemory`.
     ///
     /// ```text
     /// let document = read_document(alloc, b"[1, 2, 3]")?;
@@ -176,8 +177,8 @@ pub trait AnyPath {
         Ok(found.len())
     }
 
-    /// The first of the values that the path selects, in the path's order, or `None`. It borrows the document alone.
-    /// The only error is `OutOfMemory`.
+    /// The first of the values that the path selects, in the path's order, or `None`. It borrows only the document. The
+    /// only error is `OutOfMemory`.
     ///
     /// ```text
     /// let document = read_document(alloc, b"[1, 2, 3]")?;
@@ -263,10 +264,9 @@ pub trait AnyPath {
         Ok(())
     }
 
-    /// Calls the closure with each selected value, in document order, each location once: `Some` replaces the value,
-    /// `None` removes it. Each update is made in what the earlier ones left; a location that no longer exists is
-    /// skipped, and so is the root. The only error is `OutOfMemory`; then the document is unchanged and the closure
-    /// was not called.
+    /// Calls the closure once for each selected location, in document order, with the value that the earlier updates
+    /// left there: `Some` replaces the value, `None` removes it. A location that no longer exists is skipped, and so is
+    /// the root. The only error is `OutOfMemory`; then the document is unchanged and the closure was not called.
     ///
     /// ```text
     /// let mut document = read_document(alloc, b"[1, 2, 3]")?;
@@ -292,12 +292,10 @@ pub trait AnyPath {
         Ok(())
     }
 
-    /// Calls the closure with a reference to each selected value, in document order, each location once: `Some`
-    /// replaces the value, `None` removes it. Each update is made in what the earlier ones left; a location that no
-    /// longer exists is skipped, and so is the root.
-    ///
-    /// The closure's first error ends the updates, as `Refused`; the updates before it remain. The only other error
-    /// is `Unasked`, with `OutOfMemory`.
+    /// Calls the closure once for each selected location, in document order, with a reference to the value that the
+    /// earlier updates left there: `Some` replaces the value, `None` removes it. A location that no longer exists is
+    /// skipped, and so is the root. The closure's first error ends the updates, as `Refused`; the updates before it
+    /// remain. The only other error is `Unasked`, with `OutOfMemory`.
     ///
     /// ```text
     /// let mut document = read_document(alloc, b"[1, \"x\", 3]")?;

@@ -53,12 +53,12 @@ pub trait NodeVisitor {
     /// Whether it has failed; from then on `tokens` means nothing.
     ghost has_failed: { Self → Bool };
 
-    /// Takes one token more, or fails, as when memory runs out.
+    /// Receives the next token, or fails, as when memory runs out.
     fn visit_token(&mut self, token: &ParseToken)
         ensures stays_failed { has_failed self.old ≡ true → has_failed self.new ≡ true }
         ensures given { has_failed self.new ≡ false → tokens self.new ≡ tokens self.old ++ token.now ∷ [] };
 
-    /// Called when a side of a comparison has ended. It takes no token and does not fail.
+    /// Called when one side of a comparison has ended. It receives no token and does not fail.
     fn end_term(&mut self)
         ensures failed { has_failed self.new ≡ has_failed self.old }
         ensures tokens { tokens self.new ≡ tokens self.old }

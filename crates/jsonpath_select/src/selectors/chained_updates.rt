@@ -85,9 +85,9 @@ impl<P: AnyPath> HeldPair<P, Value> {
         }
     }
 
-    /// Calls the closure with each selected value, in document order, each location once: `Some` replaces the value,
-    /// `None` removes it. Each update is made in what the earlier ones left; a location that no longer exists is
-    /// skipped, and so is the root. Errors are those of `delete`; the closure was not called then.
+    /// Calls the closure once for each selected location, in document order, with the value that the earlier updates
+    /// left there: `Some` replaces the value, `None` removes it. A location that no longer exists is skipped, and so is
+    /// the root. Errors are those of `delete`; the closure was not called then.
     ///
     /// ```text
     /// let mut held = SelectorMut::new();

@@ -13,7 +13,7 @@ use serde_json::Value;
 use std::alloc::Global;
 use std::marker::Model;
 
-/// The value of a selector or update type: an owned one, or a reference.
+/// What a selector or an update type has as its value: a `Value` of its own, or a reference to one.
 ///
 /// ```text
 /// let document = read_document(alloc, b"7")?;
@@ -24,7 +24,7 @@ pub trait HeldValue {
     // The value.
     ghost held: { Self → Value };
 
-    /// The value itself.
+    /// A reference to the value.
     ///
     /// ```text
     /// let document = read_document(alloc, b"7")?;
@@ -50,7 +50,7 @@ impl<'a> HeldValue for &'a Value {
     }
 }
 
-/// A pair of a path, or none, and a value, or none, each the one set last. [`JsonSelector`](crate::JsonSelector) and
+/// A path, or none, and a value, or none, each the one set last. [`JsonSelector`](crate::JsonSelector) and
 /// [`Selector`](crate::Selector) are such pairs, which borrow the value, and so are
 /// [`JsonSelectorMut`](crate::JsonSelectorMut) and [`SelectorMut`](crate::SelectorMut), which own it and change it.
 ///
@@ -122,8 +122,8 @@ impl<P: AnyPath, V: HeldValue> HeldPair<P, V> {
     }
 
     /// The selected values as a JSON text: `[`, their compact texts joined by `,`, and `]`. Errors: those of
-    /// `select_locations`, and `Serde` exactly if one of the values contains, at any depth, a number that is not an
-    /// integer of 64 bits.
+    /// `select_locations`, and `Serde` exactly if one of the values contains, at any depth, a number that is neither an
+    /// `i64` nor a `u64`, as any fraction.
     ///
     /// ```text
     /// let mut held = SelectorMut::new();
@@ -139,9 +139,9 @@ impl<P: AnyPath, V: HeldValue> HeldPair<P, V> {
         path.select_as_str(alloc, value)
     }
 
-    /// Deserializes each selected value to a `T`, in order. Errors: those of `select_locations`, and `Serde` if one
-    /// of the values contains a number that is not an integer of 64 bits, or if `serde_json` can't make a `T` of
-    /// one.
+    /// Deserializes each selected value to a `T`, in the path's order, with duplicates. Errors: those of
+    /// `select_locations`, and `Serde` if a value contains a number that is neither an `i64` nor a `u64`, as any
+    /// fraction, even if `T` is `f64`, or if `serde_json` can't make a `T` of it.
     ///
     /// ```text
     /// let document = read_document(alloc, b"[1, 2, 3]")?;
@@ -159,7 +159,7 @@ impl<P: AnyPath, V: HeldValue> HeldPair<P, V> {
         path.select_as(alloc, value)
     }
 
-    /// The number of values that the path selects in the value, duplicates included. Errors are those of
+    /// The number of values that the path selects in the pair's value, duplicates included. Errors are those of
     /// `select_locations`.
     ///
     /// ```text
@@ -176,7 +176,7 @@ impl<P: AnyPath, V: HeldValue> HeldPair<P, V> {
         path.count(alloc, value)
     }
 
-    /// Whether the path selects anything in the value. Errors are those of `select_locations`.
+    /// Whether the path selects anything in the pair's value. Errors are those of `select_locations`.
     ///
     /// ```text
     /// let mut held = SelectorMut::new();

@@ -12,7 +12,7 @@ use serde_json::Value;
 use std::alloc::Global;
 
 impl<'a, P: AnyPath> HeldPair<P, &'a Value> {
-    /// Replaces the value. It takes no memory. The name is the Rust crate's.
+    /// Sets the value to search, in place of the one before. It takes no memory. The name is the Rust crate's.
     ///
     /// ```text
     /// let document = read_document(alloc, b"[1, 2, 3]")?;
@@ -28,7 +28,7 @@ impl<'a, P: AnyPath> HeldPair<P, &'a Value> {
         self
     }
 
-    /// Changes nothing: no answer is cached. The name is the Rust crate's.
+    /// Does nothing, since no answer is cached. It is here for users of the Rust crate.
     ///
     /// ```text
     /// let document = read_document(alloc, b"[1, 2, 3]")?;
@@ -54,9 +54,9 @@ impl<'a, P: AnyPath> HeldPair<P, &'a Value> {
         Ok((path, value))
     }
 
-    /// The values that the path selects in the value, in the path's order, with duplicates. They borrow the value
-    /// alone. Errors: `EmptyPath` exactly if there is no path, `EmptyValue` exactly if there is a path and no value,
-    /// else `OutOfMemory` alone.
+    /// The selected values, in the path's order, with duplicates. They borrow only the searched value. Errors:
+    /// `EmptyPath` exactly if there is no path, `EmptyValue` exactly if there is a path and no value, else
+    /// `OutOfMemory` alone.
     ///
     /// ```text
     /// let document = read_document(alloc, b"[1, 2, 3]")?;
@@ -73,8 +73,8 @@ impl<'a, P: AnyPath> HeldPair<P, &'a Value> {
         path.select(alloc, value)
     }
 
-    /// The nodes that the path selects in the value, each a value with its location, in the path's order, with
-    /// duplicates. They borrow the value alone. Errors are those of `select`.
+    /// The selected nodes, each a value with its location, in the path's order, with duplicates. They borrow only the
+    /// searched value. Errors are those of `select`.
     ///
     /// ```text
     /// let document = read_document(alloc, b"[1, 2, 3]")?;
@@ -92,8 +92,8 @@ impl<'a, P: AnyPath> HeldPair<P, &'a Value> {
         path.select_spots(alloc, value)
     }
 
-    /// The first of the values that the path selects, in the path's order, or `None`. It borrows the value alone.
-    /// Errors are those of `select`.
+    /// The first of the selected values, in the path's order, or `None`. It borrows only the searched value. Errors are
+    /// those of `select`.
     ///
     /// ```text
     /// let document = read_document(alloc, b"[1, 2, 3]")?;

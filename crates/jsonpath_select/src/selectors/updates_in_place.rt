@@ -82,8 +82,8 @@ impl<P: AnyPath> HeldPair<P, Value> {
         path.set_in(alloc, value, new)
     }
 
-    /// Calls the closure with each selected value, as `replace_with` does, which chains: `Some` replaces the value,
-    /// `None` removes it. Here a caller's proof knows the state after an error, too: nothing has changed.
+    /// Calls the closure once for each selected location, as `replace_with` does, which chains: `Some` replaces the
+    /// value, `None` removes it. Here a caller's proof knows the state after an error, too: nothing has changed.
     ///
     /// ```text
     /// let mut held = SelectorMut::new();
@@ -113,10 +113,10 @@ impl<P: AnyPath> HeldPair<P, Value> {
         path.replace_in(alloc, value, fun)
     }
 
-    /// Calls a closure that may return an error with a reference to each selected value, in document order, each
-    /// location once: `Some` replaces the value, `None` removes it; the root, and a location that no longer exists,
-    /// are skipped. The closure's first error ends the updates, as `Refused`; the updates before it remain.
-    /// `Unasked` has the errors of `delete`.
+    /// Calls the closure once for each selected location, in document order, with a reference to the value that the
+    /// earlier updates left there: `Some` replaces the value, `None` removes it. A location that no longer exists is
+    /// skipped, and so is the root. The closure's first error ends the updates, as `Refused`; the updates before it
+    /// remain. `Unasked` has the errors of `delete`.
     ///
     /// ```text
     /// let mut held = SelectorMut::new();

@@ -6,7 +6,7 @@ ghost use base.Fml.{ftrue};
 
 use std::marker::Model;
 
-/// The results of the calls on a stream, in order. It has no content when the program runs.
+/// The results of the calls on a stream, in order, for proofs alone: at run time the type has no size.
 #[derive(Drop)]
 pub struct History {
     ghost answers: { List CallAnswer } by { coded_list (coded_result (coded_list coded_ℕ) coded_bool) },
