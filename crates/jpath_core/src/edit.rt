@@ -24,11 +24,11 @@ use std::alloc::Global;
 /// The result of an edit: the edited text, and what the path selects.
 #[derive(Drop)]
 pub struct Edited {
-    /// Its text.
+    /// The text of the edited document.
     pub text: Vec<u8>,
-    /// How many locations the path selects below the root.
+    /// How many locations below the root the path selects.
     pub targets: usize,
-    /// Whether it selects the root, which is no target.
+    /// Whether the path selects the root, which no edit changes.
     pub selects_root: bool,
 }
 

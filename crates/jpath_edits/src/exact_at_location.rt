@@ -18,7 +18,7 @@ fn exact_child<'v, 'a>(value: &'v Exact<'a>, step: &LocStep) -> Option<&'v Exact
     }
 }
 
-/// The value of the exact tree at a location, if there is one.
+/// The value at a location of a document's exact tree, in which numbers are their digits; `None` if there is none.
 pub fn exact_value_at_location<'v, 'a>(
     root: &'v Exact<'a>,
     location: &Location,

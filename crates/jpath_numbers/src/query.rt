@@ -52,14 +52,14 @@ impl<'a> Query<'a> {
         })
     }
 
-    /// The path's text.
+    /// The text of the path.
     pub fn text(&self) -> &'a str
         ensures { result.now ≡ self.now.path }
     {
         self.path.text()
     }
 
-    /// The path itself.
+    /// The compiled path.
     pub fn path(&self) -> &PathParser<'a>
         ensures { result.now ≡ self.now.path }
     {

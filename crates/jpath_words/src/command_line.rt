@@ -118,7 +118,7 @@ pub enum Color {
     Never,
 }
 
-/// Which options without arguments are set.
+/// Which of the options that take no argument are on the command line.
 #[derive(Clone, Copy, Debug, Drop)]
 pub struct Flags {
     pub raw: bool,
@@ -143,12 +143,12 @@ pub struct Flags {
 #[derive(Drop)]
 pub struct Words<'a> {
     pub flags: Flags,
-    /// The paths of `-e`, in their order.
+    /// The paths of the options `-e`, in the order of the command line.
     pub paths: Vec<&'a str>,
     pub rows: Option<&'a str>,
-    /// The edits, in their order.
+    /// The edits, in the order of the command line.
     pub edits: Vec<EditWords<'a>>,
-    /// The words that belong to no option: the path and the files.
+    /// The words on the command line that belong to no option: the path and the files.
     pub rest: Vec<&'a str>,
 }
 

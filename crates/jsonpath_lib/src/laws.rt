@@ -31,8 +31,8 @@ pub use jsonpath_select::laws::{
 use serde_json::Value;
 
 /// Lemma: if a path selects one location alone and that exists, deleting by it is the single update that puts null
-/// there, and removing is the one that removes the value there. Both leave all else, and at the root they change
-/// nothing; `putting_at_one_location` says what a single update leaves.
+/// there, and removing is the one that removes the value there. Both leave all else as it is, and at the root they
+/// change nothing; `putting_at_one_location` says what a single update leaves.
 ///
 /// ```text
 /// laws::deletes_and_removes_selected_location();

@@ -177,9 +177,10 @@ pub fn candidates_of_disjoint_in_descents()
     ensures { DisjointInOneDescent }
 {}
 
-/// Lemma: distinct locations of equal depth are disjoint. Disjoint locations are apart, and no location lies at or
-/// below two of them. A step that selects no child of a value twice leads from disjoint locations to disjoint ones
-/// (`*` if the names ascend at each of them); a filter's result is disjoint, too, and so are its candidates.
+/// Lemma: locations are disjoint if no two are the same and none is below another; so distinct ones of equal depth are.
+/// Disjoint locations are apart, and no location is at or below two of them. A step that selects no child of a value
+/// twice leads from disjoint locations to disjoint ones (`*` if the names ascend at each of them). A filter's result is
+/// disjoint, too, and so are its candidates.
 ///
 /// ```text
 /// laws::steps_keep_locations_disjoint();

@@ -88,7 +88,7 @@ pub fn named_member_from_each<'a, M: Mark<'a>>(
     Ok(found)
 }
 
-/// Adds the member of this name to a list, if the node is an object that has one. The name is taken literally.
+/// Appends to a list the member of this name, if the node is an object that has one. The name is taken literally.
 ///
 /// ```text
 /// let mut found: Vec<&Value> = Vec::new(alloc);

@@ -8,7 +8,7 @@ use jsonpath_select::{
 use serde_json::Value;
 use std::alloc::Global;
 
-/// A way from a path and a document to an answer.
+/// A way to select by a path in a document: by one of the selectors, or by the token list.
 #[derive(Clone, Copy)]
 pub enum Method {
     /// `JsonSelector`.
@@ -22,7 +22,7 @@ pub enum Method {
 }
 
 impl Method {
-    /// What the way is called.
+    /// The name of the way, for a message.
     pub fn name(self) -> &'static str {
         match self {
             Method::JsonSelector => "JsonSelector",

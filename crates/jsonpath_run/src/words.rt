@@ -34,7 +34,7 @@ pub enum Command {
 /// ```
 #[derive(Clone, Copy)]
 pub struct Call<'w, 'a> {
-    /// What is asked for.
+    /// The command that the words name.
     pub command: Command,
     /// The texts of the paths, in the words' order. They may have syntax errors.
     pub paths: &'w [&'a str],

@@ -100,7 +100,7 @@ pub fn one_location_answers_one_value()
     one_tree_per_text();
 }
 
-/// Lemma: what a path selects can be computed by any syntax tree of its text: there is only one.
+/// Lemma: a path text has one syntax tree, so what it selects can be computed by any tree of the text.
 ///
 /// ```text
 /// laws::selects_by_any_tree();

@@ -64,7 +64,7 @@ pub fn selects_exactly(
     Ok(found.len() == count)
 }
 
-/// What the path selects by a `JsonSelector`, and by a `Selector`: the two lists are equal.
+/// What the path selects by a `JsonSelector`, and what by a `Selector`: the two lists are equal.
 pub fn select_by_both_selectors<'a>(
     alloc: Global,
     json: &'a Value,

@@ -25,7 +25,7 @@ pub trait Cmp {
     fn cmp_bool(&self, left: bool, right: bool) -> bool
         ensures { result ≡ pair comparison (truth left) (truth right) };
 
-    /// Whether it holds between two numbers, exactly.
+    /// Whether the comparison holds between two numbers, which are compared exactly.
     fn cmp_num(&self, left: Decimal, right: Decimal) -> bool
         ensures { result ≡ pair comparison (decimal (decimal_units left)) (decimal (decimal_units right)) };
 
@@ -33,7 +33,8 @@ pub trait Cmp {
     fn cmp_string(&self, left: &str, right: &str) -> bool
         ensures { result ≡ pair comparison (text left.now) (text right.now) };
 
-    /// Whether it holds between two values of different kinds: true for `!=` alone. The name is the Rust crate's.
+    /// Whether the comparison holds between two values of different kinds: true for `!=` alone. The name is the Rust
+    /// crate's.
     fn default(&self) -> bool
         ensures { result ≡ is_not_equal comparison };
 }

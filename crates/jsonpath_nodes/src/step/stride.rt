@@ -22,7 +22,7 @@ use std::borrow::CowStr;
 /// ```
 #[derive(Drop)]
 pub enum Selection<'t> {
-    /// All of them.
+    /// All children.
     Every,
     /// The member of this name.
     Named(CowStr<'t, Global>),
@@ -48,9 +48,9 @@ pub enum Selection<'t> {
 /// ```
 #[derive(Drop)]
 pub struct Stride<'t> {
-    /// Whether `..` comes before it: it is applied to each value and to all its descendants.
+    /// Whether `..` comes before the step: it is then applied to each value and to all its descendants.
     pub leaves: bool,
-    /// What it selects among the children of each value.
+    /// What the step selects among the children of each value.
     pub selection: Selection<'t>,
 }
 

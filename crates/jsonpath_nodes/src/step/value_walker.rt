@@ -47,7 +47,7 @@ impl ValueWalker {
         plain_step_from_each(alloc, spots, &PlainStep::Every)
     }
 
-    /// A name: the member of that name of each object that has one. The name is taken literally.
+    /// A name: the member of that name of each object among the nodes that has one. The name is taken literally.
     ///
     /// ```text
     /// let found = ValueWalker::next_with_str(alloc, items.as_slice(), "b")?;
@@ -80,8 +80,8 @@ impl ValueWalker {
         plain_step_from_each(alloc, spots, &PlainStep::Listed(names))
     }
 
-    /// An index as a path writes it: the item there of each array that has one. Below zero it counts from the end, and
-    /// one before the front is the first item, as `abs_index` says.
+    /// An index as a path writes it: the item there of each array among the nodes that has one. Below zero it counts
+    /// from the end, and one before the front is the first item, as `abs_index` says.
     ///
     /// ```text
     /// let last = ValueWalker::next_with_num(alloc, items.as_slice(), -1)?;

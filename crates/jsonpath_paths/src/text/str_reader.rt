@@ -47,9 +47,9 @@ impl Error for ReaderError {}
 /// ```
 #[derive(Clone, Copy, Debug, PartialEq, Eq)]
 pub struct StrRange {
-    /// The position in the text: how many of its bytes come before it.
+    /// Where the span begins: how many bytes of the text come before it.
     pub pos: usize,
-    /// How many bytes it has.
+    /// The length of the span, in bytes.
     pub offset: usize,
 }
 
@@ -67,7 +67,7 @@ impl StrRange {
     }
 }
 
-/// A reader of a text, character by character, at a position in it.
+/// Reads a text character by character. It has a position in the text.
 ///
 /// ```text
 /// let mut reader = StrReader::new("a가b");

@@ -16,9 +16,9 @@ use crate::token::tokens::{FilterToken, ParseToken};
 #[cycle(tree)]
 #[derive(Drop)]
 pub struct ParserNode {
-    /// Whether it begins with `$`.
+    /// Whether the path begins with `$`.
     pub absolute: bool,
-    /// Its steps, in the order of the text.
+    /// The steps of the path, in the order of the text.
     pub steps: Vec<ParserStep>,
 }
 
@@ -32,11 +32,11 @@ pub struct ParserNode {
 #[cycle(tree)]
 #[derive(Drop)]
 pub struct ParserStep {
-    /// Whether two dots begin it, so that it selects among the children of each node and of all its descendants.
+    /// Whether two dots begin the step, so that it selects among the children of each node and of all its descendants.
     pub leaves: bool,
-    /// Whether the segment is written in brackets.
+    /// Whether the step is written in brackets.
     pub bracket: bool,
-    /// What it selects.
+    /// What the step selects.
     pub inner: Inner,
 }
 

@@ -5,8 +5,8 @@ ghost use Rattle.std.specs.Prelude.{◌≡◌, ◌++◌, ◌∷◌, [], List, Bo
 use crate::text::str_reader::StrRange;
 use crate::token::tokens::ParseToken;
 
-/// A receiver of the token list of a syntax tree, token by token (`ParseToken`). `V` is what the reader makes of a
-/// span, as `&str`.
+/// Receives the token list of a syntax tree, one `ParseToken` at a time. `V` is what its reader makes of a span of the
+/// path text, as `&str`.
 ///
 /// ```text
 /// impl<V> ParserTokenHandler<V> for Collector {
@@ -45,7 +45,7 @@ pub trait ParserTokenHandler<V> {
     /// What it accepts as the reading of a span, as the part of the text there. By default anything.
     ghost takes: { Self → StrRange → V → Type 0 } = { λ _ _ _. Unit {0} };
 
-    /// Takes one token more, or fails, as when memory runs out. It may call `reader` on the spans of the token; the
+    /// Receives the next token, or fails, as when memory runs out. It may call `reader` on the spans of the token; the
     /// result has to be what this receiver `takes` there.
     fn handle<R: Fn(&StrRange) -> V>(&mut self, token: &ParseToken, reader: &R)
         requires may { MayRead (R.pre reader.now) token.now }
@@ -54,7 +54,7 @@ pub trait ParserTokenHandler<V> {
         ensures given { has_failed self.new ≡ false → tokens self.new ≡ tokens self.old ++ token.now ∷ [] }
         ensures still_takes { (s : StrRange) (v : V) → takes self.old s v → takes self.new s v };
 
-    /// Whether it has failed.
+    /// Whether this receiver has failed.
     fn failed(&self) -> bool
         ensures { result ≡ has_failed self.now };
 }

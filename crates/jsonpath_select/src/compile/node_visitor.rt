@@ -64,7 +64,7 @@ pub trait NodeVisitor {
         ensures tokens { tokens self.new ≡ tokens self.old }
     {}
 
-    /// Whether it has failed.
+    /// Whether this receiver has failed.
     fn failed(&self) -> bool
         ensures { result ≡ has_failed self.now };
 
