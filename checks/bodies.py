@@ -2,8 +2,8 @@
 
 Each names a public call, the file with its contract, and the goal at which the prover has to refuse the body. The call's
 head and clauses are taken from that file as they stand there, and the body is put under them in a crate above the
-libraries. Beside it, under the same clauses, stands a body that only makes the call: it has to be proved, so that what is
-refused is the wrong body and not the clauses in their new place. All bodies of a crate are checked in one run.
+libraries. Beside those of a call, under the same clauses, stands a body that only makes the call: it has to be proved, so
+that what is refused is the wrong body and not the clauses in their new place. All bodies of a crate are checked in one run.
 
 A call that has its clauses by a trait has no such lines: there the file of the body says the head and the clause, and the
 body beside it shows that the call meets them.
@@ -73,6 +73,7 @@ class Body:
 
     def __init__(self, file):
         self.crate, self.name = file.split("/")[1], os.path.basename(file)[:-3]
+        self.right = self.name
         text = text_of(file)
         self.said = dict(re.findall(r"^(file|call|goal|head|clause): (.+)$", text, re.MULTILINE))
         self.lines = re.findall(r"^    (.*)$", text, re.MULTILINE)
@@ -180,12 +181,14 @@ def check(crate, bodies, uses):
     given = given_out(own)
     with tempfile.TemporaryDirectory() as room:
         os.makedirs(f"{room}/src")
-        names = []
+        names, calls = [], {}
         for body in bodies:
+            body.right = calls.setdefault((body.said["file"], body.call(body.head()), body.head()), body.name)
             for kind, lines in (("wrong", body.lines), ("right", [body.call(body.head())])):
-                names.append(f"{body.name}_{kind}")
-                with open(f"{room}/src/{names[-1]}.rt", "w", encoding="utf-8") as it:
-                    it.write(body.module(lines, given))
+                if kind == "wrong" or body.right == body.name:
+                    names.append(f"{body.name}_{kind}")
+                    with open(f"{room}/src/{names[-1]}.rt", "w", encoding="utf-8") as it:
+                        it.write(body.module(lines, given))
         with open(f"{room}/src/lib.rt", "w", encoding="utf-8") as it:
             it.write("\n".join(["//! Wrong bodies.", "#![tactic(auto)]", "", *[f"pub mod {it};" for it in names], ""]))
         return above.check(room, "bodies", libraries, own)
@@ -194,7 +197,7 @@ def check(crate, bodies, uses):
 def faults(body, said):
     """Why a run doesn't say that the body is refused at its goal and its call alone is proved."""
     found = []
-    if not re.search(rf"^fn bodies::{body.name}_right::{body.function}: proved$", said, re.MULTILINE):
+    if not re.search(rf"^fn bodies::{body.right}_right::{body.function}: proved$", said, re.MULTILINE):
         found.append("the call alone is not proved under its clauses")
     verdict = re.search(rf"^fn bodies::{body.name}_wrong::{body.function}: (.*)$", said, re.MULTILINE)
     if not verdict or verdict[1] == "proved":
@@ -231,7 +234,7 @@ LOGS = [
 def tries():
     """How many of the runs that are made up are told apart rightly, and how many not."""
     body = Body.__new__(Body)
-    body.crate, body.name, body.function, body.said = "made_up", "a", "f", {"goal": "returns"}
+    body.crate, body.name, body.right, body.function, body.said = "made_up", "a", "a", "f", {"goal": "returns"}
     outcomes = []
     for *lines, passes in MADE_UP:
         outcomes.append((not faults(body, "\n".join(lines))) == passes)
