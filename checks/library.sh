@@ -82,7 +82,10 @@ change "$select/toolchain/checked.a" turn_in_meaning
 refused 'a module that was changed' 1 'jsonpath_select-specs.Meaning*damaged'
 rm -rf "$copied" "$mine/app/out"
 
+printf jsonpath_streams: >> "$mine/../crates.txt"
 says 'a repository' 0 "install: the proved library is in $work/mine/crates" "$here/install" --into "$work/mine"
+[ "$(find "$work/mine" -maxdepth 2 | wc -l)" = 10 ]
+judge $? 'more is in the repository than its two crates, the five and crates.txt'
 mv "$mine/app/proofs" "$work/proofs"
 says 'the caller without its proof' 1 "fn app::found: proved$line*fn app::price: no proof*${line}logic=not-proved" within app rt check
 echo 'fn changed() -> u8 { true }' >> "$mine/jsonpath_streams/src/lib.rt"

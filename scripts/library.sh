@@ -1,6 +1,6 @@
 #!/bin/sh
-# The library as something already proved. Before its proofs ./test has --sums print the sums of the library's sources, and behind them
-# --note keep in crates/jsonpath_lib/out/proved the kit's name, these sums, and those of what was built. `./install --library` and
+# The library as something already proved. ./test has --sums print the sums of the library's sources before the proofs, and --note keep
+# these behind them in crates/jsonpath_lib/out/proved, with the kit's name and the sums of what was built. `./install --library` and
 # `./install --into` take what is noted there, as long as it is still so.
 set -u
 CDPATH=
@@ -45,7 +45,7 @@ verify() {
     proved=$(sed -n '1s/^# //p' "$here/$noted") kit=$(rt version)
     [ "$kit" = "$proved" ] || refuse 70 "the library was proved by $proved, and this is $kit: run ./test again"
     other=$({ sed -n 1p "$here/$noted" && sums_of_sources && sums out/rlib; } | diff "$here/$noted" - | sed -n 's/^[<>] [0-9a-f]*  //p' | head -n 1)
-    [ -z "$other" ] || refuse 70 "$other isn't what was proved: run ./test again"
+    [ -z "$other" ] || refuse 70 "$other isn't what was proved: run ./test, or unpack the archive, again"
 }
 
 cannot_write() { refuse 73 "$to can't be written"; }
