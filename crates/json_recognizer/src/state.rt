@@ -1,9 +1,9 @@
 //! The state, and the step.
-ghost use Rattle.std.specs.Prelude.{◌≡◌, ◌≤◌, ◌-◌, [], true, false};
+ghost use Rattle.std.specs.Prelude.{◌≡◌, ◌≤◌, ◌-◌, ℕ, List, [], true, false};
 ghost use Rattle.json_recognizer.specs.Machine.{step, refused, top_of, goes, first_in};
 ghost use Rattle.json_recognizer.specs.Grammar.{max_depth};
-ghost use Rattle.json_recognizer.specs.State.{frames, next_of, Reaches};
-ghost use Rattle.json_recognizer.specs.Stream.{is_over};
+ghost use Rattle.json_recognizer.specs.State.{frames, next_of};
+ghost use Rattle.json_recognizer.specs.Stream.{is_over, found_at, found_in};
 ghost use Rattle.json_recognizer.specs.declared.machine.Mode.TheVariants.{Value};
 
 use crate::class::Class;
@@ -24,8 +24,8 @@ pub struct State {
 pub fn start() -> State
     ensures is { next_of result ≡ goes Value [] max_depth }
     ensures depth { result.depth ≤ max_depth }
-    ensures goes_on { is_over result ≡ false }
-    ensures reaches { Reaches [] result }
+    ensures open { is_over result ≡ false }
+    ensures begins { (text : List ℕ) → found_at result text ≡ found_in text }
 {
     State {
         mode: Mode::Value,
