@@ -1,5 +1,5 @@
 -- Along a stream, piece by piece.
-use Rattle.std.proofs.Common.{◌≡◌, ℕ, ◌+◌, ◌-◌, ◌<◌, ◌≤◌, ◌^◌, min, Bool, true, false, cond, List, [], ◌∷◌, ◌++◌, length, take, drop, refl, sym, ap, ap₂, subst, ◌∙◌, arith, append_assoc, length-append, length-drop, length-take}
+use Rattle.std.proofs.Common.{◌≡◌, ℕ, ◌+◌, ◌-◌, ◌<◌, ◌≤◌, ◌^◌, min, Bool, true, false, cond, List, [], ◌∷◌, ◌++◌, length, take, drop, refl, sym, ap, ap₂, subst, ◌∙◌, arith, append_assoc, length-drop, length-take}
 use Rattle.std.specs.Prelude.{◌==◌, nat_eq, nat_lt, not, position, Some, None, sum_by, slice_range, if◌then◌else◌}
 use Rattle.std.specs.List.{starts_with, position_or_len}
 use Rattle.std.proofs.lemmas.List.{append-nil, drop-drop, drop-append-le, take_rest}
@@ -165,25 +165,6 @@ module _ (given_before given : List ℕ) (found feed passed : StreamBuffer) (so_
         );
   }
 
-  -- it ends meanwhile
-  pub passing_failed : (given₁ chunk : List ℕ) → passed.is_whole ≡ false → given₁ ≡ given ++ chunk → (more : List ℕ) × (given₁ ≡ given_before ++ more) × MayCome found more
-  passing_failed given₁ chunk unread is = (
-    so_far.more ++ chunk,
-    is ∙ ap (λ xs. xs ++ chunk) so_far.is_given ∙ append_assoc given_before so_far.more chunk,
-    (so_far.on chunk (λ ended. absurd (cc))).0,
-  )
-
-  pub passing_end : ((more : List ℕ) → MayCome feed more → behind_line (left feed ++ more) ≡ left passed ++ more)
-      → (more : List ℕ) × (given ≡ given_before ++ more) × ((later : List ℕ) → MayCome passed later → MayCome found (more ++ later) × (behind_piece kinds.Refused (piece_of found) (left found ++ (more ++ later)) ≡ left passed ++ later))
-  passing_end line = (
-    so_far.more,
-    so_far.is_given,
-    λ later may.
-        let may₁ : MayCome feed later = λ is. may (whole ∙ is) in
-        let before = so_far.on later may₁ in
-        (before.0, before.1 ∙ line later may₁),
-  )
-
 -- ---- a byte order mark
 
 pub mark_first : (xs : List ℕ) → starts_with nat_eq xs (239 ∷ 187 ∷ 191 ∷ []) ≡ true → xs ≡ 239 ∷ 187 ∷ 191 ∷ drop 3 xs
@@ -292,13 +273,6 @@ module _ (g h : Gives) (given_before given start : List ℕ) (feed found : Strea
             omega (arith, counts, so_far.counted, summed);
         asked = ask_one so_far.visited v taken.is_enough so_far.asked refl;
       }
-
-pub no_more_came : (xs ys zs : List ℕ) → ys ≡ xs ++ zs → ys ≡ xs → zs ≡ []
-no_more_came xs ys zs is same = empty zs (omega (arith, ap length is, ap length same, length-append xs zs))
-  where
-    empty : (zs : List ℕ) → length zs ≡ 0 → zs ≡ []
-    empty [] e = refl
-    empty (z ∷ zs) e = absurd (omega (arith, e))
 
 pub document_passed : (kind : Kind) (found next : StreamBuffer) (later : List ℕ) → kind ≡ kinds.Document → left next ≡ drop (length (piece_of found)) (left found) → behind_piece kind (piece_of found) (left found ++ later) ≡ left next ++ later
 document_passed kind found next later is lies =

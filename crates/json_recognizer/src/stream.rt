@@ -1,5 +1,5 @@
 //! Where a document of a stream ends, or its first wrong byte.
-ghost use Rattle.std.specs.Prelude.{◌≡◌, ◌≢◌, ◌<◌, ◌≤◌, ◌&&◌, ◌∷◌, ◌++◌, length, get_or, true, false, Bool, List, ℕ};
+ghost use Rattle.std.specs.Prelude.{◌≡◌, ◌<◌, ◌≤◌, ◌&&◌, ◌∷◌, ◌++◌, length, get_or, true, false, Bool, List, ℕ};
 ghost use Rattle.json_recognizer.specs.Classes.{class_of, is_plain, is_digit};
 ghost use Rattle.json_recognizer.specs.Grammar.{max_depth};
 ghost use Rattle.json_recognizer.specs.Machine.{is_final, step, goes};

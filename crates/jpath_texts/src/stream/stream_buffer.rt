@@ -3,7 +3,6 @@
 ghost use Rattle.std.specs.Prelude.{◌≡◌, ℕ, List, [], ◌++◌, ◌≤◌, ◌<◌, drop, length, true, false, Err, IfSome, IfNone, OnOk, OnErr, if◌then◌else◌};
 ghost use Rattle.jsonpath_streams.specs.DocumentEnds.{is_blank_text};
 ghost use Rattle.json_recognizer.specs.Grammar.{max_depth};
-ghost use Rattle.json_recognizer.specs.Stream.{is_over};
 ghost use Rattle.json_recognizer.specs.State.{frames};
 ghost use Rattle.json_recognizer.specs.Machine.{is_final};
 ghost use Rattle.jpath_texts.specs.Stream.{left, piece_of, mark_if, MayCome, IsSound, IsReady, IsFirstOf, blanks_len, behind_line};
