@@ -5,7 +5,7 @@ use Rattle.std.proofs.lemmas.List.{append-nil, drop-drop}
 use Rattle.json_recognizer.specs.Classes.{class_of}
 use Rattle.json_recognizer.specs.Grammar.{IsDocument, Begins, max_depth}
 use Rattle.json_recognizer.specs.Machine.{Next, goes, refused, step, is_final, after_all}
-use Rattle.json_recognizer.specs.State.{frames}
+use Rattle.json_recognizer.specs.State.{frames, next_of}
 use Rattle.json_recognizer.specs.Stream.{is_over_in, is_over, ends_number, later, found_by, found_from, found_at, found_in, or_later, IsFound}
 use Rattle.json_recognizer.specs.declared.class.Class.{Class}
 use Rattle.json_recognizer.specs.declared.class.Class.TheVariants.{Space, White, OpenBracket, OpenBrace, Quote}
@@ -43,6 +43,10 @@ module _ (m : Mode) (st : List Bool) (r : ℕ) (x : ℕ) (xs : List ℕ) where
 over_by : (m : Mode) (st : List Bool) (r : ℕ) (behind : Found) (over : Bool) → is_over_in m st ≡ over → found_by (goes m st r) behind ≡ cond over (Ends 1) (later 1 behind)
 over_by m st r behind over h = ap (λ b. cond b (Ends 1) (later 1 behind)) h
 
+over_or_later : (over : Bool) (behind : Found) → cond over (Ends 1) (later 1 behind) ≡ or_later (cond over (Ends 1) GoesOn) 1 behind
+over_or_later true behind = refl
+over_or_later false behind = refl
+
 -- by the class and the tests of the code
 module _ (s : State) (x : ℕ) (k : Class) (is : k ≡ class_of x) (ends : Bool) (test : ends ≡ (is_final s.mode (frames s.depth s.kinds) && ends_number k)) where
   here : ends ≡ (is_final s.mode (frames s.depth s.kinds) && ends_number (class_of x))
@@ -54,11 +58,16 @@ module _ (s : State) (x : ℕ) (k : Class) (is : k ≡ class_of x) (ends : Bool)
   pub leads_to : ends ≡ false → (next : Next) → step s.mode (frames s.depth s.kinds) (max_depth - s.depth) k ≡ next → (more : List ℕ) → found_at s (x ∷ more) ≡ found_by next (found_from next more)
   leads_to h next e more = one_byte s.mode (frames s.depth s.kinds) (max_depth - s.depth) x more next (sym here ∙ h) (ap (step s.mode (frames s.depth s.kinds) (max_depth - s.depth)) (sym is) ∙ e)
 
-  pub leads_over : ends ≡ false → (next : State) → step s.mode (frames s.depth s.kinds) (max_depth - s.depth) k ≡ goes next.mode (frames next.depth next.kinds) (max_depth - next.depth) → is_over next ≡ true → (more : List ℕ) → found_at s (x ∷ more) ≡ Ends 1
-  leads_over h next e over more = leads_to h _ e more ∙ over_by next.mode (frames next.depth next.kinds) (max_depth - next.depth) _ true over
+  pub leads_on : ends ≡ false → (next : State) → step s.mode (frames s.depth s.kinds) (max_depth - s.depth) k ≡ next_of next → (found : Found) → found ≡ cond (is_over next) (Ends 1) GoesOn
+      → (more : List ℕ) → found_at s (x ∷ more) ≡ or_later found 1 (found_at next more)
+  leads_on h next e found is_found more = leads_to h (next_of next) e more ∙ over_or_later (is_over next) (found_at next more) ∙ ap (λ f. or_later f 1 (found_at next more)) (sym is_found)
 
-  pub leads_on : ends ≡ false → (next : State) → step s.mode (frames s.depth s.kinds) (max_depth - s.depth) k ≡ goes next.mode (frames next.depth next.kinds) (max_depth - next.depth) → is_over next ≡ false → (more : List ℕ) → found_at s (x ∷ more) ≡ later 1 (found_at next more)
-  leads_on h next e over more = leads_to h _ e more ∙ over_by next.mode (frames next.depth next.kinds) (max_depth - next.depth) _ false over
+-- a byte that leads on from a state in which no document ends
+pub leads_plainly : (s next : State) (x : ℕ) → is_final s.mode (frames s.depth s.kinds) ≡ false → step s.mode (frames s.depth s.kinds) (max_depth - s.depth) (class_of x) ≡ next_of next → (found : Found) → found ≡ cond (is_over next) (Ends 1) GoesOn
+    → (more : List ℕ) → found_at s (x ∷ more) ≡ or_later found 1 (found_at next more)
+leads_plainly s next x none e found is_found more =
+    one_byte s.mode (frames s.depth s.kinds) (max_depth - s.depth) x more (next_of next) (ap (λ b. b && ends_number (class_of x)) none) e
+    ∙ over_or_later (is_over next) (found_at next more) ∙ ap (λ f. or_later f 1 (found_at next more)) (sym is_found)
 
 -- ---- bytes that leave the mode as it is
 

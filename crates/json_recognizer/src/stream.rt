@@ -1,5 +1,5 @@
 //! Where a document of a stream ends, or its first wrong byte.
-ghost use Rattle.std.specs.Prelude.{◌≡◌, ◌<◌, ◌≤◌, ◌&&◌, ◌∷◌, ◌++◌, length, get_or, true, false, Bool, List, ℕ};
+ghost use Rattle.std.specs.Prelude.{◌≡◌, ◌<◌, ◌≤◌, ◌&&◌, ◌∷◌, ◌++◌, length, get_or, true, false, cond, Bool, List, ℕ, IfSome};
 ghost use Rattle.json_recognizer.specs.Classes.{class_of, is_plain, is_digit};
 ghost use Rattle.json_recognizer.specs.Grammar.{max_depth};
 ghost use Rattle.json_recognizer.specs.Machine.{is_final, step, goes};
@@ -159,6 +159,39 @@ fn ends_before(state: &State, class: Class) -> bool
     is_final(state) && ends_number(class)
 }
 
+// The mode behind the byte, for the bytes that come most often: quotes, the colon behind a name, and the first digits of a
+// number and its fraction. Whatever is open, they lead there.
+#[inline(always)]
+fn plain_move(mode: Mode, byte: u8) -> Option<Mode>
+    ensures { IfSome result (λ next. (st : List Bool) (r : ℕ) → (step mode st r (class_of byte) ≡ goes next st r) × (is_final mode st ≡ false)) }
+{
+    match (mode, byte) {
+        (Mode::InText(TextPart::InChars, false), b'"') => Some(Mode::Behind),
+        (Mode::InText(TextPart::InChars, true), b'"') => Some(Mode::AfterName),
+        (Mode::AfterName, b':') => Some(Mode::Value),
+        (Mode::Value, b'"') => Some(Mode::InText(TextPart::InChars, false)),
+        (Mode::Value, b'1'..=b'9') => Some(Mode::InNumber(NumberPart::InWhole)),
+        (Mode::InNumber(NumberPart::AfterDot), b'0'..=b'9') => {
+            Some(Mode::InNumber(NumberPart::InFraction))
+        }
+        (Mode::Name, b'"') => Some(Mode::InText(TextPart::InChars, true)),
+        (Mode::FirstName, b'"') => Some(Mode::InText(TextPart::InChars, true)),
+        _ => None,
+    }
+}
+
+// What is found by a byte that was taken: the document's end, or that it goes on.
+#[inline(always)]
+fn found_behind(state: &State) -> Found
+    ensures { result ≡ cond (is_over state.now) (Found.Ends 1) Found.GoesOn }
+{
+    if is_over(state) {
+        Found::Ends(1)
+    } else {
+        Found::GoesOn
+    }
+}
+
 // Takes one byte more.
 #[inline(always)]
 fn take_byte(state: &mut State, byte: u8) -> Found
@@ -168,6 +201,10 @@ fn take_byte(state: &mut State, byte: u8) -> Found
     ensures open { result ≡ Found.GoesOn → is_over state.new ≡ false }
     ensures depth { state.new.depth ≤ max_depth }
 {
+    if let Some(mode) = plain_move(state.mode, byte) {
+        state.mode = mode;
+        return found_behind(state);
+    }
     let class = class_of(byte);
     if ends_before(state, class) {
         return Found::Ends(0);
@@ -175,10 +212,7 @@ fn take_byte(state: &mut State, byte: u8) -> Found
     if !state::take(state, class) {
         return Found::Refused(0);
     }
-    if is_over(state) {
-        return Found::Ends(1);
-    }
-    Found::GoesOn
+    found_behind(state)
 }
 
 /// Takes the next piece of a stream: whether the document that it goes on with ends in it, or has a wrong byte.
