@@ -62,11 +62,11 @@ module _ (s : State) (x : ℕ) (k : Class) (is : k ≡ class_of x) (ends : Bool)
       → (more : List ℕ) → found_at s (x ∷ more) ≡ or_later found 1 (found_at next more)
   leads_on h next e found is_found more = leads_to h (next_of next) e more ∙ over_or_later (is_over next) (found_at next more) ∙ ap (λ f. or_later f 1 (found_at next more)) (sym is_found)
 
--- a byte that leads on from a state in which no document ends
-pub leads_plainly : (s next : State) (x : ℕ) → is_final s.mode (frames s.depth s.kinds) ≡ false → step s.mode (frames s.depth s.kinds) (max_depth - s.depth) (class_of x) ≡ next_of next → (found : Found) → found ≡ cond (is_over next) (Ends 1) GoesOn
+-- a byte that leads on, and ends no number
+pub leads_plainly : (s next : State) (x : ℕ) → (is_final s.mode (frames s.depth s.kinds) && ends_number (class_of x)) ≡ false → step s.mode (frames s.depth s.kinds) (max_depth - s.depth) (class_of x) ≡ next_of next → (found : Found) → found ≡ cond (is_over next) (Ends 1) GoesOn
     → (more : List ℕ) → found_at s (x ∷ more) ≡ or_later found 1 (found_at next more)
 leads_plainly s next x none e found is_found more =
-    one_byte s.mode (frames s.depth s.kinds) (max_depth - s.depth) x more (next_of next) (ap (λ b. b && ends_number (class_of x)) none) e
+    one_byte s.mode (frames s.depth s.kinds) (max_depth - s.depth) x more (next_of next) none e
     ∙ over_or_later (is_over next) (found_at next more) ∙ ap (λ f. or_later f 1 (found_at next more)) (sym is_found)
 
 -- ---- bytes that leave the mode as it is

@@ -160,10 +160,10 @@ fn ends_before(state: &State, class: Class) -> bool
 }
 
 // The mode behind the byte, for the bytes that come most often: quotes, the colon behind a name, and the first digits of a
-// number and its fraction. Whatever is open, they lead there.
+// number and its fraction, and the dot between. Whatever is open, they lead there.
 #[inline(always)]
 fn plain_move(mode: Mode, byte: u8) -> Option<Mode>
-    ensures { IfSome result (λ next. (st : List Bool) (r : ℕ) → (step mode st r (class_of byte) ≡ goes next st r) × (is_final mode st ≡ false)) }
+    ensures { IfSome result (λ next. (st : List Bool) (r : ℕ) → (step mode st r (class_of byte) ≡ goes next st r) × ((is_final mode st && ends_number (class_of byte)) ≡ false)) }
 {
     match (mode, byte) {
         (Mode::InText(TextPart::InChars, false), b'"') => Some(Mode::Behind),
@@ -171,6 +171,7 @@ fn plain_move(mode: Mode, byte: u8) -> Option<Mode>
         (Mode::AfterName, b':') => Some(Mode::Value),
         (Mode::Value, b'"') => Some(Mode::InText(TextPart::InChars, false)),
         (Mode::Value, b'1'..=b'9') => Some(Mode::InNumber(NumberPart::InWhole)),
+        (Mode::InNumber(NumberPart::InWhole), b'.') => Some(Mode::InNumber(NumberPart::AfterDot)),
         (Mode::InNumber(NumberPart::AfterDot), b'0'..=b'9') => {
             Some(Mode::InNumber(NumberPart::InFraction))
         }
