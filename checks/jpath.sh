@@ -114,8 +114,15 @@ for text, place, why in [(b"[1 2]", "1:4", "a comma or ] is wanted"), (b'{"a":1 
                          (b'{"a" 1}', "1:6", "a colon is wanted"), (b"[1.]", "1:4", "a digit is wanted"), (b"[01]", "1:3", "a comma or ] is wanted"), (b"[]]", "1:3", "a value is wanted"),
                          (b'["\xc3\x28"]', "1:4", "the text is no UTF-8"), (b'["\\u00g0"]', "1:7", "a hexadecimal digit is wanted"), (b"[1e]", "1:4", "a digit or a sign is wanted")]:
     wants("jpath -q '$.none'", 3, "", f"jpath: -:{place}: {why}\n", text)
+
+# an error is reported where it is, at once; with `-k` the stream goes on after the line on which that document begins
+wants("timeout 10 jpath '$.a' < <(exec 2> /dev/null; printf '{\"a\":1}\\n{\"a\":{\\n{\"a\":2}\\n'; sleep 20)", 3, "1\n", "jpath: -:3:1: a name in quotes or } is wanted\n")
+for text, found, place in [(b'garbage {"a":1}\n{"a":2}', "2\n", "1:1"), (b'{"a":1} garbage {"a":2}\n\n {"a":3}', "1\n3\n", "1:9"), (b'{"a":{\n{"a":1}\n', "1\n", "2:1"),
+                           (b'{"a":[1,\n{"a":1}\n{"a":2}', "1\n2\n", "3:1"), (b'\n {"a"\n:1 2}{"a":3}\n', "", "3:4"), (b'{"a":1}\n' + b"[" * 200000 + b'\n{"a":2}\n', "1\n2\n", "2:128")]:
+    wants("jpath -k '$.a'", 3, found, f"jpath: -:{place}: *\n", text)
 wants("jpath '$' ", 1, "", "", b"")
 wants("jpath '$' ", 0, '1\n2\n"a"\n"b"\n{}\n[]\n3\n', "", b'1 2"a""b"{}[]3')
+wants("jpath '$' ", 0, "12\n[3]\ntrue\nfalse\n1\n\"a\"\n", "", b'12[3]truefalse 1"a"')
 wants("jpath -H '$.a' < a.json", 0, "-:1\n")
 wants("jpath -q '$.a' a.json none.json", 0, "")
 wants("jpath -a '$.b' a.json", 1, "[]\n")

@@ -1,12 +1,14 @@
 -- What a document of a stream gives.
-use Rattle.std.specs.Prelude.{◌≡◌, ◌≢◌, ◌<◌, ℕ, List, [], length, Bool, true}
+use Rattle.std.specs.Prelude.{◌≡◌, ◌<◌, ℕ, List, [], Bool, true}
+use Rattle.jpath_texts.specs.declared.stream.piece.Kind.{Kind}
+use Rattle.jpath_texts.specs.declared.stream.piece.Kind.TheVariants.{Refused}
 use Rattle.jpath_texts.specs.declared.stream.visit_documents.Taken.{Taken}
 use Rattle.jpath.specs.declared.run.document_visitor.Stop.{Stop}
 use Rattle.jpath.specs.declared.run.document_visitor.Stop.TheVariants.{Output, Found, Document, OutOfMemory}
 
--- A piece that is not passed whole was refused: nothing is written for it, and it has no match. Nothing more is asked for only behind a match.
-abbrev pub Gives : List ℕ → Taken → List ℕ → Type 0
-Gives piece taken text = (taken.passed ≢ length piece → (text ≡ []) × (taken.count ≡ 0)) × (taken.is_enough ≡ true → 0 < taken.count)
+-- For what is refused nothing is written, it has no match, and the status says so. Nothing more is asked for only behind a match.
+abbrev pub Gives : Bool → Kind → Taken → List ℕ → Type 0
+Gives has_refused kind taken text = (kind ≡ Refused → (text ≡ []) × (taken.count ≡ 0) × (has_refused ≡ true)) × (taken.is_enough ≡ true → 0 < taken.count)
 
 -- why the documents are visited no further: the output failed, a document was refused, or memory was
 abbrev pub IsWhyStopped : Bool → Bool → Stop → Type 0

@@ -17,7 +17,7 @@ pub struct HeldOutput<W> {
 }
 
 impl<W: Output> HeldOutput<W> {
-    /// An empty buffer before this writer.
+    /// An empty buffer for the output to this writer.
     pub fn new(alloc: Global, writer: W) -> HeldOutput<W>
         ensures writer { result.writer ≡ writer }
         ensures nothing { result.bytes.items ≡ [] }

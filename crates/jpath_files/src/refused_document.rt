@@ -1,28 +1,20 @@
 //! How an error of a document is reported: its file, line and column, and the reason. The document comes as a piece
 //! of a stream: its bytes, with the blanks before it.
 
-ghost use Rattle.std.specs.Prelude.{◌≡◌, ◌≤◌, ◌<◌, ◌==◌, length, not, position, IfSome};
-ghost use Rattle.jsonpath_streams.specs.DocumentEnds.{is_json_whitespace};
-ghost use Rattle.jpath_files.specs.GivenUp.{len_through_first_line};
-
 use jpath_texts::{DocumentRefusal, LineColumn};
 use json_recognizer::{Found, Wanted, find_end, start, wanted_at};
 use std::alloc::Global;
 use std::fmt::{self, Display, Formatter};
 
 /// Prints on standard error why a piece of a stream, which begins at this position, is no document or can't be used,
-/// with file, line and column. Returns how many bytes of the piece are skipped with it: those up to the end of the
-/// line of its first byte that is no blank.
+/// with file, line and column.
 pub fn tell_refused_document(
     rt: &(impl Eprint + Alloc<A = Global>),
     name: &str,
     bytes: &[u8],
     place: LineColumn,
     refusal: DocumentRefusal,
-) -> usize
-    ensures passed { result ≡ len_through_first_line bytes.now }
-    ensures within { result ≤ length bytes.now }
-{
+) {
     let (at, why) = position_and_reason(bytes, refusal);
     let line = place.line.saturating_add(at.line.saturating_sub(1));
     let column = if at.line <= 1 {
@@ -31,7 +23,6 @@ pub fn tell_refused_document(
         at.column
     };
     let _ = eprintln!(rt; "jpath: {name}:{line}:{column}: {why}");
-    len_through_first_nonblank_line(bytes)
 }
 
 // Why a piece is refused.
@@ -80,16 +71,7 @@ fn position_and_reason_in_text(bytes: &[u8], first: LineColumn) -> (LineColumn, 
             line_and_column_of_byte(bytes, at),
             Reason::Wanted(wanted_at(&state, bytes[at])),
         ),
-        Found::Ends(len) => {
-            if len < bytes.len() {
-                (
-                    line_and_column_of_byte(bytes, len),
-                    Reason::Wanted(Wanted::End),
-                )
-            } else {
-                (first, Reason::Sentence("no JSON"))
-            }
-        }
+        Found::Ends(_) => (first, Reason::Sentence("no JSON")),
         Found::GoesOn => (
             line_and_column_of_byte(bytes, bytes.len()),
             Reason::Sentence("the document ends too early"),
@@ -122,41 +104,4 @@ fn line_and_column_of_byte(bytes: &[u8], at: usize) -> LineColumn {
         }
     }
     place
-}
-
-// How many bytes there are up to the end of the line on which the first byte stands that is no blank.
-fn len_through_first_nonblank_line(bytes: &[u8]) -> usize
-    ensures passed { result ≡ len_through_first_line bytes.now }
-    ensures within { result ≤ length bytes.now }
-{
-    let Some(start) = first_nonblank(bytes) else {
-        return bytes.len();
-    };
-    match first_line_end(&bytes[start..]) {
-        Some(at) => start + at + 1,
-        None => bytes.len(),
-    }
-}
-
-// Where the first byte stands that is no blank.
-fn first_nonblank(bytes: &[u8]) -> Option<usize>
-    ensures at { result ≡ position (λ byte. not (is_json_whitespace byte)) bytes.now }
-    ensures within { IfSome result (λ at. at < length bytes.now) }
-{
-    bytes.iter().position(|byte| !is_blank(*byte))
-}
-
-// Where the first line ends.
-fn first_line_end(bytes: &[u8]) -> Option<usize>
-    ensures at { result ≡ position (λ byte. byte == 10) bytes.now }
-    ensures within { IfSome result (λ at. at < length bytes.now) }
-{
-    bytes.iter().position(|byte| *byte == b'\n')
-}
-
-// Whether the byte is one of the four blanks that JSON has between its parts.
-fn is_blank(byte: u8) -> bool
-    ensures { result ≡ is_json_whitespace byte }
-{
-    (byte == b' ') | (byte == b'\t') | (byte == b'\n') | (byte == b'\r')
 }

@@ -23,7 +23,8 @@ pub struct NumberKey {
 }
 
 impl NumberKey {
-    /// Makes the key of a number's text; `None` if its exponent doesn't fit 128 bits.
+    /// Makes the key of the number that a JSON text writes; `None` if its exponent doesn't fit 128 bits. It fails if
+    /// memory runs out.
     pub fn read(alloc: Global, text: &str) -> Result<Option<NumberKey>, AllocError>
         ensures { IfOk result (λ o. IfSome o (IsKeyOf text.now)) }
     {

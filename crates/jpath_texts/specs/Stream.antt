@@ -1,11 +1,17 @@
 -- What is done along a stream: its documents, one after another, what each gives, and what is left.
-use Rattle.std.specs.Prelude.{◌≡◌, ℕ, ◌-◌, ◌+◌, ◌^◌, ◌≤◌, min, List, [], ◌∷◌, ◌++◌, flat_map, take, drop, length, sum_by, slice_range, true, false, Bool, if◌then◌else◌}
-use Rattle.jsonpath_streams.specs.DocumentEnds.{AreBlanks, rest_len, first_document_len}
+use Rattle.std.specs.Prelude.{◌≡◌, ℕ, ◌-◌, ◌+◌, ◌^◌, ◌≤◌, ◌==◌, min, not, List, [], ◌∷◌, ◌++◌, flat_map, take, drop, length, sum_by, slice_range, true, false, Bool, if◌then◌else◌}
+use Rattle.std.specs.List.{position_or_len}
+use Rattle.jsonpath_streams.specs.DocumentEnds.{is_json_whitespace, is_blank_text}
+use Rattle.json_recognizer.specs.Grammar.{max_depth}
+use Rattle.json_recognizer.specs.Stream.{is_over, later, found_at, found_in}
+use Rattle.json_recognizer.specs.declared.stream.Found.{Found}
+use Rattle.json_recognizer.specs.declared.stream.Found.TheVariants.{GoesOn, Ends, Refused}
 use Rattle.jpath_texts.specs.declared.stream.stream_buffer.StreamBuffer.{StreamBuffer}
+use Rattle.jpath_texts.specs.declared.stream.piece.Kind.{Kind}
+use Rattle.jpath_texts.specs.declared.stream.piece.Kind.TheVariants as kinds
 use Rattle.jpath_texts.specs.declared.stream.visit_documents.Taken.{Taken}
 use Rattle.jpath_texts.specs.declared.stream.visit_documents.How.{How}
 use Rattle.jpath_texts.specs.declared.stream.visit_documents.How.TheVariants.{Whole, Enough, ReadFailed, Stopped, Endless}
-use Rattle.jsonpath_streams.specs.declared.document_ends.Inside.TheVariants.{Blanks}
 
 -- ---- the bytes that are read and not yet passed
 
@@ -34,37 +40,70 @@ pub record IsSound (feed : StreamBuffer) : Type 0 where
   pub behind : feed.start ≤ feed.seen
   pub seen : feed.seen ≤ length feed.bytes.items
 
--- it says where the bytes that were looked through stand in the next document
+-- its state is where the bytes that were looked through lead, and the document isn't over there
 pub record IsReady (feed : StreamBuffer) : Type 0 where
   pub sound : IsSound feed
-  pub ahead : (more : List ℕ) → first_document_len (left feed ++ more) ≡ (feed.seen - feed.start) + rest_len feed.here (drop feed.seen feed.bytes.items ++ more)
-  pub blank : feed.here ≡ Blanks → AreBlanks (slice_range feed.bytes.items feed.start feed.seen)
+  pub ahead : (more : List ℕ) → found_in (left feed ++ more) ≡ later (feed.seen - feed.start) (found_at feed.state (drop feed.seen feed.bytes.items ++ more))
+  pub depth : feed.state.depth ≤ max_depth
+  pub unended : is_over feed.state ≡ false
+
+-- ---- what a stream has next
+
+-- A document; or the bytes up to and with the first wrong one; or all, where neither is found: blanks, or a document that is cut short.
+abbrev pub piece_by : Found → List ℕ → List ℕ
+piece_by (Ends n) stream = take n stream
+piece_by (Refused n) stream = take (n + 1) stream
+piece_by GoesOn stream = stream
+
+abbrev pub kind_by : Found → List ℕ → Kind
+kind_by (Ends n) stream = kinds.Document
+kind_by (Refused n) stream = kinds.Refused
+kind_by GoesOn stream = if is_blank_text stream then kinds.Blanks else kinds.Refused
+
+-- the next of a stream, with the blanks before it
+abbrev pub IsFirstOf : Kind → List ℕ → List ℕ → Type 0
+IsFirstOf kind piece stream = (kind ≡ kind_by (found_in stream) stream) × (piece ≡ piece_by (found_in stream) stream)
+
+-- how many blanks are in front
+abbrev pub blanks_len : List ℕ → ℕ
+blanks_len bytes = position_or_len (λ byte. not (is_json_whitespace byte)) bytes
+
+-- what is behind the first line end; nothing, where there is none
+abbrev pub behind_line : List ℕ → List ℕ
+behind_line bytes = drop (position_or_len (λ byte. byte == 10) bytes + 1) bytes
+
+-- What is behind a piece: with one that is refused the line is passed on which it begins.
+abbrev pub behind_piece : Kind → List ℕ → List ℕ → List ℕ
+behind_piece kinds.Document piece stream = drop (length piece) stream
+behind_piece kinds.Refused piece stream = behind_line (drop (blanks_len piece) stream)
+behind_piece kinds.Blanks piece stream = []
 
 -- ---- what was done
 
--- a document of a stream, or what stands in place of one: its bytes, what became of it, and what was written for it
+-- the next of a stream, what became of it, and what was written for it
 pub record Visited : Type 0 where
+  pub kind : Kind
   pub piece : List ℕ
   pub taken : Taken
   pub text : List ℕ
 
--- the first document of a stream, with the blanks before it
-abbrev pub IsFirstOf : List ℕ → List ℕ → Type 0
-IsFirstOf piece stream = piece ≡ take (first_document_len stream) stream
-
--- The pieces stand in the stream one behind the other, each the first document of what is left there; behind what was passed of them the rest is left.
+-- The pieces stand in the stream one behind the other, each the next of what is left there; behind the last the rest is left.
 abbrev pub Passes : List Visited → List ℕ → List ℕ → Type 0
 Passes [] stream rest = stream ≡ rest
-Passes (v ∷ vs) stream rest = IsFirstOf v.piece stream × (v.taken.passed ≤ length v.piece) × Passes vs (drop v.taken.passed stream) rest
+Passes (v ∷ vs) stream rest = IsFirstOf v.kind v.piece stream × Passes vs (behind_piece v.kind v.piece stream) rest
+
+-- what may be given for a piece
+abbrev pub Gives : Type 1
+Gives = Kind → List ℕ → Taken → List ℕ → Type 0
 
 -- each is what is given for its piece
-abbrev pub AreGiven : (List ℕ → Taken → List ℕ → Type 0) → List Visited → Type 0
+abbrev pub AreGiven : Gives → List Visited → Type 0
 AreGiven gives [] = Unit {0}
-AreGiven gives (v ∷ vs) = gives v.piece v.taken v.text × AreGiven gives vs
+AreGiven gives (v ∷ vs) = gives v.kind v.piece v.taken v.text × AreGiven gives vs
 
 -- what was given stays given
-abbrev pub StayGiven : (List ℕ → Taken → List ℕ → Type 0) → (List ℕ → Taken → List ℕ → Type 0) → Type 0
-StayGiven before after = (piece : List ℕ) (taken : Taken) (text : List ℕ) → before piece taken text → after piece taken text
+abbrev pub StayGiven : Gives → Gives → Type 0
+StayGiven before after = (kind : Kind) (piece : List ℕ) (taken : Taken) (text : List ℕ) → before kind piece taken text → after kind piece taken text
 
 -- what was written for them, joined, and how many matches they have together, as far as can be counted
 abbrev pub texts_of : List Visited → List ℕ
@@ -104,7 +143,7 @@ IfStopped P (Stopped stop) = P stop
 IfStopped P Endless = Unit {0}
 
 -- The stream is passed document by document up to the rest, and no further than was asked for; what was written is what is given for each, joined, and the count is their sum.
-pub record GoesAlong (gives : List ℕ → Taken → List ℕ → Type 0) (stream rest before after : List ℕ) (count : ℕ) (is_enough : Bool) : Type 0 where
+pub record GoesAlong (gives : Gives) (stream rest before after : List ℕ) (count : ℕ) (is_enough : Bool) : Type 0 where
   pub visited : List Visited
   pub passes : Passes visited stream rest
   pub given : AreGiven gives visited

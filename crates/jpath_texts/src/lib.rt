@@ -14,5 +14,6 @@ pub use output::match_line::{Line, Shown, add_file_name};
 pub use output::names_once::write_with_names_once;
 pub use output::value_text::{Look, add_compact_value, add_value_in_look};
 pub use refusal::DocumentRefusal;
-pub use stream::stream_buffer::{LineColumn, MARK, ReadFailure};
-pub use stream::visit_documents::{Ended, How, Piece, Taken, Visitor, visit_documents};
+pub use stream::piece::{Kind, LineColumn, Piece};
+pub use stream::stream_buffer::{MARK, ReadFailure};
+pub use stream::visit_documents::{Ended, How, Taken, Visitor, visit_documents};

@@ -1,6 +1,6 @@
 -- A text begins a document exactly if the machine does not refuse it.
-use Rattle.std.proofs.Common.{◌≡◌, ℕ, List, [], ◌∷◌, ◌++◌, Bool, true, false, map, ap, sym, ◌∙◌, ◌+◌, ◌<◌, length, take, get_or, append_assoc}
-use Rattle.std.proofs.lemmas.List.{map-append, take_more, append-nil}
+use Rattle.std.proofs.Common.{◌≡◌, ℕ, List, [], ◌∷◌, ◌++◌, Bool, true, false, map, ap, sym, ◌∙◌}
+use Rattle.std.proofs.lemmas.List.{map-append, append-nil}
 use Rattle.json_recognizer.specs.Classes.{class_of}
 use Rattle.json_recognizer.specs.Grammar.{IsWritten, IsDocument, Begins, max_depth, put_blanks, put}
 use Rattle.json_recognizer.specs.Machine.{accepts, goes, refused, after_all, goes_from, step, is_final}
@@ -41,10 +41,15 @@ document_final bytes m b r h f =
     let yes : accepts Value [] max_depth (map class_of bytes ++ []) ≡ true = run (map class_of bytes) Value [] max_depth [] ∙ ap (λ n. accepts_next n []) h ∙ f in
     written_of (map class_of bytes) (ap (accepts Value [] max_depth) (sym (append-nil (map class_of bytes))) ∙ yes)
 
--- where the next byte of a piece leads
-pub one_more_behind : (front bytes : List ℕ) (i : ℕ) (m : Mode) (b : List Bool) (r : ℕ) → i < length bytes → after_all Value [] max_depth (map class_of (front ++ take i bytes)) ≡ goes m b r → after_all Value [] max_depth (map class_of (front ++ take (i + 1) bytes)) ≡ step m b r (class_of (get_or bytes i 0))
-one_more_behind front bytes i m b r k h =
-    let c = class_of (get_or bytes i 0) in
-    ap (λ t. after_all Value [] max_depth (map class_of (front ++ t))) (take_more bytes i 0 k) ∙ ap (λ t. after_all Value [] max_depth (map class_of t)) (sym (append_assoc front (take i bytes) (get_or bytes i 0 ∷ [])))
-    ∙ ap (after_all Value [] max_depth) (map-append class_of (front ++ take i bytes) (get_or bytes i 0 ∷ []))
-    ∙ after_snoc (map class_of (front ++ take i bytes)) Value [] max_depth c ∙ ap (λ n. goes_from n (λ m. λ b. λ r. step m b r c)) h
+-- where such a state is none, the text is no document
+pub no_document : (bytes : List ℕ) (m : Mode) (b : List Bool) (r : ℕ) → after_all Value [] max_depth (map class_of bytes) ≡ goes m b r → is_final m b ≡ false → IsDocument bytes → ⊥
+unfolding accepts
+no_document bytes m b r h f d =
+    let yes : accepts Value [] max_depth (map class_of bytes) ≡ true = accepted (map class_of bytes) d in
+    let is : accepts Value [] max_depth (map class_of bytes) ≡ is_final m b = ap (accepts Value [] max_depth) (sym (append-nil (map class_of bytes))) ∙ run (map class_of bytes) Value [] max_depth [] ∙ ap (λ n. accepts_next n []) h in
+    cc
+
+-- where the next byte leads
+pub one_more : (front : List ℕ) (x : ℕ) (m : Mode) (b : List Bool) (r : ℕ) → after_all Value [] max_depth (map class_of front) ≡ goes m b r → after_all Value [] max_depth (map class_of (front ++ x ∷ [])) ≡ step m b r (class_of x)
+one_more front x m b r h =
+    ap (after_all Value [] max_depth) (map-append class_of front (x ∷ [])) ∙ after_snoc (map class_of front) Value [] max_depth (class_of x) ∙ ap (λ n. goes_from n (λ m. λ b. λ r. step m b r (class_of x))) h

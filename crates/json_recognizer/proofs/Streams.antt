@@ -1,12 +1,196 @@
--- A document that is over is one.
-use Rattle.std.proofs.Common.{◌≡◌, ℕ, zero, suc, List, Bool, true, refl}
-use Rattle.json_recognizer.specs.Machine.{is_final}
-use Rattle.json_recognizer.specs.State.{frames}
-use Rattle.json_recognizer.specs.Stream.{is_over_at}
+-- What is found along a stream, byte by byte.
+use Rattle.std.proofs.Common.{◌≡◌, ℕ, zero, suc, ◌+◌, ◌-◌, ◌<◌, ◌≤◌, List, [], ◌∷◌, ◌++◌, length, get_or, take, drop, Bool, true, false, ◌&&◌, cond, map, refl, sym, ap, ap₂, subst, ◌∙◌, arith, add-one, append_assoc, drop-cons, inl, inr}
+use Rattle.std.proofs.lemmas.Bool.{cases_lt}
+use Rattle.std.proofs.lemmas.List.{append-nil, drop-drop}
+use Rattle.json_recognizer.specs.Classes.{class_of}
+use Rattle.json_recognizer.specs.Grammar.{IsDocument, Begins, max_depth}
+use Rattle.json_recognizer.specs.Machine.{Next, goes, refused, step, is_final, after_all}
+use Rattle.json_recognizer.specs.State.{frames, next_of}
+use Rattle.json_recognizer.specs.Stream.{is_over_in, is_over, ends_number, later, found_by, found_from, found_at, found_in, or_later, IsFound}
+use Rattle.json_recognizer.specs.declared.class.Class.{Class}
+use Rattle.json_recognizer.specs.declared.class.Class.TheVariants.{Space, White, OpenBracket, OpenBrace, Quote}
+use Rattle.json_recognizer.specs.declared.machine.NumberPart.TheVariants.{AfterZero, InWhole, InFraction, InExponent}
 use Rattle.json_recognizer.specs.declared.machine.Mode.{Mode}
-use Rattle.json_recognizer.specs.declared.machine.Mode.TheVariants.{Behind}
+use Rattle.json_recognizer.specs.declared.machine.Mode.TheVariants.{Value, Behind, InNumber}
+use Rattle.json_recognizer.specs.declared.state.State.{State}
+use Rattle.json_recognizer.specs.declared.stream.Found.{Found}
+use Rattle.json_recognizer.specs.declared.stream.Found.TheVariants.{GoesOn, Ends, Refused}
+use Rattle.json_recognizer.proofs.Beginnings.{begins, begins_none, document_final, no_document, one_more}
 
-pub over_is_final : (d : ℕ) (m : Mode) (ks : List Bool) → is_over_at d m ≡ true → is_final m (frames d ks) ≡ true
-over_is_final zero Behind ks h = refl
-over_is_final zero m ks h = cc
-over_is_final (suc d) m ks h = cc
+-- ---- further on
+
+pub later_none : (found : Found) → later 0 found ≡ found
+later_none GoesOn = refl
+later_none (Ends k) = let e : 0 + k ≡ k = omega arith in ap Ends e
+later_none (Refused k) = let e : 0 + k ≡ k = omega arith in ap Refused e
+
+pub later_more : (a b : ℕ) (found : Found) → later a (later b found) ≡ later (a + b) found
+later_more a b GoesOn = refl
+later_more a b (Ends k) = let e : a + (b + k) ≡ a + b + k = omega arith in ap Ends e
+later_more a b (Refused k) = let e : a + (b + k) ≡ a + b + k = omega arith in ap Refused e
+
+-- ---- one byte
+
+module _ (m : Mode) (st : List Bool) (r : ℕ) (x : ℕ) (xs : List ℕ) where
+  ends_before : (is_final m st && ends_number (class_of x)) ≡ true → found_from (goes m st r) (x ∷ xs) ≡ Ends 0
+  unfolding found_from
+  ends_before h = ap (λ b. cond b (Ends 0) (found_by (step m st r (class_of x)) (found_from (step m st r (class_of x)) xs))) h
+
+  one_byte : (next : Next) → (is_final m st && ends_number (class_of x)) ≡ false → step m st r (class_of x) ≡ next → found_from (goes m st r) (x ∷ xs) ≡ found_by next (found_from next xs)
+  unfolding found_from
+  one_byte next h e = ap (λ b. cond b (Ends 0) (found_by (step m st r (class_of x)) (found_from (step m st r (class_of x)) xs))) h ∙ ap (λ n. found_by n (found_from n xs)) e
+
+over_by : (m : Mode) (st : List Bool) (r : ℕ) (behind : Found) (over : Bool) → is_over_in m st ≡ over → found_by (goes m st r) behind ≡ cond over (Ends 1) (later 1 behind)
+over_by m st r behind over h = ap (λ b. cond b (Ends 1) (later 1 behind)) h
+
+over_or_later : (over : Bool) (behind : Found) → cond over (Ends 1) (later 1 behind) ≡ or_later (cond over (Ends 1) GoesOn) 1 behind
+over_or_later true behind = refl
+over_or_later false behind = refl
+
+-- by the class and the tests of the code
+module _ (s : State) (x : ℕ) (k : Class) (is : k ≡ class_of x) (ends : Bool) (test : ends ≡ (is_final s.mode (frames s.depth s.kinds) && ends_number k)) where
+  here : ends ≡ (is_final s.mode (frames s.depth s.kinds) && ends_number (class_of x))
+  here = test ∙ ap (λ k. is_final s.mode (frames s.depth s.kinds) && ends_number k) is
+
+  pub ends_here : ends ≡ true → (more : List ℕ) → found_at s (x ∷ more) ≡ Ends 0
+  ends_here h more = ends_before s.mode (frames s.depth s.kinds) (max_depth - s.depth) x more (sym here ∙ h)
+
+  pub leads_to : ends ≡ false → (next : Next) → step s.mode (frames s.depth s.kinds) (max_depth - s.depth) k ≡ next → (more : List ℕ) → found_at s (x ∷ more) ≡ found_by next (found_from next more)
+  leads_to h next e more = one_byte s.mode (frames s.depth s.kinds) (max_depth - s.depth) x more next (sym here ∙ h) (ap (step s.mode (frames s.depth s.kinds) (max_depth - s.depth)) (sym is) ∙ e)
+
+  pub leads_on : ends ≡ false → (next : State) → step s.mode (frames s.depth s.kinds) (max_depth - s.depth) k ≡ next_of next → (found : Found) → found ≡ cond (is_over next) (Ends 1) GoesOn
+      → (more : List ℕ) → found_at s (x ∷ more) ≡ or_later found 1 (found_at next more)
+  leads_on h next e found is_found more = leads_to h (next_of next) e more ∙ over_or_later (is_over next) (found_at next more) ∙ ap (λ f. or_later f 1 (found_at next more)) (sym is_found)
+
+-- a byte that leads on, and ends no number
+pub leads_plainly : (s next : State) (x : ℕ) → (is_final s.mode (frames s.depth s.kinds) && ends_number (class_of x)) ≡ false → step s.mode (frames s.depth s.kinds) (max_depth - s.depth) (class_of x) ≡ next_of next → (found : Found) → found ≡ cond (is_over next) (Ends 1) GoesOn
+    → (more : List ℕ) → found_at s (x ∷ more) ≡ or_later found 1 (found_at next more)
+leads_plainly s next x none e found is_found more =
+    one_byte s.mode (frames s.depth s.kinds) (max_depth - s.depth) x more (next_of next) none e
+    ∙ over_or_later (is_over next) (found_at next more) ∙ ap (λ f. or_later f 1 (found_at next more)) (sym is_found)
+
+-- ---- bytes that leave the mode as it is
+
+-- what ends a number leaves its mode
+no_end : (m : Mode) (st : List Bool) (r : ℕ) (c : Class) → is_over_in m st ≡ false → step m st r c ≡ goes m st r → (is_final m st && ends_number c) ≡ false
+no_end Behind [] r c o s = cc
+no_end (InNumber AfterZero) [] r Space o s = cc
+no_end (InNumber AfterZero) [] r White o s = cc
+no_end (InNumber AfterZero) [] r OpenBracket o s = cc
+no_end (InNumber AfterZero) [] r OpenBrace o s = cc
+no_end (InNumber AfterZero) [] r Quote o s = cc
+no_end (InNumber InWhole) [] r Space o s = cc
+no_end (InNumber InWhole) [] r White o s = cc
+no_end (InNumber InWhole) [] r OpenBracket o s = cc
+no_end (InNumber InWhole) [] r OpenBrace o s = cc
+no_end (InNumber InWhole) [] r Quote o s = cc
+no_end (InNumber InFraction) [] r Space o s = cc
+no_end (InNumber InFraction) [] r White o s = cc
+no_end (InNumber InFraction) [] r OpenBracket o s = cc
+no_end (InNumber InFraction) [] r OpenBrace o s = cc
+no_end (InNumber InFraction) [] r Quote o s = cc
+no_end (InNumber InExponent) [] r Space o s = cc
+no_end (InNumber InExponent) [] r White o s = cc
+no_end (InNumber InExponent) [] r OpenBracket o s = cc
+no_end (InNumber InExponent) [] r OpenBrace o s = cc
+no_end (InNumber InExponent) [] r Quote o s = cc
+no_end (InNumber p) [] r c o s = refl
+no_end (InNumber p) (k ∷ st) r c o s = refl
+no_end m st r c o s = refl
+
+-- a property of the first few, and of the next
+pub one_further : (P : ℕ → Type 0) (i : ℕ) → ((k : ℕ) → k < i → P k) → P i → (k : ℕ) → k < i + 1 → P k
+one_further P i before here k below = elim (cases_lt k i) [
+  | inl lt ↦ before k lt
+  | inr le ↦ let same : i ≡ k = omega (arith, le, below) in subst P same here
+]
+
+run_on : (m : Mode) (st : List Bool) (r : ℕ) (xs more : List ℕ) (n : ℕ) → n ≤ length xs → is_over_in m st ≡ false → ((k : ℕ) → k < n → step m st r (class_of (get_or xs k 0)) ≡ goes m st r)
+    → found_from (goes m st r) (xs ++ more) ≡ later n (found_from (goes m st r) (drop n xs ++ more))
+run_on m st r [] more zero le o stays = sym (later_none _)
+run_on m st r (x ∷ xs) more zero le o stays = sym (later_none _)
+run_on m st r [] more (suc n) le o stays = absurd (omega (arith, le))
+run_on m st r (x ∷ xs) more (suc n) le o stays =
+    let s : step m st r (class_of x) ≡ goes m st r = stays 0 (omega arith) in
+    let less : n ≤ length xs = omega (arith, le) in
+    let behind = found_from (goes m st r) (drop n xs ++ more) in
+    one_byte m st r x (xs ++ more) (goes m st r) (no_end m st r (class_of x) o s) s ∙ over_by m st r (found_from (goes m st r) (xs ++ more)) false o
+    ∙ ap (later 1) (run_on m st r xs more n less o (λ k. λ lt. stays (suc k) (omega (arith, lt)))) ∙ later_more 1 n behind ∙ ap (λ j. later j behind) (let e : 1 + n ≡ suc n = omega arith in e)
+
+-- ---- a piece
+
+module _ (s₀ s : State) (piece : List ℕ) (i n j : ℕ) (so_far : (more : List ℕ) → found_at s₀ (piece ++ more) ≡ later i (found_at s (drop i piece ++ more))) (is_open : is_over s ≡ false) (behind : List ℕ) (lies : behind ≡ drop i piece)
+    (within : n ≤ length behind) (stays : (k : ℕ) → k < n → (st : List Bool) (r : ℕ) → step s.mode st r (class_of (get_or behind k 0)) ≡ goes s.mode st r) (is : j ≡ i + n) where
+  pub passed : (more : List ℕ) → found_at s₀ (piece ++ more) ≡ later j (found_at s (drop j piece ++ more))
+  passed more =
+      let st = frames s.depth s.kinds in
+      let r = max_depth - s.depth in
+      let dropped : drop n behind ≡ drop j piece = ap (drop n) lies ∙ drop-drop n i piece ∙ ap (λ k. drop k piece) (sym is) in
+      so_far more ∙ ap (λ xs. later i (found_at s (xs ++ more))) (sym lies) ∙ ap (later i) (run_on s.mode st r behind more n within is_open (λ k. λ lt. stays k lt st r))
+      ∙ later_more i n (found_at s (drop n behind ++ more)) ∙ ap₂ (λ (k : ℕ) (xs : List ℕ). later k (found_at s (xs ++ more))) (sym is) dropped
+
+  pub passed_one : (next : State) (found : Found) → j < length piece → ((more : List ℕ) → found_at s (get_or piece j 0 ∷ more) ≡ or_later found 1 (found_at next more))
+      → (more : List ℕ) → found_at s₀ (piece ++ more) ≡ later j (or_later found 1 (found_at next (drop (j + 1) piece ++ more)))
+  passed_one next found below one more =
+      let dropped : drop j piece ≡ get_or piece j 0 ∷ drop (j + 1) piece = drop-cons piece j 0 below ∙ ap (λ k. get_or piece j 0 ∷ drop k piece) (sym (add-one j)) in
+      passed more ∙ ap (λ xs. later j (found_at s (xs ++ more))) dropped ∙ ap (later j) (one (drop (j + 1) piece ++ more))
+
+-- ---- what is found, by the grammar
+
+both : (a b : Bool) → (a && b) ≡ true → a ≡ true
+both true b h = refl
+both false b h = h
+
+over_final : (m : Mode) (st : List Bool) → is_over_in m st ≡ true → is_final m st ≡ true
+over_final Behind [] h = refl
+over_final m st h = cc
+
+-- behind a front
+abbrev IsFoundBehind : List ℕ → List ℕ → Found → Type 0
+IsFoundBehind front text (Ends n) = (n ≤ length text) × IsDocument (front ++ take n text)
+IsFoundBehind front text (Refused n) = (n < length text) × Begins (front ++ take n text) × (Begins (front ++ take (n + 1) text) → ⊥)
+IsFoundBehind front text GoesOn = Begins (front ++ text) × (IsDocument (front ++ text) → ⊥)
+
+one_on : (front : List ℕ) (x : ℕ) (xs : List ℕ) (found : Found) → IsFoundBehind (front ++ x ∷ []) xs found → IsFoundBehind front (x ∷ xs) (later 1 found)
+one_on front x xs GoesOn h = (subst Begins (append_assoc front (x ∷ []) xs) h.0, λ d. h.1 (subst IsDocument (sym (append_assoc front (x ∷ []) xs)) d))
+one_on front x xs (Ends n) h =
+    let longer : 1 + n ≤ suc (length xs) = omega (arith, h.0) in
+    let e : suc n ≡ 1 + n = omega arith in
+    (longer, subst (λ k. IsDocument (front ++ take k (x ∷ xs))) e (subst IsDocument (append_assoc front (x ∷ []) (take n xs)) h.1))
+one_on front x xs (Refused n) h =
+    let longer : 1 + n < suc (length xs) = omega (arith, h.0) in
+    let e : suc n ≡ 1 + n = omega arith in
+    let f : 1 + n + 1 ≡ suc (n + 1) = omega arith in (
+      longer,
+      subst (λ k. Begins (front ++ take k (x ∷ xs))) e (subst Begins (append_assoc front (x ∷ []) (take n xs)) h.1),
+      λ b. h.2 (subst Begins (sym (append_assoc front (x ∷ []) (take (n + 1) xs))) (subst (λ k. Begins (front ++ take k (x ∷ xs))) f b)),
+    )
+
+at_end : (front : List ℕ) (m : Mode) (st : List Bool) (r : ℕ) → after_all Value [] max_depth (map class_of front) ≡ goes m st r → (b : Bool) → is_final m st ≡ b → IsFoundBehind front [] (cond b (Ends 0) GoesOn)
+at_end front m st r h true e = (omega arith, subst IsDocument (sym (append-nil front)) (document_final front m st r h e))
+at_end front m st r h false e = (subst Begins (sym (append-nil front)) (begins front m st r h), λ d. no_document front m st r h e (subst IsDocument (append-nil front) d))
+
+module _ (x : ℕ) (xs front : List ℕ) (behind : (m : Mode) (st : List Bool) (r : ℕ) → after_all Value [] max_depth (map class_of (front ++ x ∷ [])) ≡ goes m st r → IsFoundBehind (front ++ x ∷ []) xs (found_from (goes m st r) xs)) where
+  by_over : (m : Mode) (st : List Bool) (r : ℕ) → after_all Value [] max_depth (map class_of (front ++ x ∷ [])) ≡ goes m st r → (b : Bool) → is_over_in m st ≡ b → IsFoundBehind front (x ∷ xs) (cond b (Ends 1) (later 1 (found_from (goes m st r) xs)))
+  by_over m st r h true e = (omega arith, document_final (front ++ x ∷ []) m st r h (over_final m st e))
+  by_over m st r h false e = one_on front x xs (found_from (goes m st r) xs) (behind m st r h)
+
+  by_byte : (m : Mode) (st : List Bool) (r : ℕ) → after_all Value [] max_depth (map class_of front) ≡ goes m st r → (b : Bool) → (is_final m st && ends_number (class_of x)) ≡ b → (next : Next) → step m st r (class_of x) ≡ next
+      → IsFoundBehind front (x ∷ xs) (cond b (Ends 0) (found_by next (found_from next xs)))
+  by_byte m st r h true e next s = (omega arith, subst IsDocument (sym (append-nil front)) (document_final front m st r h (both (is_final m st) (ends_number (class_of x)) e)))
+  by_byte m st r h false e refused s = (omega arith, subst Begins (sym (append-nil front)) (begins front m st r h), begins_none (front ++ x ∷ []) (one_more front x m st r h ∙ s))
+  by_byte m st r h false e (goes m₁ st₁ r₁) s = by_over m₁ st₁ r₁ (one_more front x m st r h ∙ s) (is_over_in m₁ st₁) refl
+
+meaning : (xs front : List ℕ) (m : Mode) (st : List Bool) (r : ℕ) → after_all Value [] max_depth (map class_of front) ≡ goes m st r → IsFoundBehind front xs (found_from (goes m st r) xs)
+unfolding found_from
+meaning [] front m st r h = at_end front m st r h (is_final m st) refl
+meaning (x ∷ xs) front m st r h = by_byte x xs front (λ m. λ st. λ r. λ h. meaning xs (front ++ x ∷ []) m st r h) m st r h (is_final m st && ends_number (class_of x)) refl (step m st r (class_of x)) refl
+
+whole : (text : List ℕ) (found : Found) → IsFoundBehind [] text found → IsFound text found
+whole text GoesOn h = h
+whole text (Ends n) h = h
+whole text (Refused n) h = h
+
+pub is_found : (text : List ℕ) → IsFound text (found_in text)
+unfolding after_all
+is_found text = whole text (found_in text) (meaning text [] Value [] max_depth refl)

@@ -10,7 +10,7 @@ mod state;
 mod stream;
 mod wanted;
 
-pub use laws::accepts_documents;
+pub use laws::{accepts_documents, found_by_grammar};
 pub use state::{State, start};
-pub use stream::{Found, find_end};
+pub use stream::{Found, find_end, is_final};
 pub use wanted::{Wanted, wanted_at};

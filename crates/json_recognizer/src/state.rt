@@ -1,31 +1,31 @@
 //! The state, and the step.
-ghost use Rattle.std.specs.Prelude.{◌≡◌, ◌≤◌, ◌-◌, [], true, false};
+ghost use Rattle.std.specs.Prelude.{◌≡◌, ◌≤◌, ◌-◌, ℕ, List, [], true, false};
 ghost use Rattle.json_recognizer.specs.Machine.{step, refused, top_of, goes, first_in};
 ghost use Rattle.json_recognizer.specs.Grammar.{max_depth};
-ghost use Rattle.json_recognizer.specs.State.{frames, next_of, Reaches};
-ghost use Rattle.json_recognizer.specs.Stream.{is_over};
+ghost use Rattle.json_recognizer.specs.State.{frames, next_of};
+ghost use Rattle.json_recognizer.specs.Stream.{is_over, found_at, found_in};
 ghost use Rattle.json_recognizer.specs.declared.machine.Mode.TheVariants.{Value};
 
 use crate::class::Class;
 use crate::machine::{Mode, Move, Top};
 use crate::moves::move_of;
 
-/// Where a text leaves off, and what is open.
+/// The state of the recognizer between two bytes: its mode, and the arrays and objects that are open.
 #[derive(Drop)]
 pub struct State {
     pub mode: Mode,
     pub depth: usize,
-    /// From the outermost; true: an object.
+    /// What is open, from the outermost: true for an object, false for an array.
     pub kinds: [bool; 127],
 }
 
-/// The state before a text.
+/// The state before the first byte of a document.
 #[inline(always)]
 pub fn start() -> State
     ensures is { next_of result ≡ goes Value [] max_depth }
     ensures depth { result.depth ≤ max_depth }
-    ensures goes_on { is_over result ≡ false }
-    ensures reaches { Reaches [] result }
+    ensures open { is_over result ≡ false }
+    ensures begins { (text : List ℕ) → found_at result text ≡ found_in text }
 {
     State {
         mode: Mode::Value,
@@ -60,7 +60,8 @@ fn first_in(is_object: bool) -> Mode
     }
 }
 
-/// Takes one byte more. False: no text goes on so to a document, and the state is what it was.
+/// Takes the next byte, given by its class, and returns true; false if no JSON text goes on with it, and then the state
+/// is unchanged.
 #[inline(always)]
 pub fn take(state: &mut State, class: Class) -> bool
     requires { state.old.depth ≤ max_depth }

@@ -1,12 +1,13 @@
 //! Where a document of a stream ends, or its first wrong byte.
-ghost use Rattle.std.specs.Prelude.{◌≡◌, ◌+◌, ◌<◌, ◌++◌, take, length, ◌≤◌, true, false, Bool, List, ℕ};
-ghost use Rattle.json_recognizer.specs.Classes.{class_of};
-ghost use Rattle.json_recognizer.specs.Grammar.{Begins, IsDocument, max_depth};
+ghost use Rattle.std.specs.Prelude.{◌≡◌, ◌<◌, ◌≤◌, ◌&&◌, ◌∷◌, ◌++◌, length, get_or, true, false, cond, Bool, List, ℕ, IfSome};
+ghost use Rattle.json_recognizer.specs.Classes.{class_of, is_plain, is_digit};
+ghost use Rattle.json_recognizer.specs.Grammar.{max_depth};
 ghost use Rattle.json_recognizer.specs.Machine.{is_final, step, goes};
-ghost use Rattle.json_recognizer.specs.State.{frames, Reaches};
-ghost use Rattle.json_recognizer.specs.Stream.{is_over, IfGoesOn, IfEnds, IfRefused};
+ghost use Rattle.json_recognizer.specs.State.{frames};
+ghost use Rattle.json_recognizer.specs.Stream.{is_over, ends_number, found_at, or_later, IsWithin};
+ghost use Rattle.json_recognizer.specs.declared.class.Class.TheVariants.{Space};
 
-use crate::class::class_of;
+use crate::class::{Class, class_of};
 use crate::machine::{Mode, NumberPart, TextPart};
 use crate::state::{self, State};
 
@@ -21,35 +22,92 @@ pub enum Found {
     Refused(usize),
 }
 
-// Whether the byte plainly leaves the mode as it is: it stands for itself in a text, is
-// one more digit of a number, or a blank.
+// Whether the byte stands for itself in a text.
 #[inline(always)]
-fn stays(mode: Mode, byte: u8) -> bool
-    ensures { result ≡ true → (st : List Bool) (r : ℕ) → step mode st r (class_of byte) ≡ goes mode st r }
+fn is_char(byte: u8) -> bool
+    ensures { result ≡ true → is_plain (class_of byte) ≡ true }
+{
+    if byte < 32 {
+        return false;
+    }
+    if byte >= 128 {
+        return false;
+    }
+    if byte == 34 {
+        return false;
+    }
+    byte != 92
+}
+
+// How many bytes at the front stand for themselves in a text.
+fn count_chars(bytes: &[u8]) -> usize
+    ensures within { result ≤ length bytes.now }
+    ensures chars { (k : ℕ) → k < result → is_plain (class_of (get_or bytes.now k 0)) ≡ true }
+{
+    for (index, byte) in bytes.iter().enumerate() {
+        if !is_char(*byte) {
+            return index;
+        }
+    }
+    bytes.len()
+}
+
+#[inline(always)]
+fn is_digit(byte: u8) -> bool
+    ensures { result ≡ true → is_digit (class_of byte) ≡ true }
+{
+    byte.is_ascii_digit()
+}
+
+// How many bytes at the front are digits.
+#[inline(always)]
+fn count_digits(bytes: &[u8]) -> usize
+    ensures within { result ≤ length bytes.now }
+    ensures digits { (k : ℕ) → k < result → is_digit (class_of (get_or bytes.now k 0)) ≡ true }
+{
+    for (index, byte) in bytes.iter().enumerate() {
+        if !is_digit(*byte) {
+            return index;
+        }
+    }
+    bytes.len()
+}
+
+// How many bytes at the front are spaces.
+#[inline(always)]
+fn count_spaces(bytes: &[u8]) -> usize
+    ensures within { result ≤ length bytes.now }
+    ensures spaces { (k : ℕ) → k < result → class_of (get_or bytes.now k 0) ≡ Space }
+{
+    for (index, byte) in bytes.iter().enumerate() {
+        if *byte != b' ' {
+            return index;
+        }
+    }
+    bytes.len()
+}
+
+// How many bytes at the front plainly leave the mode as it is: they stand for themselves in a text, are more digits of a
+// number, or spaces.
+#[inline(always)]
+fn count_staying(mode: Mode, bytes: &[u8]) -> usize
+    ensures within { result ≤ length bytes.now }
+    ensures stays { (k : ℕ) → k < result → (st : List Bool) (r : ℕ) → step mode st r (class_of (get_or bytes.now k 0)) ≡ goes mode st r }
 {
     match mode {
-        Mode::InText(TextPart::InChars, _) => {
-            if byte < 32 {
-                return false;
-            }
-            if byte >= 128 {
-                return false;
-            }
-            if byte == 34 {
-                return false;
-            }
-            byte != 92
+        Mode::InText(TextPart::InChars, _) => count_chars(bytes),
+        Mode::InNumber(NumberPart::InWhole) => count_digits(bytes),
+        Mode::InNumber(NumberPart::InFraction) => count_digits(bytes),
+        Mode::InNumber(NumberPart::InExponent) => count_digits(bytes),
+        Mode::Value | Mode::First | Mode::Behind | Mode::Name | Mode::FirstName => {
+            count_spaces(bytes)
         }
-        Mode::InNumber(NumberPart::InWhole | NumberPart::InFraction | NumberPart::InExponent) => {
-            byte.is_ascii_digit()
-        }
-        Mode::Value | Mode::First | Mode::Behind | Mode::Name | Mode::FirstName => byte == 32,
-        _ => false,
+        _ => 0,
     }
 }
 
-// Whether a document may end in this state.
-fn is_final(state: &State) -> bool
+/// Whether a document may end in this state, at the end of a stream.
+pub fn is_final(state: &State) -> bool
     requires { state.now.depth ≤ max_depth }
     ensures { result ≡ is_final state.now.mode (frames state.now.depth state.now.kinds) }
 {
@@ -69,48 +127,114 @@ fn is_final(state: &State) -> bool
     }
 }
 
-// Whether the document is over: a bracket, a quote or the last letter of a word ends it.
+// Whether the document is over: a bracket, a quote or the last letter of a word ended it.
 fn is_over(state: &State) -> bool
     ensures { result ≡ is_over state.now }
-{
-    state.depth == 0 && matches!(state.mode, Mode::Behind)
-}
-
-// Whether a byte ends a number that stands alone: it is a blank, or begins an array, an object or a text.
-fn ends_number(state: &State, byte: u8) -> bool
-    requires { state.now.depth ≤ max_depth }
-    ensures { result ≡ true → is_final state.now.mode (frames state.now.depth state.now.kinds) ≡ true }
 {
     if state.depth > 0 {
         return false;
     }
-    match byte {
-        b' ' | b'\t' | b'\n' | b'\r' | b'[' | b'{' | b'"' => is_final(state),
+    match state.mode {
+        Mode::Behind => true,
         _ => false,
     }
+}
+
+// Whether a number that stands alone ends before the byte: it is a blank, or begins an array, an object or a text.
+fn ends_number(class: Class) -> bool
+    ensures { result ≡ ends_number class }
+{
+    match class {
+        Class::Space | Class::White | Class::OpenBracket | Class::OpenBrace | Class::Quote => true,
+        _ => false,
+    }
+}
+
+// Whether the document ends before the byte.
+#[inline(always)]
+fn ends_before(state: &State, class: Class) -> bool
+    requires { state.now.depth ≤ max_depth }
+    ensures { result ≡ (is_final state.now.mode (frames state.now.depth state.now.kinds) && ends_number class) }
+{
+    is_final(state) && ends_number(class)
+}
+
+// The mode behind the byte, for the bytes that come most often: quotes, the colon behind a name, and the first digits of a
+// number and its fraction, and the dot between. Whatever is open, they lead there.
+#[inline(always)]
+fn plain_move(mode: Mode, byte: u8) -> Option<Mode>
+    ensures { IfSome result (λ next. (st : List Bool) (r : ℕ) → (step mode st r (class_of byte) ≡ goes next st r) × ((is_final mode st && ends_number (class_of byte)) ≡ false)) }
+{
+    match (mode, byte) {
+        (Mode::InText(TextPart::InChars, false), b'"') => Some(Mode::Behind),
+        (Mode::InText(TextPart::InChars, true), b'"') => Some(Mode::AfterName),
+        (Mode::AfterName, b':') => Some(Mode::Value),
+        (Mode::Value, b'"') => Some(Mode::InText(TextPart::InChars, false)),
+        (Mode::Value, b'1'..=b'9') => Some(Mode::InNumber(NumberPart::InWhole)),
+        (Mode::InNumber(NumberPart::InWhole), b'.') => Some(Mode::InNumber(NumberPart::AfterDot)),
+        (Mode::InNumber(NumberPart::AfterDot), b'0'..=b'9') => {
+            Some(Mode::InNumber(NumberPart::InFraction))
+        }
+        (Mode::Name, b'"') => Some(Mode::InText(TextPart::InChars, true)),
+        (Mode::FirstName, b'"') => Some(Mode::InText(TextPart::InChars, true)),
+        _ => None,
+    }
+}
+
+// What is found by a byte that was taken: the document's end, or that it goes on.
+#[inline(always)]
+fn found_behind(state: &State) -> Found
+    ensures { result ≡ cond (is_over state.now) (Found.Ends 1) Found.GoesOn }
+{
+    if is_over(state) {
+        Found::Ends(1)
+    } else {
+        Found::GoesOn
+    }
+}
+
+// Takes one byte more.
+#[inline(always)]
+fn take_byte(state: &mut State, byte: u8) -> Found
+    requires { state.old.depth ≤ max_depth }
+    ensures found { (more : List ℕ) → found_at state.old (byte ∷ more) ≡ or_later result 1 (found_at state.new more) }
+    ensures within { IsWithin result 1 }
+    ensures open { result ≡ Found.GoesOn → is_over state.new ≡ false }
+    ensures depth { state.new.depth ≤ max_depth }
+{
+    if let Some(mode) = plain_move(state.mode, byte) {
+        state.mode = mode;
+        return found_behind(state);
+    }
+    let class = class_of(byte);
+    if ends_before(state, class) {
+        return Found::Ends(0);
+    }
+    if !state::take(state, class) {
+        return Found::Refused(0);
+    }
+    found_behind(state)
 }
 
 /// Takes the next piece of a stream: whether the document that it goes on with ends in it, or has a wrong byte.
 pub fn find_end(state: &mut State, piece: &[u8]) -> Found
     requires depth { state.old.depth ≤ max_depth }
     requires open { is_over state.old ≡ false }
-    ensures goes_on { IfGoesOn result ((is_over state.new ≡ false) × ((front : List ℕ) → Reaches front state.old → Reaches (front ++ piece.now) state.new)) }
-    ensures ends { IfEnds result (λ n. (n ≤ length piece.now) × ((front : List ℕ) → Reaches front state.old → IsDocument (front ++ take n piece.now))) }
-    ensures refused { IfRefused result (λ n. (n < length piece.now) × ((front : List ℕ) → Reaches front state.old → Begins (front ++ take n piece.now) × (Begins (front ++ take (n + 1) piece.now) → ⊥))) }
+    ensures found { (more : List ℕ) → found_at state.old (piece.now ++ more) ≡ or_later result (length piece.now) (found_at state.new more) }
+    ensures within { IsWithin result (length piece.now) }
+    ensures open { result ≡ Found.GoesOn → is_over state.new ≡ false }
     ensures depth { state.new.depth ≤ max_depth }
 {
-    for (index, byte) in piece.iter().enumerate() {
-        if stays(state.mode, *byte) {
-            continue;
+    let mut index = 0;
+    while index < piece.len() {
+        index += count_staying(state.mode, &piece[index..]);
+        if index == piece.len() {
+            return Found::GoesOn;
         }
-        if ends_number(state, *byte) {
-            return Found::Ends(index);
-        }
-        if !state::take(state, class_of(*byte)) {
-            return Found::Refused(index);
-        }
-        if is_over(state) {
-            return Found::Ends(index + 1);
+        match take_byte(state, piece[index]) {
+            Found::GoesOn => index += 1,
+            Found::Ends(len) => return Found::Ends(index + len),
+            Found::Refused(len) => return Found::Refused(index + len),
         }
     }
     Found::GoesOn

@@ -12,7 +12,7 @@ use crate::machine::{Mode, NumberPart, TextPart, Top};
 use crate::state::{State, top};
 use std::fmt::{self, Display, Formatter};
 
-/// What was wanted in the place of a byte, or what is wrong with it.
+/// Why a byte is wrong in a JSON text: what could have been in its place, or what is wrong with it.
 #[derive(Clone, Copy, Debug, Drop, PartialEq, Eq)]
 pub enum Wanted {
     Value,

@@ -61,7 +61,7 @@ pub fn equal_locations_are_same()
     ensures { (l m : Location) → location_cmp l m ≡ Equal → l ≡ m }
 {}
 
-/// Lemma: nodes at a list of locations of a document have these locations, in this order.
+/// Lemma: the nodes at a list of locations of a document have these locations, in the same order.
 ///
 /// ```text
 /// laws::spots_show_their_locations();
@@ -225,9 +225,9 @@ pub fn steps_keep_locations_apart()
     ensures kept { KeptStandApart }
 {}
 
-/// Lemma: the locations at or below one location of a document are distinct. Every step that selects no child of a
-/// value twice leads from distinct locations to distinct ones, and so does a filter; `*` does if the names ascend at
-/// each location.
+/// Lemma: the locations at or below one location of a document are distinct. From distinct locations, a filter and
+/// every step that selects no child of a value twice lead to distinct ones; so does `*` if each object there has its
+/// names in ascending order.
 ///
 /// ```text
 /// laws::steps_lead_without_repeats();

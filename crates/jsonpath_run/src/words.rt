@@ -2,7 +2,7 @@
 ghost use Rattle.std.specs.Prelude.{map, IfSome, IfNone, IsTrue, ◌↔◌};
 ghost use Rattle.jsonpath_run.specs.Words.{IsCall, IsUsage, IsCount};
 
-/// What the program is asked to do.
+/// The commands of the program: what it writes for its paths and its input.
 ///
 /// ```text
 /// let call = parse_call(&["check", "$.a"]);

@@ -1,10 +1,10 @@
 //! The visitor of the files' documents: what is done with each of them.
 
-ghost use Rattle.std.specs.Prelude.{◌≡◌, ◌≤◌, ◌++◌, false, true, length, IfOk, IfErr, OnOk, OnErr};
+ghost use Rattle.std.specs.Prelude.{◌≡◌, ◌≢◌, ◌++◌, false, true, IfOk, IfErr, OnOk, OnErr};
 ghost use Rattle.jpath.specs.Gives.{Gives, IsWhyStopped};
 
 use crate::run::one_document::add_output_for_document;
-use jpath_core::{DocumentRefusal, MARK, Piece, Taken, Visitor};
+use jpath_core::{DocumentRefusal, Kind, MARK, Piece, Taken, Visitor};
 use jpath_files::{HeldOutput, tell_refused_document};
 use jpath_tasks::{Task, Wanted};
 use json::Scratch;
@@ -78,6 +78,7 @@ impl<'r, 'w, T: Eprint + Alloc<A = Global>, W: Output> DocumentVisitor<'r, 'w, T
     fn flush_output_if_full(&mut self) -> Result<(), IoFailed>
         ensures failed { OnErr result (W.has_failed self.new.output.writer ≡ true) }
         ensures same { W.written self.new.output.writer ++ self.new.output.bytes.items ≡ W.written self.old.output.writer ++ self.old.output.bytes.items }
+        ensures refused { self.new.has_refused ≡ self.old.has_refused }
     {
         if self.wanted.is_in_place {
             return Ok(());
@@ -91,7 +92,7 @@ impl<'r, 'w, T: Eprint + Alloc<A = Global>, W: Output> Visitor for DocumentVisit
 
     ghost written = { λ v. W.written v.output.writer ++ v.output.bytes.items };
 
-    ghost gives = { λ v piece taken text. Gives piece taken text };
+    ghost gives = { λ v kind piece taken text. Gives v.has_refused kind taken text };
 
     ghost stops = { λ v stop. IsWhyStopped (W.has_failed v.output.writer) v.has_refused stop };
 
@@ -103,8 +104,8 @@ impl<'r, 'w, T: Eprint + Alloc<A = Global>, W: Output> Visitor for DocumentVisit
         Ok(self.output.flush()?)
     }
 
-    // Writes what is wanted of a piece, its document or its blanks, all or nothing. A refused piece is told, and passed
-    // over with `-k`; else the run stops.
+    // Writes what is wanted of a piece, its document or its blanks, all or nothing. What is refused is told; then the run
+    // stops, but for `-k`.
     fn visit_piece(&mut self, piece: &Piece<'_>) -> Result<Taken, Stop> {
         self.flush_output_if_full()?;
         self.text.clear();
@@ -120,7 +121,6 @@ impl<'r, 'w, T: Eprint + Alloc<A = Global>, W: Output> Visitor for DocumentVisit
             Ok(count) => {
                 self.output.hold_text(&mut self.text)?;
                 Ok(Taken {
-                    passed: piece.bytes.len(),
                     count,
                     is_enough: count > 0 && matches!(wanted.task, Task::Quiet(_)),
                 })
@@ -134,8 +134,7 @@ impl<'r, 'w, T: Eprint + Alloc<A = Global>, W: Output> Visitor for DocumentVisit
     }
 }
 
-// Tells why a piece is refused. With `-k` its bytes up to the end of the line on which its first byte stands that is no
-// blank are passed over; else, and for blanks, the run stops.
+// Tells why a piece is refused. With `-k` the run goes on behind it; else, and for blanks, it stops.
 fn stop_or_pass_refused_piece(
     rt: &(impl Eprint + Alloc<A = Global>),
     wanted: &Wanted<'_>,
@@ -143,26 +142,23 @@ fn stop_or_pass_refused_piece(
     piece: &Piece<'_>,
     refusal: DocumentRefusal,
 ) -> Result<Taken, Stop>
-    ensures passed { IfOk result (λ taken. taken.passed ≤ length piece.now.bytes.now) }
-    ensures blank { OnOk result (piece.now.is_blank ≡ false) }
     ensures count { IfOk result (λ taken. taken.count ≡ 0) }
     ensures more { IfOk result (λ taken. taken.is_enough ≡ false) }
     ensures refused { IfErr result (λ stop. stop ≡ Stop.Document) }
 {
-    let len = tell_refused_document(rt, name, piece.bytes, piece.place, refusal);
-    if !wanted.keeps_going || piece.is_blank {
+    tell_refused_document(rt, name, piece.bytes, piece.place, refusal);
+    if !wanted.keeps_going || piece.kind == Kind::Blanks {
         return Err(Stop::Document);
     }
     Ok(Taken {
-        passed: len.min(piece.bytes.len()),
         count: 0,
         is_enough: false,
     })
 }
 
-// Writes what is wanted of a piece of a stream, and answers how many matches it has, or how many places
-// edits select: for a document what the task asks;
-// blanks, and a byte order mark before a document, only where an edit keeps them. A refusal may leave a part of it.
+// Writes what is wanted of a piece of a stream, and answers how many matches it has, or how many places edits select:
+// for a document what the task asks; blanks, and a byte order mark before a document, only where an edit keeps them.
+// A refusal may leave a part of it.
 fn add_output_for_piece(
     rt: &(impl Eprint + Alloc<A = Global>),
     wanted: &Wanted<'_>,
@@ -170,15 +166,23 @@ fn add_output_for_piece(
     piece: &Piece<'_>,
     scratch: &mut Scratch,
     out: &mut Vec<u8>,
-) -> Result<usize, DocumentRefusal> {
-    if piece.is_blank {
-        if wanted.keeps_blanks_between_documents() {
-            out.extend_from_slice(piece.bytes)?;
+) -> Result<usize, DocumentRefusal>
+    ensures document { OnOk result (piece.now.kind ≢ Kind.Refused) }
+{
+    let keeps_blanks = wanted.keeps_blanks_between_documents();
+    match piece.kind {
+        Kind::Refused => Err(DocumentRefusal::NotADocument),
+        Kind::Blanks => {
+            if keeps_blanks {
+                out.extend_from_slice(piece.bytes)?;
+            }
+            Ok(0)
         }
-        return Ok(0);
+        Kind::Document => {
+            if piece.is_marked && keeps_blanks {
+                out.extend_from_slice(&MARK)?;
+            }
+            add_output_for_document(rt, wanted, name, piece.bytes, scratch, out)
+        }
     }
-    if piece.is_marked && wanted.keeps_blanks_between_documents() {
-        out.extend_from_slice(&MARK)?;
-    }
-    add_output_for_document(rt, wanted, name, piece.bytes, scratch, out)
 }

@@ -1,11 +1,17 @@
 //! The buffer of a stream: the current document and the bytes read beyond it.
 
-ghost use Rattle.std.specs.Prelude.{◌≡◌, ℕ, List, [], ◌++◌, ◌≤◌, ◌<◌, drop, length, min, true, false, Err, IfSome, IfNone, OnOk, OnErr};
-ghost use Rattle.jsonpath_streams.specs.DocumentEnds.{AreBlanks};
-ghost use Rattle.jpath_texts.specs.Stream.{left, piece_of, mark_if, MayCome, IsSound, IsReady, IsFirstOf};
+ghost use Rattle.std.specs.Prelude.{◌≡◌, ℕ, List, [], ◌++◌, ◌≤◌, ◌<◌, drop, length, true, false, Err, IfSome, IfNone, OnOk, OnErr, if◌then◌else◌};
+ghost use Rattle.jsonpath_streams.specs.DocumentEnds.{is_blank_text};
+ghost use Rattle.json_recognizer.specs.Grammar.{max_depth};
+ghost use Rattle.json_recognizer.specs.State.{frames};
+ghost use Rattle.json_recognizer.specs.Machine.{is_final};
+ghost use Rattle.jpath_texts.specs.Stream.{left, piece_of, mark_if, MayCome, IsSound, IsReady, IsFirstOf, blanks_len, behind_line};
 
-use jsonpath_streams::{Input, Inside, IoFailed, document_end_in_piece};
-use memchr::{memchr_iter, memrchr};
+use crate::stream::lines::{count_blanks, first_line_end};
+use crate::stream::piece::{Kind, LineColumn};
+use json_recognizer::{Found, State, find_end, is_final, start};
+use jsonpath_streams::{Input, IoFailed, is_blank_text};
+use memchr::memchr_iter;
 use std::alloc::{AllocError, Global};
 
 // How many bytes are asked for at a time.
@@ -13,17 +19,6 @@ const CHUNK: usize = 131072;
 
 /// A byte order mark.
 pub const MARK: [u8; 3] = [0xef, 0xbb, 0xbf];
-
-// What a stream has next.
-#[derive(Clone, Copy, Debug, Drop, PartialEq, Eq)]
-pub(crate) enum Next {
-    // A document, or what stands in place of one: `current_piece` has it.
-    Piece,
-    // More bytes are needed to tell.
-    Bytes,
-    // Nothing but blanks: `current_piece` has them.
-    End,
-}
 
 /// Why a stream could not be read further.
 #[derive(Clone, Copy, Debug, Drop, PartialEq, Eq)]
@@ -44,14 +39,7 @@ impl From<AllocError> for ReadFailure {
     }
 }
 
-/// A position in a stream, line and column from 1; the column counts bytes.
-#[derive(Clone, Copy, Debug, Drop, PartialEq, Eq)]
-pub struct LineColumn {
-    pub line: usize,
-    pub column: usize,
-}
-
-// The bytes of a stream that are not yet done with: one document and what was read beyond it.
+// The bytes of a stream that are not yet done with: the piece at hand and what was read beyond it.
 #[derive(Drop)]
 pub(crate) struct StreamBuffer {
     bytes: Vec<u8>,
@@ -60,9 +48,9 @@ pub(crate) struct StreamBuffer {
     // Where the piece at hand begins and ends.
     start: usize,
     end: usize,
-    // How far the bytes are looked through, and what they leave open.
+    // How far the bytes are looked through, and where they lead.
     seen: usize,
-    here: Inside,
+    state: State,
     is_whole: bool,
     place: LineColumn,
 }
@@ -80,14 +68,13 @@ impl StreamBuffer {
             start: 0,
             end: 0,
             seen: 0,
-            here: Inside::Blanks,
+            state: start(),
             is_whole: false,
             place: LineColumn { line: 1, column: 1 },
         }
     }
 
-    // The bytes of the piece at hand: the document found last, or what stands in place of one, with the blanks before
-    // it.
+    // The bytes of the piece that was found last, with the blanks before it.
     pub(crate) fn current_piece(&self) -> &[u8]
         requires { IsSound self.now }
         ensures { result.now ≡ piece_of self.now }
@@ -110,11 +97,11 @@ impl StreamBuffer {
     {
         let rest = &self.bytes[self.start..];
         if rest.starts_with(&MARK) {
-            let start = self.start + MARK.len();
-            self.start = start;
-            self.end = start;
-            self.seen = start;
-            self.here = Inside::Blanks;
+            let behind = self.start + MARK.len();
+            self.start = behind;
+            self.end = behind;
+            self.seen = behind;
+            self.state = start();
             Some(true)
         } else if MARK.starts_with(rest) && !self.is_whole {
             None
@@ -123,51 +110,112 @@ impl StreamBuffer {
         }
     }
 
-    // Looks through the bytes for the end of the next document, and tells what comes next: a piece, nothing more, or
-    // that more bytes are needed.
-    pub(crate) fn find_next_piece(&mut self) -> Next
+    // Looks through the bytes for the end of the next document, or its first wrong byte, and answers what the piece is
+    // up to there; None where more bytes are needed to know.
+    pub(crate) fn find_next_piece(&mut self) -> Option<Kind>
         requires { IsReady self.old }
         ensures sound { IsSound self.new }
         ensures stays { left self.new ≡ left self.old }
         ensures whole { self.new.is_whole ≡ self.old.is_whole }
-        ensures bytes { result ≡ Next.Bytes → IsReady self.new × (self.new.is_whole ≡ false) }
-        ensures first { (result ≡ Next.Bytes → ⊥) → (more : List ℕ) → MayCome self.new more → IsFirstOf (piece_of self.new) (left self.new ++ more) }
-        ensures end { result ≡ Next.End → (self.new.is_whole ≡ true) × (piece_of self.new ≡ left self.new) × AreBlanks (piece_of self.new) }
+        ensures bytes { IfNone result (IsReady self.new × (self.new.is_whole ≡ false)) }
+        ensures first { IfSome result (λ kind. (more : List ℕ) → MayCome self.new more → IsFirstOf kind (piece_of self.new) (left self.new ++ more)) }
+        ensures end { IfSome result (λ kind. kind ≡ Kind.Blanks → self.new.is_whole ≡ true) }
     {
         let rest = &self.bytes[self.seen..];
-        match document_end_in_piece(&mut self.here, rest) {
-            Some(len) => {
+        match find_end(&mut self.state, rest) {
+            Found::Ends(len) => {
                 self.end = self.seen + len;
-                Next::Piece
+                Some(Kind::Document)
             }
-            None => {
+            Found::Refused(len) => {
+                self.end = self.seen + len + 1;
+                Some(Kind::Refused)
+            }
+            Found::GoesOn => {
                 self.seen = self.bytes.len();
                 if !self.is_whole {
-                    return Next::Bytes;
+                    return None;
                 }
                 self.end = self.seen;
-                if let Inside::Blanks = self.here {
-                    Next::End
-                } else {
-                    Next::Piece
-                }
+                Some(self.kind_at_end())
             }
         }
     }
 
-    // Passes over so many bytes of the piece at hand, all at most. The next piece begins behind them.
-    pub(crate) fn pass_bytes(&mut self, len: usize)
+    // What the piece is that goes to the stream's end: a number, blanks, or a document that is cut short.
+    fn kind_at_end(&self) -> Kind
+        requires sound { IsSound self.now }
+        requires depth { self.now.state.depth ≤ max_depth }
+        ensures { result ≡ (if is_final self.now.state.mode (frames self.now.state.depth self.now.state.kinds) then Kind.Document else (if is_blank_text (piece_of self.now) then Kind.Blanks else Kind.Refused)) }
+    {
+        if is_final(&self.state) {
+            Kind::Document
+        } else if is_blank_text(self.current_piece()) {
+            Kind::Blanks
+        } else {
+            Kind::Refused
+        }
+    }
+
+    // Passes over the piece at hand. The next begins behind it.
+    pub(crate) fn pass_piece(&mut self)
         requires { IsSound self.old }
         ensures ready { IsReady self.new }
-        ensures passed { left self.new ≡ drop (min len (length (piece_of self.old))) (left self.old) }
+        ensures passed { left self.new ≡ drop (length (piece_of self.old)) (left self.old) }
         ensures whole { self.new.is_whole ≡ self.old.is_whole }
     {
-        let end = self.start + len.min(self.end - self.start);
-        self.advance_line_and_column(end);
-        self.start = end;
-        self.end = end;
-        self.seen = end;
-        self.here = Inside::Blanks;
+        let end = self.end;
+        self.begin_piece_at(end);
+    }
+
+    // Passes over the blanks at the front of the piece at hand.
+    pub(crate) fn pass_blanks(&mut self)
+        requires { IsSound self.old }
+        ensures ready { IsReady self.new }
+        ensures passed { left self.new ≡ drop (blanks_len (piece_of self.old)) (left self.old) }
+        ensures whole { self.new.is_whole ≡ self.old.is_whole }
+    {
+        let behind = self.start + count_blanks(self.current_piece());
+        self.begin_piece_at(behind);
+    }
+
+    // Passes over the bytes up to and with the first line end, or over all, where there is none. Answers whether the
+    // line was passed: there is a line end, or the stream was read to its end.
+    pub(crate) fn pass_line(&mut self) -> bool
+        requires { IsReady self.old }
+        ensures ready { IsReady self.new }
+        ensures passed { result ≡ true → (more : List ℕ) → MayCome self.old more → behind_line (left self.old ++ more) ≡ left self.new ++ more }
+        ensures open { result ≡ false → (self.new.is_whole ≡ false) × ((more : List ℕ) → behind_line (left self.old ++ more) ≡ behind_line (left self.new ++ more)) }
+        ensures whole { self.new.is_whole ≡ self.old.is_whole }
+    {
+        let rest = &self.bytes[self.start..];
+        match first_line_end(rest) {
+            Some(at) => {
+                let behind = self.start + at + 1;
+                self.begin_piece_at(behind);
+                true
+            }
+            None => {
+                let end = self.bytes.len();
+                self.begin_piece_at(end);
+                self.is_whole
+            }
+        }
+    }
+
+    // Passes over the bytes up to this one: the next piece begins there.
+    fn begin_piece_at(&mut self, at: usize)
+        requires from { self.old.start ≤ at }
+        requires within { at ≤ length self.old.bytes.items }
+        ensures ready { IsReady self.new }
+        ensures left { left self.new ≡ drop at self.old.bytes.items }
+        ensures whole { self.new.is_whole ≡ self.old.is_whole }
+    {
+        self.advance_line_and_column(at);
+        self.start = at;
+        self.end = at;
+        self.seen = at;
+        self.state = start();
     }
 
     // Reads more bytes of the stream into the buffer, or notes that the stream has ended. Refused where the read fails
@@ -211,14 +259,17 @@ impl StreamBuffer {
         ensures { self.new ≡ record self.old { place = self.new.place } }
     {
         let passed = &self.bytes[self.start..end];
-        match memrchr(b'\n', passed) {
-            Some(last) => {
-                let lines = memchr_iter(b'\n', passed).count();
-                self.place.line = self.place.line.saturating_add(lines);
-                self.place.column = passed.len().saturating_sub(last);
-            }
-            None => self.place.column = self.place.column.saturating_add(passed.len()),
+        let mut lines = 0usize;
+        let mut last = None;
+        for at in memchr_iter(b'\n', passed) {
+            lines = lines.saturating_add(1);
+            last = Some(at);
         }
+        self.place.line = self.place.line.saturating_add(lines);
+        self.place.column = match last {
+            Some(at) => passed.len().saturating_sub(at),
+            None => self.place.column.saturating_add(passed.len()),
+        };
     }
 
     // Drops the bytes before the piece at hand, which are done with.

@@ -1,31 +1,16 @@
 //! Visitors of documents, and the loop that visits each document of a stream.
 
-ghost use Rattle.std.specs.Prelude.{◌≡◌, ℕ, List, [], ◌++◌, ◌≤◌, drop, length, true, false, Bool, Err, IfOk, IfErr, OnOk, OnErr};
-ghost use Rattle.jsonpath_streams.specs.DocumentEnds.{AreBlanks};
-ghost use Rattle.jpath_texts.specs.Stream.{left, piece_of, mark_if, is_enough, IfStopped, IsCutShort, IsSound, IsReady, StayGiven, GoesAlong};
+ghost use Rattle.std.specs.Prelude.{◌≡◌, ℕ, List, [], ◌++◌, true, false, Bool, Err, IfOk, IfErr, OnOk, OnErr};
+ghost use Rattle.jpath_texts.specs.Stream.{left, piece_of, mark_if, behind_piece, is_enough, IfStopped, IsCutShort, IsSound, IsReady, MayCome, Gives, StayGiven, GoesAlong};
 
-use crate::stream::stream_buffer::{LineColumn, Next, ReadFailure, StreamBuffer};
+use crate::stream::piece::{Kind, Piece};
+use crate::stream::stream_buffer::{ReadFailure, StreamBuffer};
 use jsonpath_streams::Input;
 use std::alloc::Global;
 
-/// A document of a stream, or bytes that are none: blanks after the last, or no JSON.
-#[derive(Clone, Copy, Debug, Drop)]
-pub struct Piece<'p> {
-    /// Its bytes, with the blanks before it.
-    pub bytes: &'p [u8],
-    /// Where they begin.
-    pub place: LineColumn,
-    /// Whether they are blanks alone, after the last document.
-    pub is_blank: bool,
-    /// Whether a byte order mark comes before it.
-    pub is_marked: bool,
-}
-
-/// What a visitor reports after one document: bytes consumed, matches found, whether to stop.
+/// What a visitor reports after a piece: matches found, whether to stop.
 #[derive(Clone, Copy, Debug, Drop)]
 pub struct Taken {
-    /// How many of its bytes were consumed: the stream goes on after them.
-    pub passed: usize,
     /// How many matches it has.
     pub count: usize,
     /// Whether to stop, since nothing more is wanted.
@@ -34,8 +19,6 @@ pub struct Taken {
 
 /// A visitor of the documents of a stream, one after another.
 pub trait Visitor {
-    ghost use Rattle.jpath_texts.specs.declared.stream.visit_documents.Taken.{Taken};
-
     /// The error with which it ends the stream.
     type Stop: Drop;
 
@@ -43,7 +26,7 @@ pub trait Visitor {
     ghost written: { Self → List ℕ };
 
     // What may become of a piece, and what is then written for it.
-    ghost gives: { Self → List ℕ → Taken → List ℕ → Type 0 };
+    ghost gives: { Self → Gives };
 
     // Why it may go no further.
     ghost stops: { Self → Self.Stop → Type 0 };
@@ -54,14 +37,11 @@ pub trait Visitor {
         ensures stops { IfErr result (stops self.new) }
         ensures stay { StayGiven (gives self.old) (gives self.new) };
 
-    /// Visits the next piece, writes the output for it, and reports what it consumed and found. If it returns an
-    /// error, nothing is written for the piece.
+    /// Visits the next piece, writes the output for it, and reports what it found. If it returns an error, nothing is
+    /// written for the piece.
     fn visit_piece(&mut self, piece: &Piece<'_>) -> Result<Taken, Self::Stop>
-        requires { piece.now.is_blank ≡ true → AreBlanks piece.now.bytes.now }
-        ensures passed { IfOk result (λ taken. taken.passed ≤ length piece.now.bytes.now) }
-        ensures all { IfOk result (λ taken. piece.now.is_blank ≡ true → taken.passed ≡ length piece.now.bytes.now) }
         ensures gives { IfOk result (λ taken. (text : List ℕ) × (written self.new ≡ written self.old ++ text)
-            × gives self.new piece.now.bytes.now taken text) }
+            × gives self.new piece.now.kind piece.now.bytes.now taken text) }
         ensures nothing { OnErr result (written self.new ≡ written self.old) }
         ensures stops { IfErr result (stops self.new) }
         ensures stay { StayGiven (gives self.old) (gives self.new) };
@@ -92,9 +72,10 @@ pub struct Ended<S> {
 }
 
 /// Visits the documents of a stream, one after another, each as soon as its bytes are read, until the stream ends, a
-/// read fails, or the visitor wants no more or returns an error. Returns how many matches the visited documents have
-/// together, and how the stream ended. The visitor's output for each is in their order. A byte order mark at the
-/// beginning is skipped.
+/// read fails, or the visitor wants no more or returns an error. Where a byte comes that no document goes on with, the
+/// bytes up to it are visited at once; if the visitor goes on, the stream does behind the line on which they begin.
+/// Returns how many matches the visited documents have together, and how the stream ended. The visitor's output for
+/// each is in their order. A byte order mark at the beginning is skipped.
 pub fn visit_documents<R: Input, V: Visitor>(
     alloc: Global,
     reader: &mut R,
@@ -174,35 +155,59 @@ fn notify_visitor_then_read<R: Input, V: Visitor>(
     }
 }
 
-// Hands the piece at hand to the visitor, and passes over as many of its bytes as the visitor is done with.
+// Hands the piece at hand to the visitor.
 fn visit_current_piece<V: Visitor>(
-    feed: &mut StreamBuffer,
+    feed: &StreamBuffer,
     visitor: &mut V,
-    is_blank: bool,
+    kind: Kind,
     is_marked: bool,
 ) -> Result<Taken, V::Stop>
-    requires sound { IsSound feed.old }
-    requires blank { is_blank ≡ true → AreBlanks (piece_of feed.old) }
-    ensures ready { OnOk result (IsReady feed.new) }
-    ensures passed { IfOk result (λ taken. taken.passed ≤ length (piece_of feed.old)) }
-    ensures all { IfOk result (λ taken. is_blank ≡ true → taken.passed ≡ length (piece_of feed.old)) }
-    ensures left { IfOk result (λ taken. left feed.new ≡ drop taken.passed (left feed.old)) }
+    requires { IsSound feed.now }
     ensures gives { IfOk result (λ taken. (text : List ℕ) × (V.written visitor.new ≡ V.written visitor.old ++ text)
-        × V.gives visitor.new (piece_of feed.old) taken text) }
+        × V.gives visitor.new kind (piece_of feed.now) taken text) }
     ensures stops { IfErr result (V.stops visitor.new) }
-    ensures nothing { OnErr result ((V.written visitor.new ≡ V.written visitor.old) × (left feed.new ≡ left feed.old)) }
-    ensures whole { feed.new.is_whole ≡ feed.old.is_whole }
+    ensures nothing { OnErr result (V.written visitor.new ≡ V.written visitor.old) }
     ensures stay { StayGiven (V.gives visitor.old) (V.gives visitor.new) }
 {
     let piece = Piece {
         bytes: feed.current_piece(),
         place: feed.line_and_column(),
-        is_blank,
+        kind,
         is_marked,
     };
-    let taken = visitor.visit_piece(&piece)?;
-    feed.pass_bytes(taken.passed);
-    Ok(taken)
+    visitor.visit_piece(&piece)
+}
+
+// Passes over the rest of the line on which the refused piece at hand begins, behind the blanks before it. Refused with
+// how the stream ended, where it can't be read on or the visitor goes no further.
+fn pass_refused_line<R: Input, V: Visitor>(
+    feed: &mut StreamBuffer,
+    reader: &mut R,
+    visitor: &mut V,
+) -> Result<(), How<V::Stop>>
+    requires sound { IsSound feed.old }
+    requires whole { feed.old.is_whole ≡ true → R.has_ended reader.old ≡ true }
+    ensures ready { OnOk result (IsReady feed.new) }
+    ensures whole { OnOk result (feed.new.is_whole ≡ true → R.has_ended reader.new ≡ true) }
+    ensures ok { OnOk result ((more : List ℕ) × (R.given reader.new ≡ R.given reader.old ++ more)
+        × ((later : List ℕ) → MayCome feed.new later → MayCome feed.old (more ++ later)
+        × (behind_piece Kind.Refused (piece_of feed.old) (left feed.old ++ (more ++ later)) ≡ left feed.new ++ later))) }
+    ensures err { OnErr result ((more : List ℕ) × (R.given reader.new ≡ R.given reader.old ++ more) × MayCome feed.old more) }
+    ensures how { IfErr result IsCutShort }
+    ensures unread { IfErr result (λ how. how ≡ How.ReadFailed ReadFailure.Failed → R.has_failed reader.new ≡ true) }
+    ensures read { (result ≡ Err (How.ReadFailed ReadFailure.Failed) → ⊥) → R.has_failed reader.new ≡ R.has_failed reader.old }
+    ensures stopped { IfErr result (IfStopped (V.stops visitor.new)) }
+    ensures written { V.written visitor.new ≡ V.written visitor.old }
+    ensures stay { StayGiven (V.gives visitor.old) (V.gives visitor.new) }
+{
+    feed.pass_blanks();
+    for _ in 0..u64::MAX {
+        if feed.pass_line() {
+            return Ok(());
+        }
+        notify_visitor_then_read(feed, reader, visitor)?;
+    }
+    Err(How::Endless)
 }
 
 // Visits the documents of a stream, one after another, from where it stands, and answers how many matches they have and
@@ -226,36 +231,41 @@ fn visit_each_piece<R: Input, V: Visitor>(
     let mut count = 0usize;
     let mut is_marked = is_marked;
     for _ in 0..u64::MAX {
-        let next = feed.find_next_piece();
-        if let Next::Bytes = next {
+        let Some(kind) = feed.find_next_piece() else {
             if let Err(how) = notify_visitor_then_read(feed, reader, visitor) {
                 return Ended { count, how };
             }
-        } else {
-            let is_last = matches!(next, Next::End);
-            match visit_current_piece(feed, visitor, is_last, is_marked) {
-                Ok(taken) => {
-                    count = count.saturating_add(taken.count);
-                    is_marked = false;
-                    if taken.is_enough {
-                        return Ended {
-                            count,
-                            how: How::Enough,
-                        };
-                    }
-                    if is_last {
-                        return Ended {
-                            count,
-                            how: How::Whole,
-                        };
-                    }
+            continue;
+        };
+        let taken = match visit_current_piece(feed, visitor, kind, is_marked) {
+            Ok(taken) => taken,
+            Err(stop) => {
+                return Ended {
+                    count,
+                    how: How::Stopped(stop),
+                };
+            }
+        };
+        count = count.saturating_add(taken.count);
+        is_marked = false;
+        if taken.is_enough {
+            return Ended {
+                count,
+                how: How::Enough,
+            };
+        }
+        match kind {
+            Kind::Document => feed.pass_piece(),
+            Kind::Refused => {
+                if let Err(how) = pass_refused_line(feed, reader, visitor) {
+                    return Ended { count, how };
                 }
-                Err(stop) => {
-                    return Ended {
-                        count,
-                        how: How::Stopped(stop),
-                    };
-                }
+            }
+            Kind::Blanks => {
+                return Ended {
+                    count,
+                    how: How::Whole,
+                };
             }
         }
     }

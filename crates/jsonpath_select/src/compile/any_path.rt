@@ -36,7 +36,7 @@ use std::rc::Rc;
 pub struct PathParts<'p> {
     /// The path text, as it was compiled.
     pub text: &'p str,
-    /// The syntax tree of the text.
+    /// The syntax tree of the path text.
     pub tree: &'p ParserNode,
     /// The token list of the path.
     pub tokens: &'p [ParseToken],

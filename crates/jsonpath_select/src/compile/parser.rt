@@ -69,7 +69,7 @@ impl fmt::Debug for ParseFault {
 
 impl Error for ParseFault {}
 
-/// Compiles path texts into paths that own them.
+/// Compiles path texts into paths that own a copy of their text.
 ///
 /// ```text
 /// let node = Parser::compile(alloc, "$.a")?;

@@ -1,0 +1,32 @@
+//! The pieces of a stream.
+
+/// What a piece of a stream is.
+#[derive(Clone, Copy, Debug, Drop, PartialEq, Eq)]
+pub enum Kind {
+    /// A document.
+    Document,
+    /// The bytes up to and with the first that no document goes on with, or a document that the stream's end cuts short.
+    Refused,
+    /// Blanks alone, after the last document.
+    Blanks,
+}
+
+/// A position in a stream, line and column from 1; the column counts bytes.
+#[derive(Clone, Copy, Debug, Drop, PartialEq, Eq)]
+pub struct LineColumn {
+    pub line: usize,
+    pub column: usize,
+}
+
+/// The next of a stream: a document, or what is in its place.
+#[derive(Clone, Copy, Debug, Drop)]
+pub struct Piece<'p> {
+    /// Its bytes, with the blanks before it.
+    pub bytes: &'p [u8],
+    /// Where they begin.
+    pub place: LineColumn,
+    /// What they are.
+    pub kind: Kind,
+    /// Whether a byte order mark comes before it.
+    pub is_marked: bool,
+}
