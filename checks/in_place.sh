@@ -154,6 +154,14 @@ if is_root:
     edits("a file of one's own", path, user=(STRANGER, GROUP))
     judge(rights(path) == (STRANGER, GROUP, 0o644), f"a file of one's own has {rights(path)}")
 
+    for mode, more in [(0o6755, ()), (0o755, ("--copy",))]:
+        folder, path = folder_with()
+        os.chown(folder, STRANGER, GROUP)
+        os.chown(path, STRANGER, GROUP)
+        os.chmod(path, 0o6755)
+        edits(f"set-user-ID {more}", path, *more, user=(STRANGER, GROUP))
+        judge(rights(path) == (STRANGER, GROUP, mode), f"set-user-ID {more}: {rights(path)}")
+
     folder, path = folder_with()
     os.chmod(path, 0o666)
     os.chown(folder, STRANGER, GROUP)
@@ -200,15 +208,15 @@ else:
     not_tried("a full disk and one that is read-only", "none can be mounted")
 
 limited = ["bash", "-c", 'ulimit -f 1; exec "$@"', "bash"]
-for more in ((), ("--copy",)):
-    folder, path = folder_with(text=OLD * 50)
-    ended = end(start(["-i", *more, "--set-text", "$.a", "x" * 100, path], before=limited))[0]
-    judge(ended == -signal.SIGXFSZ, f"a limit on files {more}: {ended}")
-    # what is copied begins with what the file has no room for yet, so a part of that stands behind the old text
-    judge(read(path) == OLD * 50 if not more else read(path).startswith(OLD * 50), f"a limit on files {more} changes the file")
-    if not more:
-        ended = end(start(["-i", "--set", "$.a", "1", path]))[0]
-        judge(ended == 0 and os.listdir(folder) == ["a.json"], f"an edit behind one that a limit ended: {ended}, {os.listdir(folder)}")
+if os.path.exists("/proc/self/limits"):
+    for more in ([], ["--copy"]):
+        folder, path = folder_with(text=OLD * 50)
+        got = end(start(["-i", *more, "--set-text", "$.a", "x" * 100, path], before=limited))
+        judge(got[0] == 4 and "longer than a file may be" in got[2], f"a limit on files {more}: {got}")
+        judge(read(path) == OLD * 50 and os.listdir(folder) == ["a.json"], f"a limit on files {more} leaves {os.listdir(folder)}")
+        edits(f"a text within a limit on files {more}", folder_with()[1], *more, before=limited)
+else:
+    not_tried("a limit on files", "the system does not tell it")
 
 # ---- two edits at once, and locks
 
@@ -244,6 +252,13 @@ if shutil.which("strace") and subprocess.run([*traced("none:error=EIO"), "true"]
     for call, fault in [("fsync", "EIO"), ("rename", "EBUSY"), ("write", "ENOSPC"), ("fchmod", "EPERM"), ("flock", "ENOLCK")]:
         folder, path = folder_with()
         refuses(f"{call} with {fault}", path, "", before=traced(f"{call}:error={fault}:when=1" if call == "write" else f"{call}:error={fault}"))
+    folder, path = folder_with()
+    got = edit(path, before=traced("fsync:error=EIO:when=2"))
+    judge(got[0] == 4 and "the edited text is in the file" in got[2] and read(path) == NEW and os.listdir(folder) == ["a.json"],
+          f"a folder that is not seen to be on the disk: {got} {read(path)}")
+    folder, path = folder_with()
+    got = edit(path, "--copy", before=traced("pwrite64:error=EIO"))
+    judge(got[0] == 4 and "the old text can't be put back" in got[2], f"a copy that can't be undone: {got}")
     folder, path = folder_with()
     edits("locks for what is open to be written alone", path, before=traced("flock:error=EBADF:when=1"))
     for call in ("pwrite64", "fsync"):

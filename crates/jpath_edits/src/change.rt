@@ -34,9 +34,10 @@ impl<'c> Change<'c> {
     }
 }
 
-/// The text with the values changed that are at these locations below the root (those below no other of them), all
-/// at once. `exact` is the exact tree of the text. The locations are in document order. The error `EditDiffers`,
-/// which is never seen, means that a replaced part, read again, is not the value at its location.
+/// The text of a document with `change` made at each of the locations below the root that has none of the others
+/// above it, all at once. `exact` is the exact tree of the text, and `places` is in document order. Errors:
+/// `EditDiffers` if a replaced part of the text, read again, is not the value at its location, which would be a fault
+/// of this library; or `OutOfMemory`.
 pub fn changed_text(
     alloc: Global,
     text: &str,

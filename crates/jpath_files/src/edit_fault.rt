@@ -1,5 +1,8 @@
 //! Why a file is not edited in place.
 
+ghost use Rattle.std.specs.Prelude.{◌≡◌};
+ghost use Rattle.jpath_files.specs.FaultWords.{fault_words};
+
 use std::fmt::{self, Display, Formatter};
 use std::io;
 
@@ -16,21 +19,31 @@ pub enum EditFault {
     NoLock(io::Error),
     /// It was changed after it was read.
     Changed,
+    /// The edited text is longer than a file may be (`ulimit -f`).
+    TooLong,
     /// A new file in its place can't have its owner, group and mode.
     OwnerLost,
     /// A part of the edited text is in the file, and its old text can't be put back.
     Torn(io::Error),
+    /// The edited text is in the file, and the folder can't be seen to be on the disk.
+    Unsynced(io::Error),
     /// A call of the system failed.
     Failed(io::Error),
 }
 
 impl From<io::Error> for EditFault {
+    ghost use Rattle.jpath_files.specs.declared.edit_fault.EditFault.TheVariants.{Failed};
+
+    ghost from_gives = { λ error fault. fault ≡ Failed error };
+
     fn from(error: io::Error) -> EditFault {
         EditFault::Failed(error)
     }
 }
 
 impl Display for EditFault {
+    ghost output = { fault_words };
+
     fn fmt<W: fmt::Write>(&self, f: &mut Formatter<W>) -> fmt::Result {
         match self {
             EditFault::NotRegular => f.write_str("only a regular file is edited in place"),
@@ -43,12 +56,19 @@ impl Display for EditFault {
             EditFault::Changed => {
                 f.write_str("the file was changed while it was edited, so it is left as it is")
             }
+            EditFault::TooLong => {
+                f.write_str("the edited text is longer than a file may be (ulimit -f)")
+            }
             EditFault::OwnerLost => f.write_str(
                 "a new file can't have the owner, group and mode of this one: --copy writes into it",
             ),
             EditFault::Torn(error) => write!(
                 f,
                 "{error}; a part of the edited text is in the file, and the old text can't be put back"
+            ),
+            EditFault::Unsynced(error) => write!(
+                f,
+                "{error}; the edited text is in the file, and may be lost if the system stops now"
             ),
             EditFault::Failed(error) => write!(f, "{error}"),
         }

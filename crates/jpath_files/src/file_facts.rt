@@ -1,6 +1,7 @@
 //! What the system knows of a file, as far as an edit in place goes by it.
 
-ghost use Rattle.std.specs.Prelude.{◌≡◌, true};
+ghost use Rattle.std.specs.Prelude.{◌≡◌, ◌↔◌, bit_and, IsTrue};
+ghost use Rattle.std.specs.Fs.{file_type, metadata_len, metadata_mode, IsFile};
 
 use std::fs::Metadata;
 use std::os::unix::fs::MetadataExt;
@@ -29,7 +30,11 @@ pub struct FileFacts {
 
 impl FileFacts {
     /// The facts of a file by what the system knows of it.
-    pub fn of_metadata(found: &Metadata) -> FileFacts {
+    pub fn of_metadata(found: &Metadata) -> FileFacts
+        ensures regular { IsTrue result.is_regular ↔ IsFile (file_type found.now) }
+        ensures size { result.size ≡ metadata_len found.now }
+        ensures rights { result.rights ≡ bit_and (metadata_mode found.now) RIGHTS }
+    {
         FileFacts {
             is_regular: found.is_file(),
             links: found.nlink(),
@@ -46,14 +51,14 @@ impl FileFacts {
 
     /// Whether a file belongs to the same owner and group as another.
     pub fn has_same_owner(&self, other: &FileFacts) -> bool
-        ensures yes { result ≡ true → (self.now.owner ≡ other.now.owner) × (self.now.group ≡ other.now.group) }
+        ensures { IsTrue result ↔ ((self.now.owner ≡ other.now.owner) × (self.now.group ≡ other.now.group)) }
     {
         self.owner == other.owner && self.group == other.group
     }
 
     /// Whether these are of the same file, whatever was done to it between.
     pub fn is_same_file(&self, other: &FileFacts) -> bool
-        ensures yes { result ≡ true → (self.now.device ≡ other.now.device) × (self.now.inode ≡ other.now.inode) }
+        ensures { IsTrue result ↔ ((self.now.device ≡ other.now.device) × (self.now.inode ≡ other.now.inode)) }
     {
         self.device == other.device && self.inode == other.inode
     }

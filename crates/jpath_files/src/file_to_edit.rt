@@ -4,6 +4,7 @@ ghost use Rattle.std.specs.Prelude.{◌≡◌, ◌≤◌, true, OnOk, IfOk};
 
 use crate::edit_fault::EditFault;
 use crate::file_facts::FileFacts;
+use crate::host_disk::{HostDisk, facts_at};
 use std::fs::{self, File, TryLockError};
 use std::path::PathBuf;
 use std::time::Duration;
@@ -25,10 +26,8 @@ pub enum Way {
 
 /// A regular file that is open to be edited. While it is open it is locked for other edits.
 #[derive(Drop)]
-pub struct FileToEdit {
-    pub file: File,
-    /// Where it is, by no symbolic link.
-    pub path: PathBuf,
+pub struct FileToEdit<'r> {
+    pub disk: HostDisk<'r>,
     /// What it was when it was opened.
     pub found: FileFacts,
     pub way: Way,
@@ -37,7 +36,11 @@ pub struct FileToEdit {
 /// Opens a file to be edited in this way, and locks it; a symbolic link leads to its file. Where another edit has it,
 /// waits until that is done, some ten seconds at most. An error if it is no regular file, if it has several names and a
 /// new file is to take its place, if it stays locked, and if it can't be opened or locked.
-pub fn open_to_edit(rt: &HostRuntime, name: &str, way: Way) -> Result<FileToEdit, EditFault>
+pub fn open_to_edit<'r>(
+    rt: &'r HostRuntime,
+    name: &str,
+    way: Way,
+) -> Result<FileToEdit<'r>, EditFault>
     ensures regular { IfOk result (λ edited. edited.found.is_regular ≡ true) }
     ensures one_name { IfOk result (λ edited. way ≡ Way.NewFile → edited.found.links ≤ 1) }
     ensures way { IfOk result (λ edited. edited.way ≡ way) }
@@ -49,22 +52,13 @@ pub fn open_to_edit(rt: &HostRuntime, name: &str, way: Way) -> Result<FileToEdit
             let found = FileFacts::of_metadata(&file.metadata()?);
             if found == facts_at(rt, &path)? {
                 refuse_unfit(&found, way)?;
-                return Ok(FileToEdit {
-                    file,
-                    path,
-                    found,
-                    way,
-                });
+                let disk = HostDisk::new(rt, file, path, &found)?;
+                return Ok(FileToEdit { disk, found, way });
             }
         }
         thread::sleep(rt, Duration::from_millis(WAIT_MILLISECONDS));
     }
     Err(EditFault::Locked)
-}
-
-/// What the system knows of the file at this path.
-pub(crate) fn facts_at(rt: &HostRuntime, path: &PathBuf) -> io::Result<FileFacts> {
-    Ok(FileFacts::of_metadata(&fs::metadata(rt, path)?))
 }
 
 // Refuses a file that isn't regular, and one with several names of which a new file would take one.

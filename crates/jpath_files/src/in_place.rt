@@ -1,31 +1,52 @@
 //! The edited text of a file, put in the place of its content.
 
+ghost use Rattle.std.specs.Prelude.{◌≡◌, ◌⊎◌, ◌+◌, ◌++◌, length, take, true, false, OnOk, OnErr, IfOk, IfErr};
+ghost use Rattle.jpath_files.specs.DiskState.{HasSameAccess, KeepsAccess, IsPut, KeepsBytes, IsWhy, IsSame, IsApart, IsWithin};
+
+use crate::disk::{Call, Disk, Place};
 use crate::edit_fault::EditFault;
 use crate::file_facts::FileFacts;
-use crate::file_to_edit::{FileToEdit, Way, facts_at};
-use std::fs::{self, File, OpenOptions, Permissions};
-use std::io::{self, ErrorKind, Write};
-use std::os::unix::fs::{FileExt, OpenOptionsExt, PermissionsExt, fchown};
-use std::path::PathBuf;
+use crate::file_to_edit::Way;
+use std::alloc::Global;
+use std::io::{self, ErrorKind};
 
-// Who may read and write a new file before it has the mode of the old one: its owner alone.
-const OWNER_ALONE: u32 = 0o600;
-
-/// Puts bytes in the place of the content of a file that is open to be edited, and sees that they are on the disk. A
-/// new file beside it takes its place when it is whole and written, with its owner, group and mode; or the bytes are
-/// written into the file itself, as `way` says. An error, and then the file is as it was and nothing is left beside it,
-/// if it was changed since it was opened, if a new file can't have its owner, group and mode, and if a call of the
-/// system fails.
-pub fn put_in_place(rt: &HostRuntime, edited: &FileToEdit, bytes: &[u8]) -> Result<(), EditFault> {
-    match edited.way {
-        Way::NewFile => replace_by_new_file(rt, edited, bytes),
-        Way::IntoFile => write_into_file(rt, edited, bytes),
+/// Puts bytes in the place of the content of a file that is open to be edited, and sees that they are on the disk.
+/// `found` is what was known of the file when it was opened. A new file beside it takes its place when it is whole
+/// and written, with its owner, group and mode; or the bytes are written into the file itself, as `way` says.
+///
+/// It is an error if the file was changed since it was opened, if a new file can't have its owner, group and mode, or
+/// if a call of the system fails. The file is then as it was and nothing is left beside it, except with `Torn` and
+/// `Unsynced`. The contract holds provided that what the calls reported of both files was true.
+pub fn put_in_place<D: Disk>(
+    alloc: Global,
+    disk: &mut D,
+    found: &FileFacts,
+    way: Way,
+    bytes: &[u8],
+) -> Result<(), EditFault>
+    ensures done { (D.state disk.new).agrees ≡ true → OnOk result (IsPut bytes.now found.now (D.state disk.old).file (D.state disk.new).file) }
+    ensures replaced { (D.state disk.new).agrees ≡ true → way ≡ Way.NewFile → OnOk result (((D.state disk.new).is_folder_synced ≡ true) × ((D.state disk.new).file.facts.rights ≡ found.now.rights)) }
+    ensures kept { (D.state disk.new).agrees ≡ true → IfErr result (λ fault. KeepsBytes fault bytes.now (D.state disk.old) (D.state disk.new)) }
+    ensures why { (D.state disk.new).agrees ≡ true → IfErr result (λ fault. IsWhy fault found.now (D.state disk.old)) }
+    ensures access { (D.state disk.new).agrees ≡ true → KeepsAccess (D.state disk.old).file.facts (D.state disk.new).file.facts }
+    ensures beside { (D.state disk.old).has_new_file ≡ false → ((D.state disk.new).has_new_file ≡ false) ⊎ ((D.state disk.new).is_stuck ≡ true) }
+{
+    if disk.size_limit() < bytes.len() as u64 {
+        return Err(EditFault::TooLong);
+    }
+    match way {
+        Way::NewFile => replace_by_new_file(disk, found, bytes),
+        Way::IntoFile => write_into_file(alloc, disk, found, bytes),
     }
 }
 
 // Refuses a file at whose path another stands than was opened, or that was changed since.
-fn refuse_changed(rt: &HostRuntime, edited: &FileToEdit) -> Result<(), EditFault> {
-    if facts_at(rt, &edited.path)? == edited.found {
+fn refuse_changed<D: Disk>(disk: &mut D, found: &FileFacts) -> Result<(), EditFault>
+    ensures same { IsSame (D.state disk.old) (D.state disk.new) }
+    ensures unchanged { (D.state disk.new).agrees ≡ true → OnOk result (((D.state disk.old).file.facts ≡ found.now) × (found.now.size ≡ length (D.state disk.old).file.bytes)) }
+    ensures why { (D.state disk.new).agrees ≡ true → IfErr result (λ fault. IsWhy fault found.now (D.state disk.old)) }
+{
+    if disk.facts(Place::Path)? == *found {
         Ok(())
     } else {
         Err(EditFault::Changed)
@@ -36,68 +57,71 @@ fn refuse_changed(rt: &HostRuntime, edited: &FileToEdit) -> Result<(), EditFault
 
 // Writes the bytes into a new file beside the old one, which it then takes the place of; the folder is seen to be on
 // the disk, too. Where that is refused the new file is removed.
-fn replace_by_new_file(
-    rt: &HostRuntime,
-    edited: &FileToEdit,
+fn replace_by_new_file<D: Disk>(
+    disk: &mut D,
+    found: &FileFacts,
     bytes: &[u8],
-) -> Result<(), EditFault> {
-    let folder = open_folder(rt, &edited.path)?;
-    let beside = path_beside(rt, edited)?;
-    let mut file = create_beside(rt, &beside)?;
-    let moved = match write_new_file(&mut file, &edited.found, bytes) {
-        Ok(made) => rename_if_unchanged(rt, edited, &beside, &made),
-        Err(fault) => Err(fault),
-    };
-    if moved.is_err() {
-        let _ = fs::remove_file(rt, &beside);
-        return moved;
+) -> Result<(), EditFault>
+    ensures done { (D.state disk.new).agrees ≡ true → OnOk result (IsPut bytes.now found.now (D.state disk.old).file (D.state disk.new).file) }
+    ensures replaced { (D.state disk.new).agrees ≡ true → OnOk result (((D.state disk.new).is_folder_synced ≡ true) × ((D.state disk.new).file.facts.rights ≡ found.now.rights)) }
+    ensures kept { (D.state disk.new).agrees ≡ true → IfErr result (λ fault. KeepsBytes fault bytes.now (D.state disk.old) (D.state disk.new)) }
+    ensures why { (D.state disk.new).agrees ≡ true → IfErr result (λ fault. IsWhy fault found.now (D.state disk.old)) }
+    ensures access { (D.state disk.new).agrees ≡ true → KeepsAccess (D.state disk.old).file.facts (D.state disk.new).file.facts }
+    ensures beside { (D.state disk.old).has_new_file ≡ false → ((D.state disk.new).has_new_file ≡ false) ⊎ ((D.state disk.new).is_stuck ≡ true) }
+{
+    disk.call(Call::OpenFolder)?;
+    // What an edit left there that was killed: no other edit of the file is at work, since it is locked.
+    let _ = disk.call(Call::Remove);
+    disk.call(Call::Create)?;
+    if let Err(fault) = write_and_rename(disk, found, bytes) {
+        let _ = disk.call(Call::Remove);
+        return Err(fault);
     }
-    folder.sync_all()?;
+    match disk.call(Call::SyncFolder) {
+        Ok(()) => Ok(()),
+        Err(error) => Err(EditFault::Unsynced(error)),
+    }
+}
+
+// Writes the bytes into the new file, and gives it the name of the old one, if both are what they were.
+fn write_and_rename<D: Disk>(disk: &mut D, found: &FileFacts, bytes: &[u8]) -> Result<(), EditFault>
+    ensures agreed { (D.state disk.new).agrees ≡ true → (D.state disk.old).agrees ≡ true }
+    ensures done { (D.state disk.new).agrees ≡ true → OnOk result (IsPut ((D.state disk.old).new_file.bytes ++ bytes.now) found.now (D.state disk.old).file (D.state disk.new).file) }
+    ensures access { (D.state disk.new).agrees ≡ true → OnOk result (HasSameAccess (D.state disk.new).file.facts found.now) }
+    ensures moved { OnOk result ((D.state disk.new).has_new_file ≡ false) }
+    ensures kept { OnErr result ((D.state disk.new).file ≡ (D.state disk.old).file) }
+    ensures why { (D.state disk.new).agrees ≡ true → IfErr result (λ fault. IsWhy fault found.now (D.state disk.old)) }
+{
+    let made = write_new_file(disk, found, bytes)?;
+    refuse_changed(disk, found)?;
+    if !disk.facts(Place::Beside)?.is_same_file(&made) {
+        return Err(EditFault::Changed);
+    }
+    disk.call(Call::Rename)?;
     Ok(())
 }
 
-// The folder of a file, open.
-fn open_folder(rt: &HostRuntime, path: &PathBuf) -> io::Result<File> {
-    match path.as_path().parent() {
-        Some(folder) => File::open(rt, folder),
-        None => Err(io::Error::from(ErrorKind::NotFound)),
-    }
-}
-
-// Where the new file stands until it takes the place of the old one. The name is short, so that it fits each folder,
-// and is the same for each edit of the file.
-fn path_beside(rt: &HostRuntime, edited: &FileToEdit) -> io::Result<PathBuf> {
-    let found = &edited.found;
-    let name = format!(in rt.alloc(); ".jpath-{}-{}", found.device, found.inode)?;
-    Ok(edited.path.with_file_name(rt.alloc(), name.as_str())?)
-}
-
-// Makes the new file. What an edit left there that was killed is removed first: no other edit of the file is at work,
-// since it is locked.
-fn create_beside(rt: &HostRuntime, beside: &PathBuf) -> io::Result<File> {
-    let _ = fs::remove_file(rt, beside);
-    OpenOptions::new()
-        .write(true)
-        .create_new(true)
-        .mode(OWNER_ALONE)
-        .open(rt, beside)
-}
-
 // Gives a new file its owner, group, bytes and mode, sees that they are on the disk, and answers what it then is.
-fn write_new_file(
-    file: &mut File,
+fn write_new_file<D: Disk>(
+    disk: &mut D,
     found: &FileFacts,
     bytes: &[u8],
-) -> Result<FileFacts, EditFault> {
-    if !FileFacts::of_metadata(&file.metadata()?).has_same_owner(found)
-        && fchown(&*file, Some(found.owner), Some(found.group)).is_err()
-    {
+) -> Result<FileFacts, EditFault>
+    ensures apart { IsApart (D.state disk.old) (D.state disk.new) }
+    ensures written { OnOk result ((D.state disk.new).new_file.bytes ≡ (D.state disk.old).new_file.bytes ++ bytes.now) }
+    ensures synced { OnOk result ((D.state disk.new).new_file.is_synced ≡ true) }
+    ensures access { (D.state disk.new).agrees ≡ true → OnOk result (HasSameAccess (D.state disk.new).new_file.facts found.now) }
+    ensures made { (D.state disk.new).agrees ≡ true → IfOk result (λ made. made ≡ (D.state disk.new).new_file.facts) }
+    ensures why { (D.state disk.new).agrees ≡ true → IfErr result (λ fault. IsWhy fault found.now (D.state disk.old)) }
+{
+    let is_theirs = disk.facts(Place::NewFile)?.has_same_owner(found);
+    if !is_theirs && disk.call(Call::Give(found.owner, found.group)).is_err() {
         return Err(EditFault::OwnerLost);
     }
-    file.write_all(bytes)?;
-    file.set_permissions(Permissions::from_mode(found.rights))?;
-    file.sync_all()?;
-    let made = FileFacts::of_metadata(&file.metadata()?);
+    disk.call(Call::Write(bytes))?;
+    disk.call(Call::SetMode(found.rights))?;
+    disk.call(Call::SyncNewFile)?;
+    let made = disk.facts(Place::NewFile)?;
     if made.has_same_owner(found) && made.rights == found.rights {
         Ok(made)
     } else {
@@ -105,57 +129,67 @@ fn write_new_file(
     }
 }
 
-// Gives the new file the name of the old one, if both are what they were.
-fn rename_if_unchanged(
-    rt: &HostRuntime,
-    edited: &FileToEdit,
-    beside: &PathBuf,
-    made: &FileFacts,
-) -> Result<(), EditFault> {
-    refuse_changed(rt, edited)?;
-    if !facts_at(rt, beside)?.is_same_file(made) {
-        return Err(EditFault::Changed);
-    }
-    fs::rename(rt, beside, &edited.path)?;
-    Ok(())
-}
-
 // ---- into the file
 
 // Writes the bytes into the file itself. Where that is refused its old bytes are put back.
-fn write_into_file(rt: &HostRuntime, edited: &FileToEdit, bytes: &[u8]) -> Result<(), EditFault> {
-    let old = read_old_bytes(rt, edited)?;
-    refuse_changed(rt, edited)?;
-    match write_over(&edited.file, old.len(), bytes) {
+fn write_into_file<D: Disk>(
+    alloc: Global,
+    disk: &mut D,
+    found: &FileFacts,
+    bytes: &[u8],
+) -> Result<(), EditFault>
+    ensures done { (D.state disk.new).agrees ≡ true → OnOk result (IsPut bytes.now found.now (D.state disk.old).file (D.state disk.new).file) }
+    ensures kept { (D.state disk.new).agrees ≡ true → IfErr result (λ fault. KeepsBytes fault bytes.now (D.state disk.old) (D.state disk.new)) }
+    ensures why { (D.state disk.new).agrees ≡ true → IfErr result (λ fault. IsWhy fault found.now (D.state disk.old)) }
+    ensures within { IsWithin (D.state disk.old) (D.state disk.new) }
+{
+    let old = read_old_bytes(alloc, disk, found)?;
+    refuse_changed(disk, found)?;
+    match write_over(disk, old.len(), bytes) {
         Ok(()) => Ok(()),
-        Err(error) => match write_over(&edited.file, bytes.len(), old.as_slice()) {
+        Err(error) => match write_over(disk, bytes.len(), old.as_slice()) {
             Ok(()) => Err(EditFault::Failed(error)),
             Err(_) => Err(EditFault::Torn(error)),
         },
     }
 }
 
-// The bytes of the file as it was opened.
-fn read_old_bytes(rt: &HostRuntime, edited: &FileToEdit) -> Result<Vec<u8>, EditFault> {
-    let Ok(size) = usize::try_from(edited.found.size) else {
-        return Err(EditFault::Failed(io::Error::from(ErrorKind::OutOfMemory)));
+// The bytes of the file as it was found.
+fn read_old_bytes<D: Disk>(
+    alloc: Global,
+    disk: &mut D,
+    found: &FileFacts,
+) -> Result<Vec<u8>, EditFault>
+    ensures same { IsSame (D.state disk.old) (D.state disk.new) }
+    ensures len { IfOk result (λ old. length old.items ≡ found.now.size) }
+    ensures read { (D.state disk.new).agrees ≡ true → IfOk result (λ old. old.items ≡ take (length old.items) (D.state disk.old).file.bytes) }
+    ensures why { (D.state disk.new).agrees ≡ true → IfErr result (λ fault. IsWhy fault found.now (D.state disk.old)) }
+{
+    let mut old = Vec::new(alloc);
+    let has_room = match usize::try_from(found.size) {
+        Ok(size) => old.resize(size, 0).is_ok(),
+        Err(_) => false,
     };
-    let mut old = Vec::new(rt.alloc());
-    if old.resize(size, 0).is_err() {
+    if !has_room {
         return Err(EditFault::Failed(io::Error::from(ErrorKind::OutOfMemory)));
     }
-    edited.file.read_exact_at(old.as_mut_slice(), 0)?;
+    disk.read(old.as_mut_slice())?;
     Ok(old)
 }
 
 // Writes the bytes over those of a file, which are `len` at most, and sees that they are on the disk. What is more than
 // those comes first: where there is no room for it the others still stand.
-fn write_over(file: &File, len: usize, bytes: &[u8]) -> io::Result<()> {
+#[tactic(auto, using(crate::proofs::WriteLemmas::text_written))]
+fn write_over<D: Disk>(disk: &mut D, len: usize, bytes: &[u8]) -> io::Result<()>
+    ensures within { IsWithin (D.state disk.old) (D.state disk.new) }
+    ensures agreed { (D.state disk.new).agrees ≡ (D.state disk.old).agrees }
+    ensures written { OnOk result ((D.state disk.new).file.bytes ≡ bytes.now) }
+    ensures synced { OnOk result ((D.state disk.new).file.is_synced ≡ true) }
+    ensures refused { OnErr result ((D.state disk.new).refusals ≡ (D.state disk.old).refusals + 1) }
+{
     let (front, more) = bytes.split_at(len.min(bytes.len()));
-    if !more.is_empty() {
-        file.write_all_at(more, front.len() as u64)?;
-    }
-    file.write_all_at(front, 0)?;
-    file.set_len(bytes.len() as u64)?;
-    file.sync_all()
+    disk.call(Call::WriteAt(more, front.len() as u64))?;
+    disk.call(Call::WriteAt(front, 0))?;
+    disk.call(Call::SetLen(bytes.len() as u64))?;
+    disk.call(Call::SyncFile)
 }

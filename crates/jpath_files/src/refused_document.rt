@@ -1,107 +1,133 @@
-//! How an error of a document is reported: its file, line and column, and the reason. The document comes as a piece
-//! of a stream: its bytes, with the blanks before it.
+//! The report of a document with an error. The document comes as a piece of a stream: its bytes, with the blanks
+//! before it.
 
-use jpath_texts::{DocumentRefusal, LineColumn};
-use json_recognizer::{Found, Wanted, find_end, start, wanted_at};
-use std::alloc::Global;
+ghost use Rattle.std.specs.Prelude.{◌≡◌, ◌<◌, ◌≤◌, ◌++◌, ℕ, List, take, length, Some};
+ghost use Rattle.json_recognizer.specs.Lines.{place_behind};
+ghost use Rattle.json_recognizer.specs.Stream.{found_in, IsWithin};
+ghost use Rattle.json_recognizer.specs.declared.stream.Found.TheVariants.{Refused};
+ghost use Rattle.jpath_files.specs.Refusals.{Fits, IsRefusedAt, reason_words, refused_words};
+
+use jpath_texts::DocumentRefusal;
+use json_recognizer::{
+    Found, LineColumn, Wanted, count_blanks, find_end, is_final, place_after, start, wanted_at,
+};
 use std::fmt::{self, Display, Formatter};
 
-/// Prints on standard error why a piece of a stream, which begins at this position, is no document or can't be used,
-/// with file, line and column.
-pub fn tell_refused_document(
-    rt: &(impl Eprint + Alloc<A = Global>),
-    name: &str,
-    bytes: &[u8],
-    place: LineColumn,
-    refusal: DocumentRefusal,
-) {
-    let (at, why) = position_and_reason(bytes, refusal);
-    let line = place.line.saturating_add(at.line.saturating_sub(1));
-    let column = if at.line <= 1 {
-        place.column.saturating_add(at.column.saturating_sub(1))
-    } else {
-        at.column
-    };
-    let _ = eprintln!(rt; "jpath: {name}:{line}:{column}: {why}");
-}
-
-// Why a piece is refused.
-#[derive(Drop)]
-enum Reason {
-    // What was wanted in the place of a byte.
-    Wanted(Wanted),
-    Sentence(&'static str),
+/// Why a document has an error.
+#[derive(Clone, Copy, Debug, Drop, PartialEq, Eq)]
+pub enum Reason {
+    /// A byte is wrong; what was wanted in its place.
+    Wrong(Wanted),
+    EndsTooEarly,
+    /// It can't be used, or memory ran out.
+    Other(DocumentRefusal),
 }
 
 impl Display for Reason {
+    ghost output = { λ reason. Some (reason_words reason) };
+
     fn fmt<W: fmt::Write>(&self, f: &mut Formatter<W>) -> fmt::Result {
         match self {
-            Reason::Wanted(wanted) => write!(f, "{wanted}"),
-            Reason::Sentence(sentence) => f.write_str(*sentence),
+            Reason::Wrong(wanted) => write!(f, "{wanted}"),
+            Reason::EndsTooEarly => f.write_str("the document ends too early"),
+            Reason::Other(refusal) => match refusal {
+                DocumentRefusal::NotADocument => f.write_str("no JSON"),
+                DocumentRefusal::HugeExponent => {
+                    f.write_str("a number is compared whose exponent has more than 38 digits")
+                }
+                DocumentRefusal::EditNests => {
+                    f.write_str("the edited document would nest deeper than 127 levels")
+                }
+                DocumentRefusal::EditDiffers => f.write_str(
+                    "the edited text is another document than it should be, so it is not written",
+                ),
+                DocumentRefusal::OutOfMemory => f.write_str("out of memory"),
+            },
         }
     }
 }
 
-// The line and column, both from 1 in the piece, at which a piece is refused, and why.
-fn position_and_reason(bytes: &[u8], refusal: DocumentRefusal) -> (LineColumn, Reason) {
-    let first = LineColumn {
-        line: first_nonblank_line(bytes),
-        column: 1,
-    };
-    let sentence = match refusal {
-        DocumentRefusal::HugeExponent => {
-            "a number is compared whose exponent has more than 38 digits"
-        }
-        DocumentRefusal::EditNests => "the edited document would nest deeper than 127 levels",
-        DocumentRefusal::EditDiffers => {
-            "the edited text is another document than it should be, so it is not written"
-        }
-        DocumentRefusal::OutOfMemory => "out of memory",
-        DocumentRefusal::NotADocument => return position_and_reason_in_text(bytes, first),
-    };
-    (first, Reason::Sentence(sentence))
+/// Where and why a document of a file has an error. It prints as the line that reports it.
+#[derive(Clone, Copy, Debug, Drop)]
+pub struct RefusedDocument<'n> {
+    /// The file's name.
+    pub name: &'n str,
+    pub place: LineColumn,
+    pub reason: Reason,
 }
 
-// The line and column in the piece of the first byte that no document goes on with, and what was wanted there; or of its
-// end, where a document would go on. Where it is a document, `first` stands in their place.
-fn position_and_reason_in_text(bytes: &[u8], first: LineColumn) -> (LineColumn, Reason) {
+impl Display for RefusedDocument<'_> {
+    ghost output = { λ refused. Some (refused_words refused) };
+
+    fn fmt<W: fmt::Write>(&self, f: &mut Formatter<W>) -> fmt::Result {
+        let (name, reason) = (self.name, self.reason);
+        let LineColumn { line, column } = self.place;
+        write!(f, "jpath: {name}:{line}:{column}: {reason}")
+    }
+}
+
+impl<'n> RefusedDocument<'n> {
+    /// The report of a piece of a file's stream that begins at this place: of the first byte with which no document goes
+    /// on, and of what was wanted there; of its end, where it cuts a document short; else of its first byte that is no
+    /// blank.
+    pub fn of_piece(
+        name: &'n str,
+        bytes: &[u8],
+        place: LineColumn,
+        refusal: DocumentRefusal,
+    ) -> RefusedDocument<'n>
+        ensures name { result.name.now ≡ name.entry.now }
+        ensures at { (at : ℕ) × IsRefusedAt refusal bytes.now at result.reason × ((passed : List ℕ) → place ≡ place_behind passed → result.place ≡ place_behind (passed ++ take at bytes.now)) }
+    {
+        let (at, reason) = refused_at(bytes, refusal);
+        RefusedDocument {
+            name,
+            place: place_after(place, &bytes[..at]),
+            reason,
+        }
+    }
+}
+
+// The byte at which a piece is refused, or its end, and why.
+fn refused_at(bytes: &[u8], refusal: DocumentRefusal) -> (usize, Reason)
+    ensures at { IsRefusedAt refusal bytes.now result.0 result.1 }
+    ensures within { result.0 ≤ length bytes.now }
+{
+    if refusal != DocumentRefusal::NotADocument {
+        return (count_blanks(bytes), Reason::Other(refusal));
+    }
+    match found_in(bytes) {
+        Found::Refused(at) => (at, Reason::Wrong(wanted_behind(bytes, at))),
+        Found::GoesOn => (bytes.len(), Reason::EndsTooEarly),
+        Found::Ends(_) => (count_blanks(bytes), Reason::Other(refusal)),
+    }
+}
+
+// What a text is: its first document, its first wrong byte, or neither.
+fn found_in(bytes: &[u8]) -> Found
+    ensures found { result ≡ found_in bytes.now }
+    ensures within { IsWithin result (length bytes.now) }
+{
     let mut state = start();
     match find_end(&mut state, bytes) {
-        Found::Refused(at) => (
-            line_and_column_of_byte(bytes, at),
-            Reason::Wanted(wanted_at(&state, bytes[at])),
-        ),
-        Found::Ends(_) => (first, Reason::Sentence("no JSON")),
-        Found::GoesOn => (
-            line_and_column_of_byte(bytes, bytes.len()),
-            Reason::Sentence("the document ends too early"),
-        ),
+        Found::GoesOn => {
+            if is_final(&state) {
+                Found::Ends(bytes.len())
+            } else {
+                Found::GoesOn
+            }
+        }
+        found => found,
     }
 }
 
-// The line, from 1, on which the first byte stands that is no blank.
-fn first_nonblank_line(bytes: &[u8]) -> usize {
-    let mut line = 1usize;
-    for byte in bytes {
-        match *byte {
-            b'\n' => line = line.saturating_add(1),
-            b' ' | b'\t' | b'\r' => (),
-            _ => break,
-        }
-    }
-    line
-}
-
-// The line and the column, both from 1, of the byte at this position.
-fn line_and_column_of_byte(bytes: &[u8], at: usize) -> LineColumn {
-    let mut place = LineColumn { line: 1, column: 1 };
-    for byte in bytes.get(..at).unwrap_or(b"") {
-        if *byte == b'\n' {
-            place.line = place.line.saturating_add(1);
-            place.column = 1;
-        } else {
-            place.column = place.column.saturating_add(1);
-        }
-    }
-    place
+// What was wanted in the place of the first wrong byte.
+fn wanted_behind(bytes: &[u8], at: usize) -> Wanted
+    requires wrong { found_in bytes.now ≡ Refused at }
+    requires within { at < length bytes.now }
+    ensures { Fits result (take at bytes.now) }
+{
+    let mut state = start();
+    let _ = find_end(&mut state, &bytes[..at]);
+    wanted_at(&state, bytes[at])
 }

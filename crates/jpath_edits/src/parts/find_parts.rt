@@ -2,8 +2,8 @@
 
 use crate::parts::part::Part;
 use json::Value as Exact;
+use json_recognizer::first_document_len;
 use jsonpath_nodes::{LocStep, Location, PathStep};
-use jsonpath_streams::first_document_len;
 use std::alloc::{AllocError, Global};
 use std::cmp::Ordering;
 

@@ -9,7 +9,7 @@ ghost use Rattle.jpath_texts.specs.Exact.{exact_of};
 use crate::same_exact_tree::is_same_exact_tree;
 use jpath_texts::{DocumentRefusal, read_exact_tree};
 use json::{Scratch, Value as Exact};
-use jsonpath_streams::first_document_len;
+use json_recognizer::first_document_len;
 use std::alloc::Global;
 
 // Whether a text, read again, is this value.

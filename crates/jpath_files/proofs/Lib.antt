@@ -1,0 +1,5 @@
+mod WalkLemmas
+mod EventLemmas
+mod FactsLemmas
+mod WriteLemmas
+mod RefusalLemmas
