@@ -1,7 +1,7 @@
 -- What a document of a stream gives.
 use Rattle.std.specs.Prelude.{◌≡◌, ◌<◌, ℕ, List, [], Bool, true}
-use Rattle.jpath_texts.specs.declared.stream.piece.Kind.{Kind}
-use Rattle.jpath_texts.specs.declared.stream.piece.Kind.TheVariants.{Refused}
+use Rattle.json_recognizer.specs.declared.buffer.piece.Kind.{Kind}
+use Rattle.json_recognizer.specs.declared.buffer.piece.Kind.TheVariants.{Refused}
 use Rattle.jpath_texts.specs.declared.stream.visit_documents.Taken.{Taken}
 use Rattle.jpath.specs.declared.run.document_visitor.Stop.{Stop}
 use Rattle.jpath.specs.declared.run.document_visitor.Stop.TheVariants.{Output, Found, Document, OutOfMemory}

@@ -143,10 +143,10 @@ fn edit_one_file<'r, W: Output>(
         false => Way::NewFile,
     };
     match open_to_edit(rt, name, way) {
-        Ok(edited) => {
-            let Ended { count, how } = visit_one_stream(rt, name, &edited.file, run);
+        Ok(mut edited) => {
+            let Ended { count, how } = visit_one_stream(rt, name, &edited.disk.file, run);
             let is_edited = how == How::Whole && count > 0;
-            if is_edited && !put_text(rt, name, &edited, &run.visit.output.bytes, held) {
+            if is_edited && !put_text(rt, name, &mut edited, &run.visit.output.bytes, held) {
                 run.has_failed = true;
             }
             run.visit.output.bytes.truncate(held);
@@ -204,12 +204,13 @@ fn stop_or_go_on(how: How<Stop>) -> Result<(), Stop> {
 fn put_text(
     rt: &HostRuntime,
     name: &str,
-    edited: &FileToEdit,
+    edited: &mut FileToEdit<'_>,
     bytes: &Vec<u8>,
     held: usize,
 ) -> bool {
     let text = bytes.as_slice().get(held..).unwrap_or(b"");
-    match put_in_place(rt, edited, text) {
+    let FileToEdit { disk, found, way } = edited;
+    match put_in_place(rt.alloc(), disk, found, *way, text) {
         Ok(()) => true,
         Err(fault) => {
             let _ = eprintln!(rt; "jpath: {name}: {fault}");

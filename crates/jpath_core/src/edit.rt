@@ -32,14 +32,15 @@ pub struct Edited {
     pub selects_root: bool,
 }
 
-/// The text of a document with the values changed that a path selects below the root (those in no other selected
-/// one), all at once. The text is the document's own. Replaced is the text of each such value; to remove it, that of
-/// the member or item: its name and colon, and blanks and at most one comma on either side; of a name that occurs
-/// again, each member. Every other byte stays.
+/// The edited text of a document, for an edit by one path: `change` is made, all at once, at each selected value
+/// below the root that lies in no other selected value below the root. `text` is the text that the document was read
+/// from. To replace a value, its own text is replaced; to remove it, the whole member or item goes, with its name and
+/// colon, the blanks around it, and at most one comma on either side. If the object has the name several times, each
+/// of these members is removed. Every other byte stays.
 ///
-/// The edited text is checked before it is returned. Errors: `EditDiffers`, which is never seen, if a replaced part,
-/// read again, is not the value at its location, or if the whole, read again, is not the changed document; and
-/// `EditNests` if it nests too deep.
+/// The edited text is read again before it is returned. Errors: `EditNests` if it nests too deep to be read;
+/// `EditDiffers` if what is read is not the changed document, which would be a fault of this library; or
+/// `OutOfMemory`.
 pub fn edit_text(
     alloc: Global,
     text: &str,

@@ -9,7 +9,8 @@ ghost use Rattle.jpath_edits.specs.ExactAt.{exact_child, exact_at};
 use json::Value as Exact;
 use jsonpath_nodes::{PathStep, Steps};
 
-/// The value of the exact tree at the location that these steps lead to, or `None`. It takes no memory.
+/// The value at the location that these steps lead to in an exact tree, which keeps each number as it is written;
+/// `None` if there is none. It takes no memory.
 pub fn exact_value_at_steps<'v, 'a>(
     root: &'v Exact<'a>,
     steps: Steps<'_, '_>,

@@ -11,8 +11,9 @@ pub fn one_number_one_key()
     ensures { OneKey }
 {}
 
-/// Lemma: a copy of a document, if its numbers are not all equal (`Alike`), keeps the order of its numbers: the
-/// copies of any two of them compare as these two do, however many digits they are written with.
+/// Lemma: a copy of a document keeps the order of its numbers: the copies of any two of them compare as these two do,
+/// however many digits they are written with. This excludes copies made in the mode `Alike`, in which all numbers are
+/// made equal.
 pub fn copies_keep_order()
     ensures { (numbers : Numbers) → is_alike numbers ≡ false → KeepsTextOrder numbers }
 {}

@@ -36,7 +36,7 @@ impl NumberKey {
         }
     }
 
-    /// Compares two keys: in the order of their numbers.
+    /// Compares two keys by the numbers that they are made of.
     pub fn compare(&self, other: &NumberKey) -> Ordering
         ensures { (s t : List ℕ) → IsKeyOf s self.now → IsKeyOf t other.now → result ≡ text_cmp s t }
     {

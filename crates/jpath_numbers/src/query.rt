@@ -20,7 +20,7 @@ pub struct Query<'a> {
     compares: bool,
 }
 
-/// What the filters of some paths compare.
+/// What the filters of some paths compare: whether they compare any numbers, and which numbers the paths contain.
 #[derive(Drop)]
 pub struct Compared {
     /// Whether some filter compares what may be numbers: a side that is a text or a boolean is none.

@@ -17,7 +17,7 @@ use json::{Scratch, Value as Exact};
 use std::alloc::{AllocError, AllocFailed, Global};
 use std::slice;
 
-/// What `jpath` writes for each document.
+/// What `jpath` is to write for each document: lines, an array, a count, a table, or the edited text.
 #[derive(Drop)]
 pub enum Task<'a> {
     /// A line for each match.
@@ -70,8 +70,8 @@ pub struct Wanted<'a> {
 }
 
 impl<'a> Wanted<'a> {
-    /// Whether blanks between documents, and a byte order mark before the first, are written as they are: with
-    /// edits, unless the document is laid out anew.
+    /// Whether blanks between documents, and a byte order mark before the first, are written as they are. True
+    /// exactly if there are edits and the documents are not laid out anew.
     pub fn keeps_blanks_between_documents(&self) -> bool
         ensures { result ≡ is_edit self.now.task && not self.now.look.is_pretty }
     {

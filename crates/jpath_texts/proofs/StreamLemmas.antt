@@ -1,133 +1,23 @@
 -- Along a stream, piece by piece.
-use Rattle.std.proofs.Common.{◌≡◌, ℕ, ◌+◌, ◌-◌, ◌<◌, ◌≤◌, ◌^◌, min, Bool, true, false, cond, List, [], ◌∷◌, ◌++◌, length, take, drop, refl, sym, ap, ap₂, subst, ◌∙◌, arith, append_assoc, length-drop, length-take}
-use Rattle.std.specs.Prelude.{◌==◌, nat_eq, nat_lt, not, position, Some, None, sum_by, slice_range, if◌then◌else◌}
-use Rattle.std.specs.List.{starts_with, position_or_len}
-use Rattle.std.proofs.lemmas.List.{append-nil, drop-drop, drop-append-le, take_rest}
-use Rattle.std.proofs.lemmas.List.Folds.{prefix_len-append}
+use Rattle.std.proofs.Common.{◌≡◌, ℕ, ◌+◌, ◌-◌, ◌≤◌, ◌^◌, min, Bool, false, List, [], ◌∷◌, ◌++◌, length, drop, refl, sym, ap, ap₂, subst, ◌∙◌, arith, append_assoc, length-take}
+use Rattle.std.specs.Prelude.{sum_by}
+use Rattle.std.proofs.lemmas.List.{append-nil, drop-append-le}
 use Rattle.std.proofs.lemmas.List.Sums.{sum_by-append, prefix_len-le-length}
-use Rattle.std.proofs.Math.Seq.{drop-length, drop-append-add}
-use Rattle.jsonpath_streams.specs.DocumentEnds.{is_blank_text}
-use Rattle.json_recognizer.specs.Machine.{is_final}
-use Rattle.json_recognizer.specs.State.{frames}
-use Rattle.json_recognizer.specs.Stream.{later, found_from, found_at, found_in, or_later}
-use Rattle.json_recognizer.specs.declared.state.State.{State}
-use Rattle.json_recognizer.specs.declared.stream.Found.{Found}
-use Rattle.json_recognizer.specs.declared.stream.Found.TheVariants.{GoesOn, Ends, Refused}
-use Rattle.jpath_texts.specs.Stream.{left, piece_of, MayCome, piece_by, kind_by, IsFirstOf, blanks_len, behind_line, behind_piece, Visited, Passes, Gives, AreGiven, StayGiven, texts_of, count_of, AskMore, GoesAlong, IsCutShort, is_enough}
-use Rattle.jpath_texts.specs.declared.stream.stream_buffer.StreamBuffer.{StreamBuffer}
-use Rattle.jpath_texts.specs.declared.stream.piece.Kind.{Kind}
-use Rattle.jpath_texts.specs.declared.stream.piece.Kind.TheVariants as kinds
+use Rattle.json_recognizer.specs.Blanks.{blanks_len}
+use Rattle.json_recognizer.specs.Buffer.{left, piece_of, MayCome, IsFirstOf}
+use Rattle.json_recognizer.specs.Lines.{behind_line}
+use Rattle.json_recognizer.specs.declared.buffer.stream_buffer.StreamBuffer.{StreamBuffer}
+use Rattle.json_recognizer.specs.declared.buffer.piece.Kind.{Kind}
+use Rattle.json_recognizer.specs.declared.buffer.piece.Kind.TheVariants as kinds
+use Rattle.jpath_texts.specs.Stream.{behind_piece, Visited, Passes, Gives, AreGiven, StayGiven, texts_of, count_of, AskMore, GoesAlong, IsCutShort, is_enough}
 use Rattle.jpath_texts.specs.declared.stream.visit_documents.Taken.{Taken}
 use Rattle.jpath_texts.specs.declared.stream.visit_documents.How.{How}
 use Rattle.jpath_texts.specs.declared.stream.visit_documents.How.TheVariants.{Whole, Enough, ReadFailed, Stopped, Endless}
 
--- ---- what was looked through
+-- ---- behind a refused line
 
--- what is looked through next: from what was seen on
-pub rest_is : (lent bytes : List ℕ) (seen : ℕ) → lent ≡ bytes → slice_range lent seen (length lent) ≡ drop seen bytes
-rest_is lent bytes seen same = ap (λ xs. slice_range xs seen (length xs)) same ∙ take_rest bytes seen
-
-later_more : (a b c : ℕ) (found : Found) → a + b ≡ c → later a (later b found) ≡ later c found
-later_more a b c GoesOn e = refl
-later_more a b c (Ends k) e = let f : a + (b + k) ≡ c + k = omega (arith, e) in ap Ends f
-later_more a b c (Refused k) e = let f : a + (b + k) ≡ c + k = omega (arith, e) in ap Refused f
-
-module _ (old new : State) (lent bytes more : List ℕ) (start seen : ℕ) (found : Found) (same : lent ≡ bytes) (ordered : start ≤ seen) (inside : seen ≤ length bytes)
-    (ahead : found_in (drop start bytes ++ more) ≡ later (seen - start) (found_at old (drop seen bytes ++ more)))
-    (is_found : found_at old (slice_range lent seen (length lent) ++ more) ≡ or_later found (length (slice_range lent seen (length lent))) (found_at new more)) where
-  turned : found_in (drop start bytes ++ more) ≡ later (seen - start) (or_later found (length (drop seen bytes)) (found_at new more))
-  turned =
-      let rest = rest_is lent bytes seen same in
-      ahead ∙ ap (λ xs. later (seen - start) (found_at old (xs ++ more))) (sym rest) ∙ ap (later (seen - start)) is_found ∙ ap (λ xs. later (seen - start) (or_later found (length xs) (found_at new more))) rest
-
-  pub goes_on : found ≡ GoesOn → (len : ℕ) → len ≡ length bytes → found_in (drop start bytes ++ more) ≡ later (len - start) (found_at new (drop len bytes ++ more))
-  goes_on is len long =
-      let none : drop len bytes ≡ [] = ap (λ n. drop n bytes) long ∙ drop-length bytes in
-      let all : seen - start + length (drop seen bytes) ≡ len - start = omega (arith, ordered, inside, long, length-drop seen bytes) in
-      turned ∙ ap (λ f. later (seen - start) (or_later f (length (drop seen bytes)) (found_at new more))) is ∙ later_more (seen - start) (length (drop seen bytes)) (len - start) (found_at new more) all
-      ∙ ap (λ xs. later (len - start) (found_at new (xs ++ more))) (sym none)
-
--- at a stream's end
-found_at_end : (state : State) → found_at state [] ≡ cond (is_final state.mode (frames state.depth state.kinds)) (Ends 0) GoesOn
-unfolding found_from
-found_at_end state = refl
-
-take_whole : (xs : List ℕ) → take (length xs) xs ≡ xs
-take_whole [] = refl
-take_whole (x ∷ xs) = ap (λ ys. x ∷ ys) (take_whole xs)
-
-first_at_end : (state : State) (bytes more : List ℕ) (start len : ℕ) (final : Bool) → is_final state.mode (frames state.depth state.kinds) ≡ final → start ≤ len → len ≡ length bytes → more ≡ []
-    → found_in (drop start bytes ++ more) ≡ later (len - start) (found_at state (drop len bytes ++ more))
-    → IsFirstOf (if final then kinds.Document else (if is_blank_text (drop start bytes) then kinds.Blanks else kinds.Refused)) (drop start bytes) (drop start bytes ++ more)
-first_at_end state bytes more start len final is ordered long none goes =
-    let nothing : drop len bytes ++ more ≡ [] = ap₂ (λ (xs ys : List ℕ). xs ++ ys) (ap (λ n. drop n bytes) long ∙ drop-length bytes) none in
-    let all : drop start bytes ++ more ≡ drop start bytes = ap (λ ys. drop start bytes ++ ys) none ∙ append-nil (drop start bytes) in
-    let e : found_in (drop start bytes) ≡ later (len - start) (cond final (Ends 0) GoesOn) =
-    ap found_in (sym all) ∙ goes ∙ ap (λ xs. later (len - start) (found_at state xs)) nothing ∙ ap (later (len - start)) (found_at_end state ∙ ap (λ b. cond b (Ends 0) GoesOn) is) in
-    let l : len - start + 0 ≡ length (drop start bytes) = omega (arith, ordered, long, length-drop start bytes) in
-    subst (IsFirstOf _ (drop start bytes)) (sym all) (by_final final e l)
-  where
-    by_final : (final : Bool) → found_in (drop start bytes) ≡ later (len - start) (cond final (Ends 0) GoesOn) → len - start + 0 ≡ length (drop start bytes)
-        → IsFirstOf (if final then kinds.Document else (if is_blank_text (drop start bytes) then kinds.Blanks else kinds.Refused)) (drop start bytes) (drop start bytes)
-    by_final true e l = (sym (ap (λ f. kind_by f (drop start bytes)) e), sym (ap (λ f. piece_by f (drop start bytes)) e ∙ ap (λ n. take n (drop start bytes)) l ∙ take_whole (drop start bytes)))
-    by_final false e l = (sym (ap (λ f. kind_by f (drop start bytes)) e), sym (ap (λ f. piece_by f (drop start bytes)) e))
-
-pub first_whole : (state : State) (bytes more : List ℕ) (start len : ℕ) (kind : Kind) → start ≤ len → len ≡ length bytes → more ≡ [] → found_in (drop start bytes ++ more) ≡ later (len - start) (found_at state (drop len bytes ++ more))
-    → kind ≡ (if is_final state.mode (frames state.depth state.kinds) then kinds.Document else (if is_blank_text (slice_range bytes start len) then kinds.Blanks else kinds.Refused)) → IsFirstOf kind (slice_range bytes start len) (drop start bytes ++ more)
-first_whole state bytes more start len kind ordered long none goes is =
-    let piece : slice_range bytes start len ≡ drop start bytes = ap (slice_range bytes start) long ∙ take_rest bytes start in
-    let is_kind : kind ≡ (if is_final state.mode (frames state.depth state.kinds) then kinds.Document else (if is_blank_text (drop start bytes) then kinds.Blanks else kinds.Refused)) =
-    is ∙ ap (λ xs. if is_final state.mode (frames state.depth state.kinds) then kinds.Document else (if is_blank_text xs then kinds.Blanks else kinds.Refused)) piece in
-    subst (λ xs. IsFirstOf kind xs (drop start bytes ++ more)) (sym piece) (subst (λ k. IsFirstOf k (drop start bytes) (drop start bytes ++ more)) (sym is_kind) (first_at_end state bytes more start len _ refl ordered long none goes))
-
--- ---- lines
-
-pub piece_within : (feed : StreamBuffer) → length (piece_of feed) ≤ length (left feed)
+piece_within : (feed : StreamBuffer) → length (piece_of feed) ≤ length (left feed)
 piece_within feed = grind (arith, length-take)
-
-place_by : (p : ℕ → Bool) (xs : List ℕ) (b : Bool) (at : ℕ) → cond b (Some (position_or_len p xs)) None ≡ Some at → position_or_len p xs ≡ at
-place_by p xs true at e = cc
-place_by p xs false at e = absurd (cc)
-
-pub place_is : (p : ℕ → Bool) (xs : List ℕ) (at : ℕ) → position p xs ≡ Some at → position_or_len p xs ≡ at
-place_is p xs at e = place_by p xs (nat_lt (position_or_len p xs) (length xs)) at e
-
-pub no_place : (p : ℕ → Bool) (xs : List ℕ) → position p xs ≡ None → position_or_len p xs ≡ length xs
-no_place p xs e = let within : position_or_len p xs ≤ length xs = prefix_len-le-length (λ x. not (p x)) xs in grind (arith, within, e)
-
-abbrev line_len : List ℕ → ℕ
-line_len xs = position_or_len (λ byte. byte == 10) xs
-
-pub line_found : (xs more : List ℕ) (at : ℕ) → position (λ byte. byte == 10) xs ≡ Some at → at < length xs → behind_line (xs ++ more) ≡ drop (at + 1) xs ++ more
-line_found xs more at is below =
-    let n : line_len xs ≡ at = place_is (λ byte. byte == 10) xs at is in
-    let whole = prefix_len-append (λ byte. not (byte == 10)) xs more in
-    let e : line_len (xs ++ more) ≡ at = grind (arith, whole, n, below) in
-    ap (λ k. drop (k + 1) (xs ++ more)) e ∙ drop-append-le (at + 1) xs more (omega (arith, below))
-
-pub no_line : (xs more : List ℕ) → position (λ byte. byte == 10) xs ≡ None → behind_line (xs ++ more) ≡ behind_line more
-no_line xs more is =
-    let n : line_len xs ≡ length xs = no_place (λ byte. byte == 10) xs is in
-    let whole = prefix_len-append (λ byte. not (byte == 10)) xs more in
-    let all : line_len (xs ++ more) ≡ length xs + line_len more = grind (arith, whole, n) in
-    let e : line_len (xs ++ more) + 1 ≡ length xs + (line_len more + 1) = omega (arith, all) in
-    ap (λ k. drop k (xs ++ more)) e ∙ drop-append-add xs more (line_len more + 1)
-
-module _ (lent bytes left₁ : List ℕ) (start : ℕ) (same : lent ≡ bytes) where
-  pub passed_line : (at : ℕ) → position (λ byte. byte == 10) (slice_range lent start (length lent)) ≡ Some at → at < length (slice_range lent start (length lent)) → left₁ ≡ drop (start + at + 1) bytes
-      → (more : List ℕ) → behind_line (drop start bytes ++ more) ≡ left₁ ++ more
-  passed_line at is below lies more =
-      let rest = rest_is lent bytes start same in
-      let far : start + (at + 1) ≡ start + at + 1 = omega arith in
-      line_found (drop start bytes) more at (ap (position (λ byte. byte == 10)) (sym rest) ∙ is) (subst (λ xs. at < length xs) rest below)
-      ∙ ap (λ xs. xs ++ more) (drop-drop (at + 1) start bytes ∙ ap (λ k. drop k bytes) far ∙ sym lies)
-
-  pub passed_all : position (λ byte. byte == 10) (slice_range lent start (length lent)) ≡ None → (len : ℕ) → len ≡ length bytes → left₁ ≡ drop len bytes → (more : List ℕ)
-      → (behind_line (drop start bytes ++ more) ≡ behind_line (left₁ ++ more)) × (more ≡ [] → behind_line (drop start bytes ++ more) ≡ left₁ ++ more)
-  passed_all is len long lies more =
-      let nothing : left₁ ≡ [] = lies ∙ ap (λ n. drop n bytes) long ∙ drop-length bytes in
-      let e = no_line (drop start bytes) more (ap (position (λ byte. byte == 10)) (sym (rest_is lent bytes start same)) ∙ is) in
-      (e ∙ ap (λ xs. behind_line (xs ++ more)) (sym nothing), λ none. e ∙ ap behind_line none ∙ sym (ap₂ (λ (xs ys : List ℕ). xs ++ ys) nothing none))
 
 blanks_passed : (piece left₀ left₁ ys : List ℕ) → length piece ≤ length left₀ → left₁ ≡ drop (blanks_len piece) left₀ → behind_piece kinds.Refused piece (left₀ ++ ys) ≡ behind_line (left₁ ++ ys)
 blanks_passed piece left₀ left₁ ys within lies =
@@ -164,14 +54,6 @@ module _ (given_before given : List ℕ) (found feed passed : StreamBuffer) (so_
           ap (λ xs. behind_piece kinds.Refused (piece_of found) (left found ++ xs)) (sym longer) ∙ before.1 ∙ line (chunk ++ later) ∙ ap behind_line further,
         );
   }
-
--- ---- a byte order mark
-
-pub mark_first : (xs : List ℕ) → starts_with nat_eq xs (239 ∷ 187 ∷ 191 ∷ []) ≡ true → xs ≡ 239 ∷ 187 ∷ 191 ∷ drop 3 xs
-mark_first [] e = absurd (cc)
-mark_first (x ∷ []) e = grind arith
-mark_first (x ∷ y ∷ []) e = grind arith
-mark_first (x ∷ y ∷ z ∷ xs) e = grind arith
 
 -- ---- one step
 

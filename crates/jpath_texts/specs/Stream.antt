@@ -1,76 +1,15 @@
 -- What is done along a stream: its documents, one after another, what each gives, and what is left.
-use Rattle.std.specs.Prelude.{◌≡◌, ℕ, ◌-◌, ◌+◌, ◌^◌, ◌≤◌, ◌==◌, min, not, List, [], ◌∷◌, ◌++◌, flat_map, take, drop, length, sum_by, slice_range, true, false, Bool, if◌then◌else◌}
-use Rattle.std.specs.List.{position_or_len}
-use Rattle.jsonpath_streams.specs.DocumentEnds.{is_json_whitespace, is_blank_text}
-use Rattle.json_recognizer.specs.Grammar.{max_depth}
-use Rattle.json_recognizer.specs.Stream.{is_over, later, found_at, found_in}
-use Rattle.json_recognizer.specs.declared.stream.Found.{Found}
-use Rattle.json_recognizer.specs.declared.stream.Found.TheVariants.{GoesOn, Ends, Refused}
-use Rattle.jpath_texts.specs.declared.stream.stream_buffer.StreamBuffer.{StreamBuffer}
-use Rattle.jpath_texts.specs.declared.stream.piece.Kind.{Kind}
-use Rattle.jpath_texts.specs.declared.stream.piece.Kind.TheVariants as kinds
+use Rattle.std.specs.Prelude.{◌≡◌, ℕ, ◌-◌, ◌^◌, min, List, [], ◌∷◌, ◌++◌, flat_map, drop, length, sum_by, true, false, Bool}
+use Rattle.json_recognizer.specs.Blanks.{blanks_len}
+use Rattle.json_recognizer.specs.Buffer.{IsFirstOf}
+use Rattle.json_recognizer.specs.Lines.{behind_line}
+use Rattle.json_recognizer.specs.declared.buffer.piece.Kind.{Kind}
+use Rattle.json_recognizer.specs.declared.buffer.piece.Kind.TheVariants as kinds
 use Rattle.jpath_texts.specs.declared.stream.visit_documents.Taken.{Taken}
 use Rattle.jpath_texts.specs.declared.stream.visit_documents.How.{How}
 use Rattle.jpath_texts.specs.declared.stream.visit_documents.How.TheVariants.{Whole, Enough, ReadFailed, Stopped, Endless}
 
--- ---- the bytes that are read and not yet passed
-
--- they begin with the piece at hand
-abbrev pub left : StreamBuffer → List ℕ
-left feed = drop feed.start feed.bytes.items
-
-abbrev pub piece_of : StreamBuffer → List ℕ
-piece_of feed = slice_range feed.bytes.items feed.start feed.end
-
--- more bytes may come behind them, but not where the stream was read to its end
-abbrev pub MayCome : StreamBuffer → List ℕ → Type 0
-MayCome feed more = feed.is_whole ≡ true → more ≡ []
-
-abbrev pub mark : List ℕ
-mark = 239 ∷ 187 ∷ 191 ∷ []
-
--- a byte order mark, or none
-abbrev pub mark_if : Bool → List ℕ
-mark_if is_marked = if is_marked then mark else []
-
--- its places are in order, and within the bytes
-pub record IsSound (feed : StreamBuffer) : Type 0 where
-  pub ordered : feed.start ≤ feed.end
-  pub within : feed.end ≤ length feed.bytes.items
-  pub behind : feed.start ≤ feed.seen
-  pub seen : feed.seen ≤ length feed.bytes.items
-
--- its state is where the bytes that were looked through lead, and the document isn't over there
-pub record IsReady (feed : StreamBuffer) : Type 0 where
-  pub sound : IsSound feed
-  pub ahead : (more : List ℕ) → found_in (left feed ++ more) ≡ later (feed.seen - feed.start) (found_at feed.state (drop feed.seen feed.bytes.items ++ more))
-  pub depth : feed.state.depth ≤ max_depth
-  pub unended : is_over feed.state ≡ false
-
 -- ---- what a stream has next
-
--- A document; or the bytes up to and with the first wrong one; or all, where neither is found: blanks, or a document that is cut short.
-abbrev pub piece_by : Found → List ℕ → List ℕ
-piece_by (Ends n) stream = take n stream
-piece_by (Refused n) stream = take (n + 1) stream
-piece_by GoesOn stream = stream
-
-abbrev pub kind_by : Found → List ℕ → Kind
-kind_by (Ends n) stream = kinds.Document
-kind_by (Refused n) stream = kinds.Refused
-kind_by GoesOn stream = if is_blank_text stream then kinds.Blanks else kinds.Refused
-
--- the next of a stream, with the blanks before it
-abbrev pub IsFirstOf : Kind → List ℕ → List ℕ → Type 0
-IsFirstOf kind piece stream = (kind ≡ kind_by (found_in stream) stream) × (piece ≡ piece_by (found_in stream) stream)
-
--- how many blanks are in front
-abbrev pub blanks_len : List ℕ → ℕ
-blanks_len bytes = position_or_len (λ byte. not (is_json_whitespace byte)) bytes
-
--- what is behind the first line end; nothing, where there is none
-abbrev pub behind_line : List ℕ → List ℕ
-behind_line bytes = drop (position_or_len (λ byte. byte == 10) bytes + 1) bytes
 
 -- What is behind a piece: with one that is refused the line is passed on which it begins.
 abbrev pub behind_piece : Kind → List ℕ → List ℕ → List ℕ

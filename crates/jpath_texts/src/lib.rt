@@ -8,12 +8,12 @@ mod refusal;
 mod stream;
 
 pub use exact_tree::read_exact_tree;
+pub use json_recognizer::{Kind, LineColumn, MARK, ReadFailure};
 pub use output::array_items::{add_array_end, add_array_item};
 pub use output::csv_and_tsv::{Separated, add_header, add_row};
 pub use output::match_line::{Line, Shown, add_file_name};
 pub use output::names_once::write_with_names_once;
 pub use output::value_text::{Look, add_compact_value, add_value_in_look};
 pub use refusal::DocumentRefusal;
-pub use stream::piece::{Kind, LineColumn, Piece};
-pub use stream::stream_buffer::{MARK, ReadFailure};
+pub use stream::piece::Piece;
 pub use stream::visit_documents::{Ended, How, Taken, Visitor, visit_documents};

@@ -2,7 +2,7 @@
 
 use std::alloc::{AllocError, AllocFailed};
 
-/// Why nothing is written for a text.
+/// Why `jpath` writes nothing for a text: it is no document, or can't be edited or compared as asked.
 #[derive(Clone, Copy, Debug, Drop, PartialEq, Eq)]
 pub enum DocumentRefusal {
     /// The text is no JSON document, or it nests too deep.

@@ -1,3 +1,4 @@
+pub mod BufferLemmas
 pub mod Rest
 pub mod SoundBehind
 pub mod SoundNumbers

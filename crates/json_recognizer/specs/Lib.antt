@@ -1,5 +1,8 @@
+pub mod Blanks
+pub mod Buffer
 pub mod Classes
 pub mod Grammar
+pub mod Lines
 pub mod Machine
 pub mod State
 pub mod Stream

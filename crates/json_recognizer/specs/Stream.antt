@@ -53,6 +53,11 @@ found_at s = found_from (next_of s)
 abbrev pub found_in : List ℕ → Found
 found_in = found_from (goes Value [] max_depth)
 
+-- where the first document ends, or else this
+abbrev pub end_or : ℕ → Found → ℕ
+end_or n (Ends k) = k
+end_or n found = n
+
 -- what is found in a piece of so many bytes, or else behind it
 abbrev pub or_later : Found → ℕ → Found → Found
 or_later GoesOn n behind = later n behind

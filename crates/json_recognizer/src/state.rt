@@ -60,8 +60,8 @@ fn first_in(is_object: bool) -> Mode
     }
 }
 
-/// Takes the next byte, given by its class, and returns true; false if no JSON text goes on with it, and then the state
-/// is unchanged.
+/// Takes the next byte, given by its class, and returns true. Returns false if no JSON text goes on with that byte;
+/// the state is then unchanged.
 #[inline(always)]
 pub fn take(state: &mut State, class: Class) -> bool
     requires { state.old.depth ≤ max_depth }

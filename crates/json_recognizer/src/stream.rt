@@ -4,14 +4,14 @@ ghost use Rattle.json_recognizer.specs.Classes.{class_of, is_plain, is_digit};
 ghost use Rattle.json_recognizer.specs.Grammar.{max_depth};
 ghost use Rattle.json_recognizer.specs.Machine.{is_final, step, goes};
 ghost use Rattle.json_recognizer.specs.State.{frames};
-ghost use Rattle.json_recognizer.specs.Stream.{is_over, ends_number, found_at, or_later, IsWithin};
+ghost use Rattle.json_recognizer.specs.Stream.{is_over, ends_number, found_at, found_in, end_or, or_later, IsWithin};
 ghost use Rattle.json_recognizer.specs.declared.class.Class.TheVariants.{Space};
 
 use crate::class::{Class, class_of};
 use crate::machine::{Mode, NumberPart, TextPart};
-use crate::state::{self, State};
+use crate::state::{self, State, start};
 
-/// What a piece of a stream is to the document that is read.
+/// The result of looking through the next bytes of a stream: what they are to the document that is being read.
 #[derive(Clone, Copy, Debug, Drop)]
 pub enum Found {
     /// The document goes on behind the piece.
@@ -216,7 +216,8 @@ fn take_byte(state: &mut State, byte: u8) -> Found
     found_behind(state)
 }
 
-/// Takes the next piece of a stream: whether the document that it goes on with ends in it, or has a wrong byte.
+/// Looks through the next bytes of a stream, `piece`: whether the document that is being read ends in them, or has
+/// its first wrong byte there, or goes on behind them. `state` is what the bytes before led to; it is updated.
 pub fn find_end(state: &mut State, piece: &[u8]) -> Found
     requires depth { state.old.depth ≤ max_depth }
     requires open { is_over state.old ≡ false }
@@ -238,4 +239,15 @@ pub fn find_end(state: &mut State, piece: &[u8]) -> Found
         }
     }
     Found::GoesOn
+}
+
+/// The number of bytes of the first document of a text, with the blanks before it; of all, where there is none.
+pub fn first_document_len(text: &[u8]) -> usize
+    ensures { result ≡ end_or (length text.now) (found_in text.now) }
+{
+    match find_end(&mut start(), text) {
+        Found::Ends(len) => len,
+        Found::Refused(_) => text.len(),
+        Found::GoesOn => text.len(),
+    }
 }

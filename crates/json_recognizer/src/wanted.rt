@@ -1,8 +1,8 @@
 //! The words of an error.
-ghost use Rattle.std.specs.Prelude.{◌≡◌, ◌≢◌, ◌≤◌, true};
+ghost use Rattle.std.specs.Prelude.{◌≡◌, ◌≢◌, ◌≤◌, true, Some};
 ghost use Rattle.json_recognizer.specs.Grammar.{max_depth};
 ghost use Rattle.json_recognizer.specs.State.{frames};
-ghost use Rattle.json_recognizer.specs.Wanted.{names};
+ghost use Rattle.json_recognizer.specs.Wanted.{names, wanted_words};
 ghost use Rattle.json_recognizer.specs.Machine.{move, top_of, move_behind, move_number, move_text};
 ghost use Rattle.json_recognizer.specs.declared.class.Class.{Class};
 ghost use Rattle.json_recognizer.specs.declared.machine.Move.TheVariants.{Wrong};
@@ -46,6 +46,8 @@ pub enum Wanted {
 
 /// The sentence of an error.
 impl Display for Wanted {
+    ghost output = { λ wanted. Some (wanted_words wanted) };
+
     fn fmt<W: fmt::Write>(&self, f: &mut Formatter<W>) -> fmt::Result {
         f.write_str(match self {
             Wanted::Value => "a value is wanted",
@@ -124,7 +126,8 @@ fn in_text(part: TextPart, is_name: bool, class: Class) -> Wanted
     }
 }
 
-/// The words for a wrong byte. Each byte that they name would have been right.
+/// What an error message says was expected in place of a wrong byte. Each byte that it names would have been right
+/// there; others may be, too.
 pub fn what_was_wanted(mode: Mode, top: Top, class: Class) -> Wanted
     ensures { (c : Class) → names result c ≡ true → move mode top c ≢ Wrong }
 {
@@ -154,8 +157,8 @@ pub fn what_was_wanted(mode: Mode, top: Top, class: Class) -> Wanted
     }
 }
 
-/// The words for a wrong byte behind what led to this state. Each byte that they name would have been right, but
-/// for too many arrays and objects in one another.
+/// What an error message says was expected in place of a wrong byte that comes in this state. Each byte that it names
+/// would have been right there, except for a bracket that opens too many arrays and objects in one another.
 pub fn wanted_at(state: &State, byte: u8) -> Wanted
     requires { state.now.depth ≤ max_depth }
     ensures { (c : Class) → names result c ≡ true → move state.now.mode (top_of (frames state.now.depth state.now.kinds)) c ≢ Wrong }

@@ -1,4 +1,5 @@
 mod Rows
 pub mod FoundLemmas
+pub mod StreamLemmas
 pub mod PathTextLemmas
 pub mod JsonTextRefusedLemmas

@@ -1,2 +1,3 @@
 -- Texts of many documents.
 pub mod Documents
+pub mod Faults

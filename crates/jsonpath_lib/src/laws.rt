@@ -67,8 +67,8 @@ pub fn replaces_selected_location<F: FnMut(Value) -> Option<Value>>(closure: &F)
     updates_put_one_answer_in_turn(closure);
 }
 
-/// Lemma: the result of masking by several paths depends on the set of paths alone, neither on their order nor on
-/// repeats.
+/// Lemma: the result of masking by several paths, that is, of putting null at all values that they select, depends on
+/// the set of paths alone, neither on their order nor on repeats.
 ///
 /// ```text
 /// laws::masks_in_any_order();

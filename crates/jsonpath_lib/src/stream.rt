@@ -1,3 +1,4 @@
-//! A text of many documents, one document at a time.
+//! A stream of many documents, one document at a time.
 
+pub(crate) mod document_fault;
 pub(crate) mod documents;

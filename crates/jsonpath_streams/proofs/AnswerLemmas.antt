@@ -1,5 +1,5 @@
 -- What the calls behind one answer add to what was answered.
-use Rattle.std.proofs.Common.{◌≡◌, ℕ, zero, suc, ◌+◌, List, [], ◌∷◌, ◌++◌, Bool, true, Ok, Err, refl, ap, ◌∙◌, replicate}
+use Rattle.std.proofs.Common.{◌≡◌, ℕ, zero, suc, List, [], ◌∷◌, ◌++◌, Bool, true, Ok, Err, refl, ap, ◌∙◌, replicate}
 use Rattle.std.proofs.lemmas.List.{append-nil}
 use Rattle.std.proofs.lemmas.List.Concat.{flat_map-append}
 use Rattle.jsonpath_streams.specs.Answers.{CallAnswer, IsTold, bytes_in, bytes_in_answer}

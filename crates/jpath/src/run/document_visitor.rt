@@ -5,7 +5,7 @@ ghost use Rattle.jpath.specs.Gives.{Gives, IsWhyStopped};
 
 use crate::run::one_document::add_output_for_document;
 use jpath_core::{DocumentRefusal, Kind, MARK, Piece, Taken, Visitor};
-use jpath_files::{HeldOutput, tell_refused_document};
+use jpath_files::{HeldOutput, RefusedDocument};
 use jpath_tasks::{Task, Wanted};
 use json::Scratch;
 use jsonpath_streams::{IoFailed, Output};
@@ -146,7 +146,8 @@ fn stop_or_pass_refused_piece(
     ensures more { IfOk result (λ taken. taken.is_enough ≡ false) }
     ensures refused { IfErr result (λ stop. stop ≡ Stop.Document) }
 {
-    tell_refused_document(rt, name, piece.bytes, piece.place, refusal);
+    let refused = RefusedDocument::of_piece(name, piece.bytes, piece.place, refusal);
+    let _ = eprintln!(rt; "{refused}");
     if !wanted.keeps_going || piece.kind == Kind::Blanks {
         return Err(Stop::Document);
     }

@@ -26,8 +26,8 @@ use jsonpath_paths::laws::one_tree_per_text;
 use std::alloc::{AllocError, Global};
 use std::mem;
 
-/// Writes a line for each value that one path selects in a document, in the path's order, and returns how many there
-/// are. An error may leave a part of them.
+/// Appends a line to `out` for each value that one path selects in a document, in the path's order, and returns how
+/// many there are. After an error `out` may end with a part of these lines.
 pub fn add_lines_for_path(
     alloc: Global,
     document: &Document<'_>,
@@ -45,7 +45,7 @@ pub fn add_lines_for_path(
     Ok(spots.len())
 }
 
-/// How many values the paths select in a document.
+/// The number of values that each of the paths selects in a document, duplicates included, all added up.
 pub fn count_matches(
     alloc: Global,
     document: &Document<'_>,
@@ -70,8 +70,8 @@ fn count_matches_of_path(
     Ok(select_in_document(alloc, document, query)?.len())
 }
 
-/// Writes one array of all values that the paths select, path after path, on a line, and returns how many there are.
-/// An error may leave a part of it.
+/// Appends to `out` one JSON array of all values that the paths select, those of the first path first, and a line
+/// end. Returns how many values there are. After an error `out` may end with a part of the array.
 pub fn add_array(
     alloc: Global,
     document: &Document<'_>,

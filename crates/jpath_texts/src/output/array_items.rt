@@ -6,8 +6,8 @@ use crate::output::value_text::Look;
 use json::Value as Exact;
 use std::alloc::{AllocError, Global};
 
-/// Appends an item of an array, in colours or on lines as `look` says, and the comma before it; each name of an
-/// object once. An error may leave a part of it.
+/// Appends an item of a JSON array to `out`, in colours or over several lines as `look` says, with the comma before
+/// it. A name that an object has several times is written once. After an error `out` may end with a part of the item.
 pub fn add_array_item(
     alloc: Global,
     out: &mut Vec<u8>,

@@ -16,7 +16,8 @@ pub enum Separated {
     ByTabs,
 }
 
-/// Appends the header of a table, a row of these names. An error may leave a part of it, or nothing at all.
+/// Appends the header of a table to `out`: a row of CSV or TSV with these column names. After an error `out` may end
+/// with a part of the row, or be empty.
 pub fn add_header(
     alloc: Global,
     names: &[&str],
@@ -32,7 +33,8 @@ pub fn add_header(
     add_row(alloc, fields.as_slice(), separated, out)
 }
 
-/// Appends a row of these fields. An error may leave a part of it, or nothing at all.
+/// Appends a row of CSV or TSV with these fields to `out`. The only error is out of memory; then `out` may end with a
+/// part of the row, or be empty.
 pub fn add_row(
     alloc: Global,
     fields: &[Vec<u8>],

@@ -23,7 +23,8 @@ pub struct Look {
     pub is_colored: bool,
 }
 
-/// Appends the compact text of a value, with repeated names. An error leaves nothing of it.
+/// Appends the compact text of a value. Members whose name comes again are all written. After an error nothing of the
+/// text is appended.
 pub fn add_compact_value(
     alloc: Global,
     out: &mut Vec<u8>,

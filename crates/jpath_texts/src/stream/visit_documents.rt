@@ -1,10 +1,11 @@
 //! Visitors of documents, and the loop that visits each document of a stream.
 
 ghost use Rattle.std.specs.Prelude.{◌≡◌, ℕ, List, [], ◌++◌, true, false, Bool, Err, IfOk, IfErr, OnOk, OnErr};
-ghost use Rattle.jpath_texts.specs.Stream.{left, piece_of, mark_if, behind_piece, is_enough, IfStopped, IsCutShort, IsSound, IsReady, MayCome, Gives, StayGiven, GoesAlong};
+ghost use Rattle.json_recognizer.specs.Buffer.{left, piece_of, mark_if, IsSound, IsReady, MayCome};
+ghost use Rattle.jpath_texts.specs.Stream.{behind_piece, is_enough, IfStopped, IsCutShort, Gives, StayGiven, GoesAlong};
 
-use crate::stream::piece::{Kind, Piece};
-use crate::stream::stream_buffer::{ReadFailure, StreamBuffer};
+use crate::stream::piece::Piece;
+use json_recognizer::{Kind, ReadFailure, StreamBuffer};
 use jsonpath_streams::Input;
 use std::alloc::Global;
 

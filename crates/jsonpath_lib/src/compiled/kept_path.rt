@@ -9,9 +9,10 @@ use serde_json::Value;
 use std::alloc::Global;
 use std::marker::Model;
 
-/// A compiled path for many documents; it selects what the path compiled anew would select.
-/// [`Compiled`](crate::Compiled) owns its text, [`PathCompiled`](crate::PathCompiled) borrows it, and its copies share
-/// it. The other verbs are those of [`AnyPath`](crate::AnyPath).
+/// A compiled path that is stored and used for many documents. There are two types of it:
+/// [`Compiled`](crate::Compiled) owns the path text, [`PathCompiled`](crate::PathCompiled) borrows it, and clones of
+/// a `PathCompiled` share one compiled path. Beside `select`, `delete` and `replace_with` it has the methods of
+/// [`AnyPath`](crate::AnyPath).
 ///
 /// ```text
 /// let path: KeptPath<Node> = Compiled::compile(alloc, "$[1:]")?;

@@ -9,7 +9,7 @@ use jsonpath_select::{JsonPathError, compile_path};
 use std::alloc::{AllocError, Global};
 use std::rc::Rc;
 
-/// A compiled path that borrows its text, for any number of documents. Its copies share it.
+/// A compiled path that borrows its text, for any number of documents. Its clones share one compiled path.
 ///
 /// ```text
 /// let path = PathCompiled::compile(alloc, "$[?(@ == 2)]")?;
@@ -45,8 +45,8 @@ impl<'a> PathCompiled<'a> {
 impl Clone for PathCompiled<'_> {
     ghost is_clone = { λ it copy. copy ≡ it };
 
-    /// Another owner of the same path. It takes no memory; it fails only if there are too many owners to count one
-    /// more.
+    /// Another `PathCompiled` of the same compiled path, which the two share. It takes no memory; it fails only if
+    /// there are too many of them to count.
     fn clone(&self) -> Result<Self, AllocError> {
         let path = self.path.clone()?;
         Ok(PathCompiled { path })

@@ -1,9 +1,10 @@
-//! The documents of a text, one after another.
+//! The documents of a text or a stream, one after another.
 
 use crate::asserts::check;
 use crate::outcomes::prints;
-use jsonpath_lib::{DocumentFault, Documents, JsonPathError};
-use jsonpath_streams::{Inside, document_end_in_piece, first_document_len};
+use crate::run::streams::Source;
+use jsonpath_lib::{DocumentFault, Documents, FaultKind, JsonPathError};
+use jsonpath_streams::Input;
 use serde_json::Value;
 use std::process::Abort;
 use std::test::Fail;
@@ -18,28 +19,44 @@ fn fault_of(read: Option<Result<Value, DocumentFault>>) -> Option<DocumentFault>
     read?.err()
 }
 
-// Asserts which documents a text has, and where it is refused behind them.
-fn reads(
+// Asserts which documents these are, and where they are refused behind them.
+fn are<R: Input + Drop>(
     rt: &(impl Abort + AllocGlobal),
-    text: &[u8],
+    documents: &mut Documents<R>,
     wanted: &[&str],
-    refused: Option<(usize, usize, &str)>,
+    refused: Option<(FaultKind, usize, usize, &str)>,
 ) {
-    let mut documents = Documents::new(rt.alloc(), text);
     for want in wanted {
         let document = document_of(documents.next()).expect(rt, "a document");
         prints(rt, &document, *want);
     }
     let last = documents.next();
     check!(rt; last.is_none() == refused.is_none(), "the end");
-    if let Some((line, column, message)) = refused {
+    if let Some((kind, line, column, message)) = refused {
         let fault = fault_of(last).expect(rt, "a refusal");
+        check!(rt; fault.kind == kind, message);
         check!(rt; fault.line == line, message);
         check!(rt; fault.column == column, message);
         let error = &fault.error;
         check!(rt; matches!(error, JsonPathError::Serde(text) if text.as_str() == message), message);
     }
     check!(rt; documents.next().is_none());
+}
+
+// Asserts which documents a text has, and where it is refused behind them: the text as bytes, and as an input that gives
+// one, two or three bytes a call.
+fn reads(
+    rt: &(impl Abort + AllocGlobal),
+    text: &[u8],
+    wanted: &[&str],
+    refused: Option<(FaultKind, usize, usize, &str)>,
+) {
+    are(rt, &mut Documents::new(rt.alloc(), text), wanted, refused);
+    for piece in 1..4 {
+        let input = Source::new(text, usize::MAX, piece);
+        let mut documents = Documents::of_input(rt.alloc(), input);
+        are(rt, &mut documents, wanted, refused);
+    }
 }
 
 #[test]
@@ -63,61 +80,126 @@ fn documents_come_in_their_order(rt: HostRuntime) {
 }
 
 #[test]
-fn a_refusal_names_its_place_and_ends_the_documents(rt: HostRuntime) {
+fn words_end_with_their_last_letter(rt: HostRuntime) {
+    reads(&rt, b"truefalse", &["true", "false"], None);
+    reads(&rt, b"null[1]", &["null", "[1]"], None);
+}
+
+#[test]
+fn a_wrong_byte_names_its_place_and_ends_the_documents(rt: HostRuntime) {
+    let wrong = |line, column, message| Some((FaultKind::WrongByte, line, column, message));
     reads(
         &rt,
         b"[1]\n[2,}\n[3]",
         &["[1]"],
-        Some((2, 4, "invalid JSON at line 2 column 4")),
+        wrong(2, 4, "invalid JSON at line 2 column 4"),
     );
     reads(
         &rt,
         b"1 2x 3",
         &["1"],
-        Some((1, 3, "invalid JSON at line 1 column 3")),
-    );
-    reads(
-        &rt,
-        b"[1] [2",
-        &["[1]"],
-        Some((1, 6, "EOF while parsing at line 1 column 6")),
+        wrong(1, 4, "invalid JSON at line 1 column 4"),
     );
     reads(
         &rt,
         b"[1]\n\n [\n2,,]",
         &["[1]"],
-        Some((4, 3, "invalid JSON at line 4 column 3")),
-    );
-    reads(
-        &rt,
-        b"truefalse",
-        &[],
-        Some((1, 1, "invalid JSON at line 1 column 1")),
+        wrong(4, 3, "invalid JSON at line 4 column 3"),
     );
     reads(
         &rt,
         b"[1]]",
         &["[1]"],
-        Some((1, 4, "invalid JSON at line 1 column 4")),
+        wrong(1, 4, "invalid JSON at line 1 column 4"),
+    );
+    reads(
+        &rt,
+        b"[1] x",
+        &["[1]"],
+        wrong(1, 5, "invalid JSON at line 1 column 5"),
     );
     reads(
         &rt,
         b"1 [\xff] 2",
         &["1"],
-        Some((1, 4, "invalid JSON at line 1 column 4")),
+        wrong(1, 4, "invalid JSON at line 1 column 4"),
+    );
+    reads(
+        &rt,
+        b"[\n\"a\nb\"]",
+        &[],
+        wrong(2, 3, "invalid JSON at line 2 column 3"),
     );
 }
 
 #[test]
-fn example_of_ends(rt: HostRuntime) {
-    assert_eq!(rt; first_document_len(b" [1, \"]\"] 2"), 9);
-    assert_eq!(rt; first_document_len(b"12 34"), 2);
+fn a_text_that_ends_too_early_names_its_last_byte(rt: HostRuntime) {
+    let cut = |line, column, message| Some((FaultKind::CutShort, line, column, message));
+    reads(
+        &rt,
+        b"[1] [2",
+        &["[1]"],
+        cut(1, 6, "EOF while parsing at line 1 column 6"),
+    );
+    reads(
+        &rt,
+        b"{\"a\":{",
+        &[],
+        cut(1, 6, "EOF while parsing at line 1 column 6"),
+    );
+    reads(
+        &rt,
+        b"[1]\n[2,\n",
+        &["[1]"],
+        cut(3, 0, "EOF while parsing at line 3 column 0"),
+    );
+}
 
-    let mut here = Inside::Blanks;
-    assert!(rt; document_end_in_piece(&mut here, b"{\"a\": [1,").is_none());
-    assert!(rt; document_end_in_piece(&mut here, b"2]} []") == Some(3));
+#[test]
+fn a_number_out_of_range_stands_where_serde_json_says(rt: HostRuntime) {
+    let refused = (
+        FaultKind::Unread,
+        2,
+        8,
+        "number out of range at line 2 column 8",
+    );
+    reads(&rt, b"[1]\n [1e999]\n[2]", &["[1]"], Some(refused));
+}
 
-    let mut here = Inside::Blanks;
-    assert!(rt; document_end_in_piece(&mut here, b"[[1], ").is_none());
-    assert!(rt; matches!(here, Inside::Brackets(1)));
+#[test]
+fn a_wrong_byte_is_told_before_the_stream_is_read_on(rt: HostRuntime) {
+    let mut documents = Documents::of_input(rt.alloc(), Source::new(b"[1] [2}", 7, 1));
+    let wrong = (
+        FaultKind::WrongByte,
+        1,
+        7,
+        "invalid JSON at line 1 column 7",
+    );
+    are(&rt, &mut documents, &["[1]"], Some(wrong));
+}
+
+#[test]
+fn a_failed_read_is_an_error_of_its_own(rt: HostRuntime) {
+    for good in 0..12 {
+        let input = Source::new(b"[1]\n[20, 3]", good, 1);
+        let mut documents = Documents::of_input(rt.alloc(), input);
+        let mut count = 0usize;
+        let mut kind = None;
+        for item in documents.by_ref().take(9) {
+            match item {
+                Ok(_document) => count += 1,
+                Err(fault) => kind = Some((fault.kind, fault.line, fault.column)),
+            }
+        }
+        if good < 3 {
+            check!(rt; count == 0 && kind == Some((FaultKind::ReadFailed, 1, good + 1)));
+        } else if good < 11 {
+            check!(rt; count == 1);
+            let (line, column) = if good == 3 { (1, 4) } else { (2, good - 3) };
+            check!(rt; kind == Some((FaultKind::ReadFailed, line, column)));
+        } else {
+            check!(rt; count == 2 && kind == Some((FaultKind::ReadFailed, 2, 8)));
+        }
+        check!(rt; documents.next().is_none());
+    }
 }

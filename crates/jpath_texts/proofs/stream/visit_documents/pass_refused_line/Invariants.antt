@@ -1,5 +1,6 @@
 use Rattle.std.proofs.Common.{◌≡◌, true}
-use Rattle.jpath_texts.specs.Stream.{IsReady, StayGiven}
+use Rattle.json_recognizer.specs.Buffer.{IsReady}
+use Rattle.jpath_texts.specs.Stream.{StayGiven}
 use Rattle.jpath_texts.proofs.StreamLemmas.{IsPassing}
 use Rattle.jpath_texts.proofs.stream.visit_documents.pass_refused_line.Given as goal
 

@@ -1,5 +1,5 @@
 use Rattle.std.proofs.Common.{◌≡◌, ◌++◌, true}
-use Rattle.jpath_texts.specs.Stream.{left, IsReady}
+use Rattle.json_recognizer.specs.Buffer.{left, IsReady}
 use Rattle.jpath_texts.proofs.stream.visit_documents.read_past_byte_order_mark.Given as goal
 
 abbrev pub invariant-loop : goal.invariant-loop

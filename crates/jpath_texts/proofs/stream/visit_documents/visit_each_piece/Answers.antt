@@ -1,6 +1,7 @@
 use Rattle.std.proofs.Common.{◌≡◌, ℕ, List, ◌++◌, [], false, refl, sym, ap, subst, ◌∙◌, arith, append_assoc}
 use Rattle.std.proofs.lemmas.List.{append-nil}
-use Rattle.jpath_texts.specs.Stream.{left, piece_of, behind_piece, MayCome, GoesAlong, IsCutShort}
+use Rattle.json_recognizer.specs.Buffer.{left, piece_of, MayCome}
+use Rattle.jpath_texts.specs.Stream.{behind_piece, GoesAlong, IsCutShort}
 use Rattle.jpath_texts.proofs.StreamLemmas.{IsAlong, not_enough, along_start, along_read, along_visited, along_end, document_passed}
 use Rattle.jpath_texts.proofs.stream.visit_documents.visit_each_piece.Goals.{in-Document, in-Refused+in_default-pass_refused_line}
 use Rattle.jpath_texts.proofs.stream.visit_documents.visit_each_piece.Goals as goal

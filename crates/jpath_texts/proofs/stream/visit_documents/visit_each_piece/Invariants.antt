@@ -1,5 +1,5 @@
 use Rattle.std.proofs.Common.{◌≡◌, ◌++◌, true, false}
-use Rattle.jpath_texts.specs.Stream.{left, IsReady, MayCome}
+use Rattle.json_recognizer.specs.Buffer.{left, IsReady, MayCome}
 use Rattle.jpath_texts.proofs.StreamLemmas.{IsAlong}
 use Rattle.jpath_texts.proofs.stream.visit_documents.visit_each_piece.Given as goal
 
