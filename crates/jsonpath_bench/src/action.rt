@@ -6,7 +6,7 @@ use std::alloc::Global;
 use std::hint::black_box;
 use std::time::{Duration, Instant};
 
-/// A call of the library.
+/// A call of the library that is measured.
 #[derive(Clone, Copy)]
 pub enum Action {
     /// A question about what the compiled path selects.
@@ -19,7 +19,7 @@ pub enum Action {
     Compile,
 }
 
-/// What is asked of a document.
+/// What is measured of a compiled path that selects in a document.
 #[derive(Clone, Copy)]
 pub enum Asked {
     /// The values that the path selects.
@@ -35,7 +35,7 @@ pub enum Asked {
 }
 
 impl Action {
-    /// The action that a word names.
+    /// The action that a word of the command line names, as `select`; `None` for any other word.
     pub fn of(word: &str) -> Option<Action> {
         match word {
             "select" => Some(Action::Ask(Asked::Values)),
@@ -51,9 +51,9 @@ impl Action {
     }
 }
 
-/// The time that so many calls take together, and the number of results of one: of the values or nodes that the path
-/// selects, 1 if there is a first or any, and 1 for a compiled path. Reading the clock, and the copies of the
-/// document that are updated, are outside the time of an update.
+/// Makes a call `count` times, and returns the time that they take together and the number of results of one call:
+/// how many values or nodes the path selects, 1 for a first value, a test for any or a compiled path. Copies of the
+/// document that updates change are made outside that time.
 pub fn measure(
     rt: &HostRuntime,
     action: Action,

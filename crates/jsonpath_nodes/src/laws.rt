@@ -94,8 +94,8 @@ pub fn putting_at_one_location()
     ensures nowhere { ChangesNothing }
 {}
 
-/// Lemma: a run of single updates by a closure that always returns the same value puts that value at each location
-/// in turn. The closure is not called.
+/// Lemma: a run of single updates by a closure that always returns the same value puts that value at each location in
+/// turn. The lemma only speaks of the closure and doesn't call it.
 ///
 /// ```text
 /// let on = &mut |_old: Value| Some(Value::Bool(true));
@@ -127,10 +127,10 @@ pub fn nulling_and_taking_ignore_order()
     ensures { SetsAlone }
 {}
 
-/// Lemma: the sets of nodes that steps, descents and filters' candidates lead to depend on the set of locations that
-/// they start from alone, neither on their order nor on repeats; so do the set of locations that pass a test, and
-/// whether any does. Two lists of the same locations become equal when they are put in document order, each location
-/// once.
+/// Lemma: the set of nodes that steps and descents lead to, and the set of a filter's candidates, depend on the set
+/// of locations that they start from alone, neither on their order nor on repeats; so do the set of locations that
+/// pass a test, and whether any does. Two lists of the same locations become equal when they are put in document
+/// order, each location once.
 ///
 /// ```text
 /// laws::steps_ignore_order_and_repeats();
@@ -177,10 +177,10 @@ pub fn candidates_of_disjoint_in_descents()
     ensures { DisjointInOneDescent }
 {}
 
-/// Lemma: locations are disjoint if no two are the same and none is below another; so distinct ones of equal depth are.
-/// Disjoint locations are apart, and no location is at or below two of them. A step that selects no child of a value
-/// twice leads from disjoint locations to disjoint ones (`*` if the names ascend at each of them). A filter's result is
-/// disjoint, too, and so are its candidates.
+/// Lemma: locations are disjoint if no two are the same and none is below another; so distinct ones of equal depth
+/// are disjoint. Disjoint locations are apart, as `apart_locations_meet_candidates_once` says, and no location is at
+/// or below two of them. From disjoint locations, a step that selects no child of a value twice leads to disjoint
+/// ones (`*` if the names ascend in each object there), and so do a filter and its candidates.
 ///
 /// ```text
 /// laws::steps_keep_locations_disjoint();
@@ -194,8 +194,9 @@ pub fn steps_keep_locations_disjoint()
     ensures candidates { CandidatesStayDisjoint }
 {}
 
-/// Lemma: locations are apart if no two are the same, or lead from one to the other by indexes alone. Then no candidate
-/// is found from two of them. A single location is apart, and so are the candidates from any locations.
+/// Lemma: locations are apart if all are different and none leads to another by indexes alone. Then no candidate of a
+/// filter is found from two of them. A single location is apart, and so are the candidates that are found from any
+/// locations, each taken once.
 ///
 /// ```text
 /// laws::apart_locations_meet_candidates_once();

@@ -5,7 +5,8 @@ use serde::Deserialize;
 use std::alloc::{AllocError, Global};
 use std::fmt;
 
-/// Without an error text, that of `serde_json` is wanted, of which only the first line is fixed.
+/// A test row: the words and the input of a run of `jsonpath_run`, and the exit status, the output and the error text
+/// that it must have. If `error` is `None`, the error has to be one of `serde_json`, whatever its words.
 #[derive(Drop, Deserialize)]
 pub struct Row {
     pub words: Vec<String>,
@@ -34,8 +35,7 @@ pub struct Outcome {
 }
 
 impl Outcome {
-    /// Whether the run is as the row says. Where the row names no error text, that is the text of
-    /// `serde_json`, and its first line alone is looked at.
+    /// Whether a run has the exit status, the output and the error text that its test row expects.
     pub fn is_of(&self, row: &Row) -> bool {
         let is_error = match &row.error {
             Some(error) => self.error.as_str() == error.as_str(),
@@ -54,7 +54,7 @@ impl fmt::Display for Outcome {
     }
 }
 
-/// Runs the program `jsonpath_run` on the words and the input of a row.
+/// Runs the program `jsonpath_run` on the words and the input of a test row.
 pub fn outcome_of(alloc: Global, row: &Row) -> Result<Outcome, AllocError> {
     let words = row
         .words

@@ -8,7 +8,8 @@ use jsonpath_select::{
 use serde_json::Value;
 use std::alloc::Global;
 
-/// A way to select by a path in a document: by one of the selectors, or by the token list.
+/// A way to select by a path in a document, of which each has to give the same answer: by one of the selectors, or by
+/// the token list.
 #[derive(Clone, Copy)]
 pub enum Method {
     /// `JsonSelector`.
@@ -22,7 +23,7 @@ pub enum Method {
 }
 
 impl Method {
-    /// The name of the way, for a message.
+    /// The name of this way to select, for an error message.
     pub fn name(self) -> &'static str {
         match self {
             Method::JsonSelector => "JsonSelector",
@@ -33,7 +34,8 @@ impl Method {
     }
 }
 
-/// Whether the way answers as the row says, or none where the row does not select by one path.
+/// Whether selecting in this way gives the output or the error that a test row expects. `None` if the row is not
+/// about `select` with one path.
 pub fn is_selected(alloc: Global, row: &Row, way: Method) -> Result<Option<bool>, JsonPathError> {
     let [command, path] = row.words.as_slice() else {
         return Ok(None);

@@ -3,6 +3,7 @@ ghost use Rattle.std.specs.Prelude.{◌≡◌, ◌⊎◌, ◌↔◌, ◌≢◌, 
 ghost use Rattle.serde_json.specs.View.{view};
 ghost use Rattle.jsonpath_select.specs.selectors.Held.{IsTextFor, IsTextRefusedFor};
 ghost use Rattle.jsonpath_select.specs.answer.AnswerText.{IsTextOf, IsDocumentRefused, IsDocumentTextRefused, document_text};
+ghost use Rattle.jsonpath_select.specs.Targets.{IsDeleted};
 ghost use Rattle.jsonpath_run.specs.Words.{IsCount, IsUsage};
 ghost use Rattle.jsonpath_run.specs.Output.{IsAnswer, IsChange, IsOutput, IsRefusal, IsAnswerRefused, IsCheck, HasNoPath, IfRefused, IsNotIo};
 
@@ -10,21 +11,24 @@ use crate::faults::Fault;
 use crate::whole_streams::{ReadFault, read_to_end, write_all};
 use crate::words::{Command, parse_call};
 use jsonpath_lib::{PathsFault, compile_paths, mask_at_paths};
+use jsonpath_nodes::{compute_paths, delete_at};
 use jsonpath_paths::PathParser;
 use jsonpath_paths::laws::one_tree_per_text;
-use jsonpath_select::{AnyPath, JsonPathError, JsonSelector, document_to_text, read_document};
+use jsonpath_select::{
+    AnyPath, JsonPathError, JsonSelector, document_to_text, read_document, select_path_in_any_order,
+};
 use jsonpath_streams::{Input, IoFailed, Output};
 use serde_json::Value;
 use std::alloc::Global;
 use std::mem::forget;
 
-/// Runs the program on its words, without the program's name: compiles the paths, reads the input to its end if the
-/// command needs it, and writes the answer with a line end. Returns the exit status 0.
+/// Runs the program on its arguments, without the program's name: compiles the paths, reads the input to its end if
+/// the command needs it, and writes the answer with a line end. Returns the exit status 0.
 ///
-/// Errors: `Usage` exactly if the words are no call, and then nothing is read; `Refused` if a path isn't in the
-/// grammar, and then nothing is read, if the whole input has no answer, or if memory ran out. In all these cases
-/// nothing is written. `Io` if a read failed, and then nothing is written; or if a write failed, and then a
-/// beginning of the answer, possibly empty, is written.
+/// Errors: `Usage` exactly if the arguments are no valid command line, and then nothing is read; `Refused` if a path
+/// isn't in the grammar, and then nothing is read, if the input is no document or the answer can't be printed, or if
+/// memory ran out. In all these cases nothing is written. `Io` if a read failed, and then nothing is written; or if a
+/// write failed, and then a beginning of the answer, possibly empty, is written.
 ///
 /// ```text
 /// let mut reader = Checked::new(r#"{"a":1}"#.as_bytes());
@@ -222,11 +226,29 @@ fn change_by_command(
     ensures refused { IfErr result (λ error. error ≡ JsonPathError.OutOfMemory) }
 {
     match command {
-        Command::Delete => paths[0].delete_in(alloc, document),
+        Command::Delete => delete_at_path(alloc, &paths[0], document),
         Command::Remove => paths[0].remove_in(alloc, document),
         Command::Mask => mask_at_paths(alloc, document, paths),
         Command::Select | Command::Check => unreachable!(),
     }
+}
+
+// Puts null at what the path selects below the root. The locations are not dropped, which would take time: the program
+// ends soon.
+fn delete_at_path(
+    alloc: Global,
+    path: &PathParser<'_>,
+    document: &mut Value,
+) -> Result<(), JsonPathError>
+    ensures ok { OnOk result (IsDeleted path.now (view document.old) (view document.new)) }
+    ensures refused { IfErr result (λ error. error ≡ JsonPathError.OutOfMemory) }
+{
+    let spots = select_path_in_any_order(alloc, document, path)?;
+    let locations = compute_paths(alloc, spots.as_slice())?;
+    drop(spots);
+    delete_at(document, locations.as_slice());
+    forget(locations);
+    Ok(())
 }
 
 // The document that the input is the text of. The input is dropped here, so that it takes no memory beside the answer.

@@ -12,7 +12,7 @@ pub enum ReadFault {
 }
 
 // How many bytes are read at a time, at most.
-const CHUNK: usize = 65536;
+const CHUNK: usize = 4096;
 
 // All bytes that the reader has left, up to its end.
 pub(crate) fn read_to_end<R: Input>(alloc: Global, reader: &mut R) -> Result<Vec<u8>, ReadFault>

@@ -2,7 +2,7 @@
 ghost use Rattle.std.specs.Prelude.{map, IfSome, IfNone, IsTrue, ◌↔◌};
 ghost use Rattle.jsonpath_run.specs.Words.{IsCall, IsUsage, IsCount};
 
-/// The commands of the program: what it writes for its paths and its input.
+/// A command of the program `jsonpath_run`, its first word.
 ///
 /// ```text
 /// let call = parse_call(&["check", "$.a"]);
@@ -22,7 +22,7 @@ pub enum Command {
     Mask,
 }
 
-/// A command and the texts of its paths.
+/// The parsed words of a call of the program: the command and the texts of its paths.
 ///
 /// ```text
 /// let words = ["mask", "$.a", "$.b"];
@@ -40,7 +40,8 @@ pub struct Call<'w, 'a> {
     pub paths: &'w [&'a str],
 }
 
-/// Parses the words, without the program's name, to a command and its paths. `None` if they are no call.
+/// Parses the words of a call of the program, without the program's name. `None` if the command is unknown or the
+/// number of paths is wrong for it.
 ///
 /// ```text
 /// assert!(rt; parse_call(&["select", "$.a"]).is_some());

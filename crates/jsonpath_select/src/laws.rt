@@ -47,9 +47,10 @@ pub fn swapped_sides_select_alike()
 {}
 
 /// Lemma: for two condition texts `a` and `b`, the paths `$[?((a) && (b))]` and `$[?((b) && (a))]` select the same
-/// list, and so do those of `||`. Both are in the grammar, and so are `$[?(a)]` and `$[?(b)]`, which excludes an `a`
-/// like `@.x) || (@.y`. The parentheses are needed: both connectives have the same precedence and group to the
-/// right, so if `a` is `@.x || @.y`, `a && b` means `@.x || (@.y && b)`.
+/// list, and so do those with `||`. It is assumed that both are in the grammar, and `$[?(a)]` and `$[?(b)]` too; so
+/// `a` can't be a text like `@.x) || (@.y`, whose parentheses close and open again. The inner parentheses are needed,
+/// since here `&&` and `||` have the same precedence and group to the right: without them, if `a` is `@.x && @.y`, `a
+/// || b` means `@.x && (@.y || b)`.
 ///
 /// ```text
 /// laws::swapped_condition_texts_select_alike();
@@ -76,8 +77,8 @@ pub fn location_text_selects_itself()
 }
 
 /// Lemma: a path of names after dots, as `$.store.book`, selects only the location to which they lead from the root
-/// in each document where that exists, and nothing in the others. Each name is an ASCII word without a dollar sign
-/// in front.
+/// in each document where that exists, and nothing in the others. Each name is a word of ASCII characters, which need
+/// no quotes in a path, and doesn't begin with a dollar sign.
 ///
 /// ```text
 /// laws::dotted_names_select_one_location();
@@ -100,7 +101,7 @@ pub fn one_location_answers_one_value()
     one_tree_per_text();
 }
 
-/// Lemma: a path text has one syntax tree, so what it selects can be computed by any tree of the text.
+/// Lemma: what a path text selects can be computed from any syntax tree of that text, since a text has only one.
 ///
 /// ```text
 /// laws::selects_by_any_tree();

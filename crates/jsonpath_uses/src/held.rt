@@ -6,16 +6,17 @@ ghost use Rattle.jsonpath_select.specs.selectors.HeldChanges.{RemovesHeld};
 ghost use Rattle.jsonpath_select.specs.selectors.Held.{document};
 ghost use Rattle.jsonpath_select.specs.Meaning.{Selects};
 
-use jsonpath_lib::{
-    JsonPathError, JsonSelector, JsonSelectorMut, PathParser, Selector, SelectorMut,
-};
+use jsonpath_lib::{HeldPair, JsonPathError, JsonSelectorMut, PathParser, Selector, SelectorMut};
+use jsonpath_select::{HeldValue, OfNode};
 use serde_json::Value;
 use std::alloc::Global;
+use std::rc::Rc;
 
-/// Puts a compiled path into a `JsonSelector` by `set_parser`. After an error it has the path that it had.
-pub fn set_parser_in_json_selector<'a>(
+/// Puts a compiled path into a `JsonSelector` or a `JsonSelectorMut` by `set_parser`. After an error it has the path
+/// that it had.
+pub fn set_parser_in_pair<'a, V: HeldValue>(
     alloc: Global,
-    held: &mut JsonSelector<'a>,
+    held: &mut HeldPair<Rc<PathParser<'a>>, V>,
     path: PathParser<'a>,
 ) -> Result<(), JsonPathError>
     ensures ok { OnOk result (held.new ≡ record held.old { path = Some path.entry }) }
@@ -25,36 +26,10 @@ pub fn set_parser_in_json_selector<'a>(
     Ok(())
 }
 
-/// Compiles a path text into a `Selector` by `set_path`. After an error it has the path that it had.
-pub fn set_path_in_selector(
+/// Compiles a path text into a `Selector` or a `SelectorMut` by `set_path`. After an error it has the path that it had.
+pub fn set_path_in_pair<P: OfNode + Drop, V: HeldValue>(
     alloc: Global,
-    held: &mut Selector<'_, '_>,
-    path: &str,
-) -> Result<(), JsonPathError>
-    ensures ok { OnOk result (held.new ≡ record held.old { path = Some path.now }) }
-    ensures kept { OnErr result (held.new ≡ held.old) }
-{
-    held.set_path(alloc, path)?;
-    Ok(())
-}
-
-/// Puts a compiled path into a `JsonSelectorMut` by `set_parser`. After an error it has the path that it had.
-pub fn set_parser_in_json_selector_mut<'a>(
-    alloc: Global,
-    held: &mut JsonSelectorMut<'a>,
-    path: PathParser<'a>,
-) -> Result<(), JsonPathError>
-    ensures ok { OnOk result (held.new ≡ record held.old { path = Some path.entry }) }
-    ensures kept { OnErr result (held.new ≡ held.old) }
-{
-    held.set_parser(alloc, path)?;
-    Ok(())
-}
-
-/// Compiles a path text into a `SelectorMut` by `set_path`. After an error it has the path that it had.
-pub fn set_path_in_selector_mut(
-    alloc: Global,
-    held: &mut SelectorMut,
+    held: &mut HeldPair<P, V>,
     path: &str,
 ) -> Result<(), JsonPathError>
     ensures ok { OnOk result (held.new ≡ record held.old { path = Some path.now }) }

@@ -1,5 +1,5 @@
 //! The verbs of `AnyPath` at a `PathParser`, with clauses that name the path itself, while those of the trait name
-//! its syntax tree.
+//! its `spelling`; and that the spelling of every other compiled path is its own text, so that the same holds of it.
 ghost use Rattle.std.specs.Prelude.{◌≡◌, Ok, map, option_map, string_bytes, vec_len, IfOk, IfErr, OnOk, OnErr};
 ghost use Rattle.serde_json.specs.View.{view};
 ghost use Rattle.jsonpath_select.specs.answer.Counted.{IsCountOf, IsFirstOf, TellsIfAny};
@@ -8,104 +8,105 @@ ghost use Rattle.jsonpath_select.specs.Meaning.{Selects, SelectsAt, SelectsSpots
 ghost use Rattle.jsonpath_select.specs.Targets.{IsDeleted, IsRemoved, IsSet, IsReplaced};
 ghost use Rattle.jsonpath_select.specs.Tried.{IsTried, IsEnded};
 
-use jsonpath_lib::{AnyPath, JsonPathError, Location, PathParser, Spot, TryFault};
+use jsonpath_lib::{AnyPath, JsonPathError, KeptPath, Location, Node, PathParser, Spot, TryFault};
 use serde::DeserializeOwned;
 use serde_json::Value;
 use std::alloc::Global;
+use std::rc::Rc;
 
 /// The values that the path selects.
 pub fn select<'v>(
-    path: &PathParser<'_>,
     alloc: Global,
-    value: &'v Value,
+    json: &'v Value,
+    path: &PathParser<'_>,
 ) -> Result<Vec<&'v Value>, JsonPathError>
-    ensures ok { IfOk result (λ found. Selects path.now (view value.now) (map (λ v. view v.now) found.items)) }
+    ensures ok { IfOk result (λ found. Selects path.now (view json.now) (map (λ v. view v.now) found.items)) }
     ensures refused { IfErr result (λ e. e ≡ JsonPathError.OutOfMemory) }
 {
-    path.select(alloc, value)
+    path.select(alloc, json)
 }
 
 /// The nodes that the path selects.
 pub fn select_spots<'v>(
-    path: &PathParser<'_>,
     alloc: Global,
-    value: &'v Value,
+    json: &'v Value,
+    path: &PathParser<'_>,
 ) -> Result<Vec<Spot<'v>>, JsonPathError>
-    ensures ok { IfOk result (λ found. SelectsSpots path.now (view value.now) found.items) }
+    ensures ok { IfOk result (λ found. SelectsSpots path.now (view json.now) found.items) }
     ensures refused { IfErr result (λ e. e ≡ JsonPathError.OutOfMemory) }
 {
-    path.select_spots(alloc, value)
+    path.select_spots(alloc, json)
 }
 
 /// The locations that the path selects.
 pub fn select_locations(
-    path: &PathParser<'_>,
     alloc: Global,
-    value: &Value,
+    json: &Value,
+    path: &PathParser<'_>,
 ) -> Result<Vec<Location>, JsonPathError>
-    ensures ok { IfOk result (λ found. SelectsAt path.now (view value.now) found.items) }
+    ensures ok { IfOk result (λ found. SelectsAt path.now (view json.now) found.items) }
     ensures refused { IfErr result (λ e. e ≡ JsonPathError.OutOfMemory) }
 {
-    path.select_locations(alloc, value)
+    path.select_locations(alloc, json)
 }
 
 /// The text of the values that the path selects.
 pub fn select_as_str(
-    path: &PathParser<'_>,
     alloc: Global,
-    value: &Value,
+    json: &Value,
+    path: &PathParser<'_>,
 ) -> Result<String, JsonPathError>
-    ensures ok { IfOk result (λ text. IsTextOfAnswer (Selects path.now (view value.now)) (string_bytes text)) }
-    ensures refused { IfErr result (IsTextRefusedOf (Selects path.now (view value.now))) }
+    ensures ok { IfOk result (λ text. IsTextOfAnswer (Selects path.now (view json.now)) (string_bytes text)) }
+    ensures refused { IfErr result (IsTextRefusedOf (Selects path.now (view json.now))) }
 {
-    path.select_as_str(alloc, value)
+    path.select_as_str(alloc, json)
 }
 
 /// The values that the path selects, each as a `T`.
 pub fn select_as<T: DeserializeOwned>(
-    path: &PathParser<'_>,
     alloc: Global,
-    value: &Value,
+    json: &Value,
+    path: &PathParser<'_>,
 ) -> Result<Vec<T>, JsonPathError>
-    ensures ok { IfOk result (λ found. IsTypedCountOf (Selects path.now (view value.now)) (vec_len found)) }
-    ensures refused { IfErr result (IsTypedRefusedOf (Selects path.now (view value.now))) }
+    ensures ok { IfOk result (λ found. IsTypedCountOf (Selects path.now (view json.now)) (vec_len found)) }
+    ensures refused { IfErr result (IsTypedRefusedOf (Selects path.now (view json.now))) }
 {
-    path.select_as(alloc, value)
+    path.select_as(alloc, json)
 }
 
 /// How many values the path selects.
-pub fn count(path: &PathParser<'_>, alloc: Global, value: &Value) -> Result<usize, JsonPathError>
-    ensures ok { IfOk result (IsCountOf (Selects path.now (view value.now))) }
+pub fn count(alloc: Global, json: &Value, path: &PathParser<'_>) -> Result<usize, JsonPathError>
+    ensures ok { IfOk result (IsCountOf (Selects path.now (view json.now))) }
     ensures refused { IfErr result (λ e. e ≡ JsonPathError.OutOfMemory) }
 {
-    path.count(alloc, value)
+    path.count(alloc, json)
 }
 
 /// The first value that the path selects.
 pub fn first<'v>(
-    path: &PathParser<'_>,
     alloc: Global,
-    value: &'v Value,
+    json: &'v Value,
+    path: &PathParser<'_>,
 ) -> Result<Option<&'v Value>, JsonPathError>
-    ensures ok { IfOk result (λ first. IsFirstOf (Selects path.now (view value.now)) (option_map (λ v. view v.now) first)) }
+    ensures ok { IfOk result (λ first. IsFirstOf (Selects path.now (view json.now)) (option_map (λ v. view v.now) first)) }
     ensures refused { IfErr result (λ e. e ≡ JsonPathError.OutOfMemory) }
 {
-    path.first(alloc, value)
+    path.first(alloc, json)
 }
 
 /// Whether the path selects any value.
-pub fn exists(path: &PathParser<'_>, alloc: Global, value: &Value) -> Result<bool, JsonPathError>
-    ensures ok { IfOk result (TellsIfAny (Selects path.now (view value.now))) }
+pub fn exists(alloc: Global, json: &Value, path: &PathParser<'_>) -> Result<bool, JsonPathError>
+    ensures ok { IfOk result (TellsIfAny (Selects path.now (view json.now))) }
     ensures refused { IfErr result (λ e. e ≡ JsonPathError.OutOfMemory) }
 {
-    path.exists(alloc, value)
+    path.exists(alloc, json)
 }
 
 /// Puts null at what the path selects.
 pub fn delete_in(
-    path: &PathParser<'_>,
     alloc: Global,
     value: &mut Value,
+    path: &PathParser<'_>,
 ) -> Result<(), JsonPathError>
     ensures ok { OnOk result (IsDeleted path.now (view value.old) (view value.new)) }
     ensures refused { IfErr result (λ e. e ≡ JsonPathError.OutOfMemory) }
@@ -116,9 +117,9 @@ pub fn delete_in(
 
 /// Removes what the path selects.
 pub fn remove_in(
-    path: &PathParser<'_>,
     alloc: Global,
     value: &mut Value,
+    path: &PathParser<'_>,
 ) -> Result<(), JsonPathError>
     ensures ok { OnOk result (IsRemoved path.now (view value.old) (view value.new)) }
     ensures refused { IfErr result (λ e. e ≡ JsonPathError.OutOfMemory) }
@@ -129,9 +130,9 @@ pub fn remove_in(
 
 /// Puts a value at what the path selects.
 pub fn set_in(
-    path: &PathParser<'_>,
     alloc: Global,
     value: &mut Value,
+    path: &PathParser<'_>,
     new: &Value,
 ) -> Result<(), JsonPathError>
     ensures ok { OnOk result (IsSet path.now (view new.now) (view value.old) (view value.new)) }
@@ -143,9 +144,9 @@ pub fn set_in(
 
 /// Replaces what the path selects by the closure's results.
 pub fn replace_in<F: FnMut(Value) -> Option<Value>>(
-    path: &PathParser<'_>,
     alloc: Global,
     value: &mut Value,
+    path: &PathParser<'_>,
     fun: &mut F,
 ) -> Result<(), JsonPathError>
     requires { F.IsAlwaysCallable fun.old }
@@ -161,9 +162,9 @@ pub fn replace_in<F: FnMut(Value) -> Option<Value>>(
 /// Replaces what the path selects by the results of a closure. Its first error ends the updates; those before it
 /// remain.
 pub fn try_replace_in<E, F: FnMut(&Value) -> Result<Option<Value>, E>>(
-    path: &PathParser<'_>,
     alloc: Global,
     value: &mut Value,
+    path: &PathParser<'_>,
     fun: &mut F,
 ) -> Result<(), TryFault<E>>
     requires { F.IsAlwaysCallable fun.old }
@@ -172,4 +173,32 @@ pub fn try_replace_in<E, F: FnMut(&Value) -> Result<Option<Value>, E>>(
     ensures callable { F.IsAlwaysCallable fun.new }
 {
     path.try_replace_in(alloc, value, fun)
+}
+
+/// The spelling of a compiled path, which the clauses of its verbs name: its text.
+pub fn spelling_of<P: AnyPath>(path: &P) -> &str
+    ensures { result.now ≡ P.spelling path.now }
+{
+    path.parts().text
+}
+
+/// The spelling of a path that owns its text is that text.
+pub fn spelling_of_node(path: &Node) -> &str
+    ensures { result.now ≡ path.now }
+{
+    spelling_of(path)
+}
+
+/// The spelling of a shared path is that of the path.
+pub fn spelling_of_shared<P: AnyPath>(path: &Rc<P>) -> &str
+    ensures { result.now ≡ P.spelling path.now.value }
+{
+    spelling_of(path)
+}
+
+/// The spelling of a kept path, as `Compiled` and `PathCompiled`, is the text that it was compiled from.
+pub fn spelling_of_kept<P: AnyPath>(path: &KeptPath<P>) -> &str
+    ensures { result.now ≡ path.now }
+{
+    spelling_of(path)
 }

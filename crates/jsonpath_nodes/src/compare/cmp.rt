@@ -33,8 +33,8 @@ pub trait Cmp {
     fn cmp_string(&self, left: &str, right: &str) -> bool
         ensures { result ≡ pair comparison (text left.now) (text right.now) };
 
-    /// Whether the comparison holds between two values of different kinds: true for `!=` alone. The name is the Rust
-    /// crate's.
+    /// Whether the comparison holds between two values of different kinds: true for `!=` alone. The name is that of
+    /// the Rust crate.
     fn default(&self) -> bool
         ensures { result ≡ is_not_equal comparison };
 }

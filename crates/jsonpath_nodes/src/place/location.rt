@@ -27,9 +27,9 @@ pub enum LocStep {
     Index(usize),
 }
 
-/// The location of a value in a document: the steps from the root down, as in a normalized path. Locations compare in
-/// document order: a location comes before those below it; else the first steps that differ decide, names by their
-/// bytes, indexes by number, and a name before an index.
+/// The location of a value in a document: the steps from the root down, as in a normalized path. Locations have an
+/// order, called document order: a location comes before those below it; else the first steps that differ decide,
+/// names by their bytes, indexes by number, and a name before an index.
 ///
 /// ```text
 /// let root = Location::from_steps(Vec::new(alloc));

@@ -43,9 +43,9 @@ pub trait Descends<'a>: Mark<'a> {
     fn add_flattened(&self, alloc: Global, out: &mut Vec<Self>) -> Result<(), NoMemory>
         ensures { OnOk result (MarksGain Self.located Self.stand Self.content flat (Self.stand self.now) (Self.content self.now) out.old.items out.new.items) };
 
-    /// Adds the candidates of a filter after `..` that uses a relative query with at least one segment: the
-    /// non-array values left after flattening nested arrays among the descendants, each once. Its clauses also say
-    /// that the names ascend in each object there.
+    /// Adds the candidates of a filter after `..` that uses a relative query with at least one segment: the non-array
+    /// values left after flattening nested arrays among the descendants, each once. Its contract also says that the
+    /// names ascend in each object there, which is so for every value.
     fn add_candidates_below(&self, alloc: Global, out: &mut Vec<Self>) -> Result<(), NoMemory>
         ensures gains { OnOk result (MarksGain Self.located Self.stand Self.content candidates_below (Self.stand self.now) (Self.content self.now) out.old.items out.new.items) }
         ensures document { OnOk result (IsDocument (Self.content self.now)) };

@@ -64,7 +64,7 @@ impl ValueWalker {
     }
 
     /// A list of names: from each object its members of these names, in the list's order. It selects children alone.
-    /// The name is the Rust crate's.
+    /// Named as in the Rust crate `jsonpath_lib`.
     ///
     /// ```text
     /// let found = ValueWalker::all_with_strs(alloc, items.as_slice(), &["b", "a"])?;
@@ -193,9 +193,9 @@ impl ValueWalker {
         Ok(found)
     }
 
-    /// The candidates of a filter that uses a relative query with at least one segment: each node that is no array,
-    /// and for an array the non-array values left after flattening nested arrays. Each location is returned once,
-    /// where it comes first. The name is the Rust crate's.
+    /// The candidates of a filter that uses a relative query with at least one segment: each of the given nodes that
+    /// is no array, and of each given array the non-array values left after flattening nested arrays. Each location
+    /// is returned once, where it comes first. Named as in the Rust crate `jsonpath_lib`.
     ///
     /// ```text
     /// let candidates = ValueWalker::walk_dedup_all(alloc, &root)?;

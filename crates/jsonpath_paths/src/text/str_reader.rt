@@ -54,7 +54,7 @@ pub struct StrRange {
 }
 
 impl StrRange {
-    /// The span that begins at byte `pos` and has `offset` bytes. The names are the Rust crate's.
+    /// The span that begins at byte `pos` and has `offset` bytes. Named as in the Rust crate `jsonpath_lib`.
     ///
     /// ```text
     /// let word = StrRange::new(2, 3);
@@ -229,8 +229,8 @@ impl<'a> StrReader<'a> {
         self.text
     }
 
-    /// The part of the whole text at the span, which lies in it and cuts no character. The reader stays
-    /// where it is. The name is the Rust crate's.
+    /// The part of the whole text at the span, which lies in it and cuts no character. The reader stays where it is.
+    /// Named as in the Rust crate `jsonpath_lib`.
     ///
     /// ```text
     /// let mut reader = StrReader::new("ab.c");

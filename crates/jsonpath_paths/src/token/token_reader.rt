@@ -15,7 +15,7 @@ use crate::token::tokens::{Token, TokenError};
 use std::alloc::AllocError;
 use std::marker::Model;
 
-/// Reads a path text token by token, and remembers how far it looked.
+/// Reads a path text token by token, and keeps the position up to which the text was read or looked at.
 ///
 /// ```text
 /// let mut reader = TokenReader::new("[0]");

@@ -262,8 +262,8 @@ impl Token {
         self.kind() == other.kind()
     }
 
-    /// The token of this kind at another span. The token itself stays as it is. The name is the Rust
-    /// crate's.
+    /// A token of the same kind at another span. The token itself stays as it is, whatever the name says, which is
+    /// that of the Rust crate `jsonpath_lib`.
     ///
     /// ```text
     /// let mut dot = Token::Dot(StrRange::new(1, 1));

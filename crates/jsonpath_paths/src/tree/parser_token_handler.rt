@@ -5,8 +5,8 @@ ghost use Rattle.std.specs.Prelude.{◌≡◌, ◌++◌, ◌∷◌, [], List, Bo
 use crate::text::str_reader::StrRange;
 use crate::token::tokens::ParseToken;
 
-/// Receives the token list of a syntax tree, one `ParseToken` at a time. `V` is what its reader makes of a span of the
-/// path text, as `&str`.
+/// Receives the token list of a syntax tree, one `ParseToken` at a time. `V` is what its reader makes of a span of
+/// the path text, for example a `&str`.
 ///
 /// ```text
 /// impl<V> ParserTokenHandler<V> for Collector {
@@ -45,8 +45,8 @@ pub trait ParserTokenHandler<V> {
     /// What it accepts as the reading of a span, as the part of the text there. By default anything.
     ghost takes: { Self → StrRange → V → Type 0 } = { λ _ _ _. Unit {0} };
 
-    /// Receives the next token, or fails, as when memory runs out. It may call `reader` on the spans of the token; the
-    /// result has to be what this receiver `takes` there.
+    /// Receives the next token, or fails, as when memory runs out. It may call `reader` on the spans of the token;
+    /// what the reader returns for a span has to satisfy this receiver's `takes` for that span.
     fn handle<R: Fn(&StrRange) -> V>(&mut self, token: &ParseToken, reader: &R)
         requires may { MayRead (R.pre reader.now) token.now }
         requires reads { (s : Bor StrRange) (v : V) → R.post reader.now s v → takes self.old s.now v }

@@ -42,11 +42,12 @@ pub fn select_path<'a>(
     spots_by_parts(alloc, json, path.parts())
 }
 
-/// The nodes that the path with this token list selects in the value, in the path's order, with duplicates. They borrow
-/// only the value. The only error is `OutOfMemory`.
+/// The nodes that the path with this token list selects in the value, in the path's order, with duplicates. They
+/// borrow only the value. The only error is `OutOfMemory`.
 ///
-/// A caller has to prove, by `tokens_fit`, say, that the tokens are the token list of some path, nested to any depth,
-/// and that the text has a word or a quoted name at each span in them. The text itself need not be a path.
+/// The contract requires that the tokens are the token list of some path, however deeply nested, and that the text
+/// has an unquoted or a quoted name at the span of each name in them; if `tokens_fit` returned true, that is proved.
+/// The text itself need not be a path.
 ///
 /// ```text
 /// let document = read_document(alloc, br#"{"a": 1}"#)?;

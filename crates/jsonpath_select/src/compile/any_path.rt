@@ -42,8 +42,9 @@ pub struct PathParts<'p> {
     pub tokens: &'p [ParseToken],
 }
 
-/// A compiled path: one that borrows its text, one that owns it, or a shared one. Its calls with a `&Value` select in
-/// that, those with a `&mut Value` change it where the path selects.
+/// Any compiled path: a `PathParser`, which borrows its text, a `Node`, which owns it, one of these behind an `Rc`,
+/// or a `Compiled` or `PathCompiled` of `jsonpath_lib`. Methods with a `&Value` select in that document; those with a
+/// `&mut Value` change the document at the selected values.
 ///
 /// ```text
 /// let mut document = read_document(alloc, b"[1, 2, 3]")?;

@@ -8,8 +8,8 @@ use jsonpath_paths::{ParseToken, ParserNode};
 use std::alloc::{AllocError, Global};
 use std::marker::Model;
 
-/// A compiled path that owns its text, syntax tree and token list. The name is the Rust crate's; it is no node of a
-/// document.
+/// A compiled path that owns its text, syntax tree and token list. Named as in the Rust crate `jsonpath_lib`; it is
+/// no node of a document.
 ///
 /// ```text
 /// let node = Parser::compile(alloc, "$[0]")?;

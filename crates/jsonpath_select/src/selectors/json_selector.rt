@@ -55,8 +55,8 @@ impl<'p, V: HeldValue> HeldPair<Rc<PathParser<'p>>, V> {
         })
     }
 
-    /// A selector or update type with this shared path and no value. It takes no memory. The name is the Rust
-    /// crate's.
+    /// A selector or update type with this shared path and no value. It takes no memory. Named as in the Rust crate
+    /// `jsonpath_lib`.
     ///
     /// ```text
     /// let document = read_document(alloc, b"[1, 2, 3]")?;
@@ -74,7 +74,7 @@ impl<'p, V: HeldValue> HeldPair<Rc<PathParser<'p>>, V> {
     }
 
     /// Replaces the path; the value stays. The only error is `OutOfMemory`; nothing has changed then, and the parser
-    /// is dropped. The name is the Rust crate's.
+    /// is dropped. Named as in the Rust crate `jsonpath_lib`.
     ///
     /// ```text
     /// let document = read_document(alloc, b"[1, 2, 3]")?;
@@ -117,7 +117,8 @@ impl<'p, V: HeldValue> HeldPair<Rc<PathParser<'p>>, V> {
         Ok(())
     }
 
-    /// Replaces the path by this shared one; the value stays. It takes no memory. The name is the Rust crate's.
+    /// Replaces the path by this shared one; the value stays. It takes no memory. Named as in the Rust crate
+    /// `jsonpath_lib`.
     ///
     /// ```text
     /// let document = read_document(alloc, b"[1, 2, 3]")?;

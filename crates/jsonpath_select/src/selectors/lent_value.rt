@@ -12,7 +12,8 @@ use serde_json::Value;
 use std::alloc::Global;
 
 impl<'a, P: AnyPath> HeldPair<P, &'a Value> {
-    /// Sets the value to search, in place of the one before. It takes no memory. The name is the Rust crate's.
+    /// Sets the value to search, in place of the one before. It takes no memory. Named as in the Rust crate
+    /// `jsonpath_lib`.
     ///
     /// ```text
     /// let document = read_document(alloc, b"[1, 2, 3]")?;

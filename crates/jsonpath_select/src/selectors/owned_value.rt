@@ -12,7 +12,7 @@ use serde_json::Value;
 use std::alloc::Global;
 
 impl<P: AnyPath> HeldPair<P, Value> {
-    /// Replaces the document; the old one is dropped. It takes no memory. The name is the Rust crate's.
+    /// Replaces the document; the old one is dropped. It takes no memory. Named as in the Rust crate `jsonpath_lib`.
     ///
     /// ```text
     /// let mut held = SelectorMut::new();

@@ -41,7 +41,7 @@ pub type SelectorMut = HeldPair<Node, Value>;
 
 impl<P: OfNode + Drop, V: HeldValue> HeldPair<P, V> {
     /// Compiles the text and replaces the path. Errors: `Path`, with the message of `Parser`, exactly if the text is
-    /// outside the grammar, or `OutOfMemory`; nothing has changed then. The name is the Rust crate's.
+    /// outside the grammar, or `OutOfMemory`; nothing has changed then. Named as in the Rust crate `jsonpath_lib`.
     ///
     /// ```text
     /// let document = read_document(alloc, b"[1, 2, 3]")?;
@@ -102,7 +102,7 @@ impl<'a, 'b> Selector<'a, 'b> {
         }
     }
 
-    /// The path, a `Node`, or `None`. It takes no memory. The name is the Rust crate's.
+    /// The path, a `Node`, or `None`. It takes no memory. Named as in the Rust crate `jsonpath_lib`.
     ///
     /// ```text
     /// let mut held = Selector::new();
@@ -119,7 +119,8 @@ impl<'a, 'b> Selector<'a, 'b> {
         }
     }
 
-    /// Replaces the path by this compiled one, borrowed. It takes no memory. The name is the Rust crate's.
+    /// Replaces the path by this compiled one, borrowed. It takes no memory. Named as in the Rust crate
+    /// `jsonpath_lib`.
     ///
     /// ```text
     /// let document = read_document(alloc, b"[1, 2, 3]")?;
@@ -153,7 +154,7 @@ impl SelectorMut {
         }
     }
 
-    /// Replaces the path by this compiled one. It takes no memory. The name is the Rust crate's.
+    /// Replaces the path by this compiled one. It takes no memory. Named as in the Rust crate `jsonpath_lib`.
     ///
     /// ```text
     /// let mut held = SelectorMut::new();
