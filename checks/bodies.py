@@ -1,4 +1,4 @@
-"""Tries the wrong bodies that stand in crates/NAME/must-fail/*.md, and prints 'N passed, M failed' last.
+"""Tries the wrong bodies of crates/NAME/must-fail/*.md that name no function, and prints 'N passed, M failed' last.
 
 Each names a public call, the file with its contract, and the goal at which the prover has to refuse the body. The call's
 head and clauses are taken from that file as they stand there, and the body is put under them in a crate above the
@@ -13,7 +13,6 @@ Where GATE_LOG names the log of an `rt ci` that goes on, a crate's bodies are tr
 What is read off a run is first tried on runs that are made up here.
 """
 import concurrent.futures
-import glob
 import os
 import re
 import sys
@@ -294,7 +293,7 @@ def readable(files):
 
 def main():
     uses = listed()
-    files = [it for it in sorted(glob.glob("crates/*/must-fail/*.md")) if all(word in it for word in sys.argv[1:])]
+    files = above.mutants(sys.argv[1:], of_one_function=False)
     bodies, unread = readable(files)
     crates = [it for it in uses if any(it == body.crate for body in bodies)]
     passed, failed = tries()

@@ -1,5 +1,5 @@
 #!/usr/bin/env bash
-# Each wrong body of crates/NAME/must-fail/*.edit is refused at the goal that its file names in a line 'goal: FILE GOAL':
+# Each wrong body of crates/NAME/must-fail/*.edit, which `rt ci` tries, is refused at the goal that its file names in a line 'goal: FILE GOAL':
 # the file where the prover stops and the goal that it leaves open. Reads the log of `rt ci` that GATE_LOG names, as `./test` gives it. Without one it tries
 # the edits itself, which takes as long as in the gate. The comparison is first tried on a log made up here.
 # Each mutant has its row in docs/MUTANTS.md, and each row its mutant: `mutant_rows.py` compares them.

@@ -150,6 +150,7 @@ wants("jpath '$[4].n'", 0, "1e999\n", "", many)
 wants("jpath '$[?(1 < 1.5)][0].n'", 0, "0.1\n", "", many)
 wants("jpath '$[?(@.n == -2500)].n'", 0, "-2.5e3\n", "", many)
 wants("jpath '$[?(@.n > 1)].n'", 3, "", "jpath: -:1:1: *exponent*\n", b'[{"n":1e9999999999999999999999999999999999999999}]')
+wants("jpath '$[?(@.n > 1)].n'", 3, "", "jpath: -:2:8: *exponent*\n", b'1\n [2]\t  [{"n":1e9999999999999999999999999999999999999999}]')
 
 # numbers in their order, equal ones side by side: each as a side of a comparison with all
 rising = [["-1e400"], ["-12345678901234567890124"], ["-12345678901234567890123", "-1.2345678901234567890123e22"], ["-10", "-1e1", "-1.0e1", "-100e-1"],

@@ -10,7 +10,7 @@ passed=0
 failed=0
 room=$(mktemp -d) || exit 1
 trap 'rm -rf "$room"' EXIT
-libraries='jsonpath_streams jsonpath_paths jsonpath_nodes jsonpath_select jsonpath_lib'
+libraries='jsonpath_streams json_recognizer jsonpath_paths jsonpath_nodes jsonpath_select jsonpath_lib'
 kept=$room/crates/kept/src/main.rt
 lent=$room/crates/lent/src/main.rt
 

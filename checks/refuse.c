@@ -1,8 +1,9 @@
-/* Linked with the tests of a crate, of which each runs in a process of its own. Memory is a room of so many bytes. A test
-   whose name has the word `growths_` runs once for each growth of memory that it asks for, with that one refused, and then
-   once with none refused. The first run that fails is shown, and the test fails. */
+/* Linked with the tests of a crate, of which each runs in a process of its own. For a test whose name has the word `growths_`
+   or `starved_`, memory is a room of so many bytes. The first kind runs once for each growth of memory that it asks for, with
+   that one refused, and then once with none refused. The first run that fails is shown, and the test fails. */
 #include <errno.h>
 #include <fcntl.h>
+#include <stdint.h>
 #include <stdio.h>
 #include <stdlib.h>
 #include <string.h>
@@ -18,7 +19,7 @@ void ___interceptor_free(void *block);
 size_t __sanitizer_get_allocated_size(const void *block);
 int __sanitizer_get_ownership(const void *block);
 
-static const size_t ROOM = 8 << 20;
+static size_t room = SIZE_MAX;
 static size_t held = 0;
 static long refused_one = 0;
 static long *asked = NULL;
@@ -30,18 +31,20 @@ static size_t size_of(const void *block) {
 /* Counts a growth by at most so many bytes, and answers whether it is refused. */
 static int is_refused(size_t bytes) {
     if (asked) *asked += 1;
-    if (bytes <= ROOM - held && !(asked && *asked == refused_one)) return 0;
+    if (bytes <= room - held && !(asked && *asked == refused_one)) return 0;
     errno = ENOMEM;
     return 1;
 }
 
 void *__interceptor_malloc(size_t size) {
+    if (room == SIZE_MAX) return ___interceptor_malloc(size);
     void *block = is_refused(size) ? NULL : ___interceptor_malloc(size);
     held += size_of(block);
     return block;
 }
 
 void *__interceptor_realloc(void *block, size_t size) {
+    if (room == SIZE_MAX) return ___interceptor_realloc(block, size);
     size_t before = size_of(block);
     void *moved = is_refused(size > before ? size - before : 0) ? NULL : ___interceptor_realloc(block, size);
     if (moved) held += size_of(moved) - before;
@@ -49,7 +52,7 @@ void *__interceptor_realloc(void *block, size_t size) {
 }
 
 void __interceptor_free(void *block) {
-    held -= size_of(block);
+    if (room != SIZE_MAX) held -= size_of(block);
     ___interceptor_free(block);
 }
 
@@ -74,7 +77,10 @@ static int run(long number, long *shared, int is_shown) {
 __attribute__((constructor)) static void sweep(int argc, char **argv) {
     long *shared, number = 0;
     int at, status, is_swept = 0;
-    for (at = 1; at < argc; at++) is_swept = is_swept || strstr(argv[at], "growths_");
+    for (at = 1; at < argc; at++) {
+        is_swept = is_swept || strstr(argv[at], "growths_");
+        if (is_swept || strstr(argv[at], "starved_")) room = 8 << 20;
+    }
     if (!is_swept) return;
     shared = mmap(NULL, sizeof *shared, PROT_READ | PROT_WRITE, MAP_SHARED | MAP_ANONYMOUS, -1, 0);
     if (shared == MAP_FAILED) _exit(99);

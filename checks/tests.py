@@ -1,6 +1,5 @@
 """Puts tests into the crate `jsonpath_tests` of a copy of the repository: the files of its folder tests/ as modules, or those that
-are named, as library::uses; and those that these ask for. Where none is named, those of tests/memory stay out: they
-want memory to be refused, which `checks/growths.sh` does.
+are named, as library::uses; and those that these ask for. Where none is named, all of them.
 
 Called with the folder of the copy, and perhaps with modules.
 """
@@ -42,7 +41,7 @@ def asked_for(wanted, files):
 def main():
     crate = f"{sys.argv[1]}/crates/jsonpath_tests"
     tests = modules_of(f"{crate}/tests", ".rs")
-    kept = asked_for(sys.argv[2:] or [it for it in tests if not it.startswith("memory::")], tests)
+    kept = asked_for(sys.argv[2:] or tests, tests)
     for module, text in kept.items():
         write(f"{crate}/src/{module.replace('::', '/')}.rt", text)
     below = {}

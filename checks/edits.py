@@ -1,0 +1,125 @@
+"""Tries the mutants of crates/NAME/must-fail/*.md that name a function, and prints 'N passed, M failed' last.
+
+Each is an edit of one function that no caller of the crate can call: a line 'function:' with its path in the crate, 'goal:'
+with the file and the goal at which the prover has to refuse it, and once or more 'file:', 'old:' (a text that is once in that
+file) and 'new:'. A copy of the crate with the edit is checked over the libraries as they are built: the function, and what it
+calls. The others of these have to be proved, so that what is refused is the edited one. `rt ci` proves the crate without
+the edit; where GATE_LOG names its log, an edit is tried once that says so.
+
+What is read off a run is first tried on runs that are made up here.
+"""
+import concurrent.futures
+import os
+import re
+import shutil
+import sys
+import tempfile
+
+import above
+from bodies import is_proved, side_by_side
+
+
+class Edit:
+    """An edit as its file says it."""
+
+    def __init__(self, file):
+        self.crate, self.name = file.split("/")[1], os.path.basename(file)[:-3]
+        said = re.findall(r"^(\w+): (.+)$", above.text_of(file), re.MULTILINE)
+        self.function, self.goal = (dict(said).get(it) for it in ("function", "goal"))
+        files, old, new = ([text for key, text in said if key == it] for it in ("file", "old", "new"))
+        self.changes = list(zip(files, old, new))
+        if not (self.function and self.goal and len(files) == len(old) == len(new) > 0):
+            raise ValueError(f"{file} lacks a function, a goal or a change")
+
+    def apply(self, room):
+        for file, old, new in self.changes:
+            text = above.text_of(f"{room}/{file}")
+            if text.count(old) != 1:
+                raise ValueError(f"the old text is not in {file} once: {old}")
+            with open(f"{room}/{file}", "w", encoding="utf-8") as it:
+                it.write(text.replace(old, new))
+
+
+def check(edit, uses):
+    """What the prover says of the edited function, and of what it calls."""
+    libraries = above.below(edit.crate, uses)
+    with tempfile.TemporaryDirectory() as room:
+        for part in ("src", "specs", "proofs"):
+            if os.path.isdir(f"crates/{edit.crate}/{part}"):
+                shutil.copytree(f"crates/{edit.crate}/{part}", f"{room}/{part}")
+        edit.apply(room)
+        own = [it for it in libraries if it in uses]
+        return above.check(room, edit.crate, libraries, own, ["--only", edit.function])
+
+
+def faults(edit, said):
+    """Why a run doesn't say that the edited function alone is refused, at its goal."""
+    function = f"{edit.crate}::{edit.function}"
+    verdicts = dict(re.findall(r"^fn (\S+): (.*)$", said, re.MULTILINE))
+    told = re.findall(r"^(?:note: )?(?:\./)?(\S+?):\d+:\d+: (.*)$", said, re.MULTILINE)
+    goals = [f"{file} {goal}" for file, text in told for goal in re.findall(r"\(`([^`]+)`\)|error: `([^`]+)`", text) for goal in goal if goal]
+    found = []
+    if verdicts.pop(function, "proved") == "proved":
+        found.append("the edited function is proved, or not reached")
+    found += [f"{other} is {verdict}" for other, verdict in verdicts.items() if verdict != "proved"]
+    if edit.goal not in goals:
+        found.append(f"its file names the goal {edit.goal}, and the prover {', '.join(goals) or 'none'}")
+    return found
+
+
+REFUSED, OPEN = "fn a::b::f: not proved\nfn a::g: proved\n", "note: src/b.rt:3:1: it is not proved that it holds (`returns`)"
+# What a run could say of an edit of `b::f` of the crate `a` with the goal `src/b.rt returns`, and whether it passes then.
+MADE_UP = [
+    (REFUSED + OPEN, True),
+    (REFUSED + "./proofs/b/f/Answers.antt:1:2: error: `returns`: as printed\n" + OPEN, True),
+    (REFUSED, False),
+    (REFUSED + "./proofs/b/f/Answers.antt:1:2: error: `returns`: as printed", False),
+    (REFUSED + OPEN.replace("returns", "g-requires"), False),
+    (REFUSED.replace("not proved", "proved") + OPEN, False),
+    (REFUSED.replace("g: proved", "g: not proved") + OPEN, False),
+    ("fn a::g: proved\n" + OPEN, False),
+]
+
+
+def tries():
+    """How many of the runs that are made up are told apart rightly, and how many not."""
+    edit = Edit.__new__(Edit)
+    edit.crate, edit.name, edit.function, edit.goal = "a", "made_up", "b::f", "src/b.rt returns"
+    wrong = [said for said, passes in MADE_UP if (not faults(edit, said)) != passes]
+    for said in wrong:
+        print(f"edits: the made-up run {said!r} is not told apart")
+    return len(MADE_UP) - len(wrong), len(wrong)
+
+
+def tried(edit, uses):
+    """Why an edit is not refused as it must be, and what the run said."""
+    if not is_proved(edit.crate):
+        return ["the crate is not proved"], ""
+    try:
+        said = check(edit, uses)
+    except (OSError, ValueError) as why:
+        return [str(why)], ""
+    return faults(edit, said), said
+
+
+def main():
+    uses = above.listed()
+    files = above.mutants(sys.argv[1:], of_one_function=True)
+    passed, failed = tries()
+    made_up = passed
+    edits = [Edit(it) for it in files]
+    with concurrent.futures.ThreadPoolExecutor(side_by_side()) as pool:
+        for edit, (why, said) in zip(edits, pool.map(lambda it: tried(it, uses), edits)):
+            passed, failed = passed + (not why), failed + bool(why)
+            if why:
+                print(said[-3000:] + "\n" + "\n".join(f"edits: {edit.crate}/{edit.name}: {it}" for it in why))
+    if not files:
+        print("edits: there are no edits of one function")
+        failed += 1
+    print(f"mutants rejected at their goals: {passed - made_up} of {len(files)} in one function")
+    print(f"{passed} passed, {failed} failed")
+    return 0 if failed == 0 else 1
+
+
+if __name__ == "__main__":
+    sys.exit(main())
