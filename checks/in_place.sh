@@ -1,8 +1,9 @@
 #!/usr/bin/env bash
-# Edits files in place by the built jpath: files of others, links, what is no file, locks, full disks, limits, calls of
-# the system that fail, and a kill at each of them. What can't be tried here is named and not counted. Last line:
-# 'N passed, M failed'.
+# Edits files in place by the built jpath: files of others, ACLs, links, what is no file, locks, full disks, limits, calls
+# of the system that fail, a kill at each of them, and other signals. What can't be tried here is named and not counted.
+# Last line: 'N passed, M failed'.
 set -u
+ulimit -c 0
 here=$(cd "$(dirname "${BASH_SOURCE[0]}")/.." && pwd)
 work=$(mktemp -d) || exit 1
 chmod 755 "$work"
@@ -169,12 +170,17 @@ if is_root:
     refuses("a folder that one may not write into", path, "ermission denied", user=(STRANGER, GROUP))
     edits("the same, copied", path, "--copy", user=(STRANGER, GROUP))
 
+    def acl_of(path):
+        return subprocess.run(["getfacl", "-cps", path], capture_output=True).stdout
+
     if shutil.which("setfacl"):
         folder, path = folder_with()
-        if subprocess.run(["setfacl", "-m", f"u:{STRANGER}:rw", path]).returncode == 0:
-            acl = subprocess.run(["getfacl", "-c", path], capture_output=True).stdout
+        if subprocess.run(["setfacl", "-m", f"u:{STRANGER}:rw,g::-", path]).returncode == 0:
+            acl = acl_of(path)
             edits("a file with an ACL, copied", path, "--copy")
-            judge(subprocess.run(["getfacl", "-c", path], capture_output=True).stdout == acl, "--copy keeps an ACL")
+            judge(acl != b"" and acl_of(path) == acl, f"--copy keeps an ACL: {acl}, {acl_of(path)}")
+            # what the page says that an edit without --copy makes of it
+            judge(edit(path) == (0, "", "") and acl_of(path) == b"" and rights(path)[2] == 0o664, f"a lost ACL: {acl_of(path)}, {rights(path)}")
         else:
             not_tried("ACLs", "the file system has none")
     else:
@@ -307,6 +313,20 @@ if shutil.which("strace") and subprocess.run([*traced("none:error=EIO"), "true"]
             if read(path) != NEW or len(os.listdir(folder)) != 1:
                 judge(False, f"the edit after a kill at {call} {time_of}: {os.listdir(folder)}")
     judge(kills > 10, f"only {kills} kills came")
+
+    # another signal while the new file is written: the file is the old one, and the next edit leaves nothing beside; and a
+    # signal that the shell has it ignore, as the page says
+    for name in ("HUP", "INT", "QUIT", "TERM", "XFSZ"):
+        folder, path = folder_with()
+        got = edit(path, before=[*traced(f"fsync:signal={name}:when=1"), "env", f"--default-signal={name}"])
+        judge(got[0] == -getattr(signal, f"SIG{name}") and read(path) == OLD, f"ended by {name}: {got}, {read(path)}")
+        edits(f"the edit after {name}", path)
+        judge(os.listdir(folder) == ["a.json"], f"the edit after {name} leaves {os.listdir(folder)}")
+    ignoring = ["sh", "-c", "trap '' HUP INT QUIT TERM; exec \"$@\"", "sh"]
+    for name in ("HUP", "INT", "QUIT", "TERM"):
+        folder, path = folder_with()
+        edits(f"{name} that is ignored", path, before=[*traced(f"fsync:signal={name}"), *ignoring])
+        judge(os.listdir(folder) == ["a.json"], f"{name} that is ignored leaves {os.listdir(folder)}")
 else:
     not_tried("calls that fail, kills and changes behind one's back", "strace is not there, or may not trace")
 
