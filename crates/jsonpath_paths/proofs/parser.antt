@@ -11,3 +11,12 @@ pub mod SpelledLemmas
 pub mod ParseLemmas
 pub mod ListLemmas
 pub mod WholeTextLemmas
+pub mod WantsLemmas
+pub mod TidyLemmas
+pub mod EndedLemmas
+pub mod RefusedAtLemmas
+pub mod StopLemmas
+pub mod DeeperStopLemmas
+pub mod LiteralStopLemmas
+pub mod FollowLemmas
+pub mod FollowPathLemmas

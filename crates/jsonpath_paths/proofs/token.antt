@@ -4,3 +4,5 @@ pub mod FrontLemmas
 pub mod ReadingLemmas
 pub mod LongestLemmas
 pub mod FoundLemmas
+pub mod KeptLemmas
+pub mod FrontKeptLemmas

@@ -5,3 +5,5 @@ pub mod Parsing
 pub mod ParsedParts
 pub mod PathAnswer
 pub mod Handed
+pub mod Wants
+pub mod RefusedPlace

@@ -49,7 +49,7 @@ module _ (text : List ℕ) (left : ℕ) where
   abbrev Found : Type 0
   Found = (Bool × Bool × Inner) × Lexemes
 
-  falls : (ts : Lexemes) (s : Found) → d.step_at text deeper ts ≡ Some s → length s.1 < length ts
+  pub falls : (ts : Lexemes) (s : Found) → d.step_at text deeper ts ≡ Some s → length s.1 < length ts
   falls ts s h = step_shorter text (sound.sound_step text left deeper (sound.sound_condition text left) ts s h)
 
   abbrev go_on : ℕ → Found → Read PathSteps

@@ -32,7 +32,7 @@ eaten : (ts c : Lexemes) (s : StrRange) → take_token k.Comma ts ≡ Some (s, c
 eaten ts c s e = ap (λ o. o >>= λ x. Some x.1) e
 
 module _ (text : List ℕ) where
-  index_falls : (ts c : Lexemes) (n : ℤ × Lexemes) → eat k.Comma ts ≡ Some c → d.index_at text (skip c) ≡ Some n → length n.1 < length ts
+  pub index_falls : (ts c : Lexemes) (n : ℤ × Lexemes) → eat k.Comma ts ≡ Some c → d.index_at text (skip c) ≡ Some n → length n.1 < length ts
   index_falls ts c n e h =
       let i = sound_index text (skip c) n h in
       omega (arith, eats_shorter k.Comma ts c (eat_eats k.Comma ts c e), skip_shorter c, takes_shorter k.Key i.0 (skip c) n.1 i.1)
@@ -57,7 +57,7 @@ module _ (text : List ℕ) where
       ∙ (ap (λ (o : Option (ℤ × Lexemes)). put done (o >>= λ n. add n.0 (d.more_indexes_at text (length ts) n.1))) h
       ∙ (ap (λ o. put done (add n.0 o)) same ∙ behind done n.0 (d.more_indexes_at text (suc (length n.1)) n.1)))
 
-  name_falls : (ts c : Lexemes) (s : StrRange × Lexemes) → eat k.Comma ts ≡ Some c → quoted_at (skip c) ≡ Some s → length (skip s.1) < length ts
+  pub name_falls : (ts c : Lexemes) (s : StrRange × Lexemes) → eat k.Comma ts ≡ Some c → quoted_at (skip c) ≡ Some s → length (skip s.1) < length ts
   name_falls ts c s e h =
       omega (arith, eats_shorter k.Comma ts c (eat_eats k.Comma ts c e), skip_shorter c, skip_shorter s.1, quoted_shorter s.0 (skip c) s.1 (sound_quoted (skip c) s h))
 

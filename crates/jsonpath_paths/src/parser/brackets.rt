@@ -2,6 +2,8 @@
 
 ghost use Rattle.std.specs.Prelude.{◌≤◌, length, Some};
 ghost use Rattle.jsonpath_paths.specs.plan.Parsing.{Reads};
+ghost use Rattle.jsonpath_paths.specs.plan.Wants.{Stops, plain, indexes_range_or_names as indexes_range_or_names_wanted, range_or_names as range_or_names_wanted, after_first_index, index, more_indexes, range_to, range_by, range_step, after_name, quoted, more_names, blanks};
+ghost use Rattle.std.specs.Prelude.{◌∷◌, []};
 ghost use Rattle.jsonpath_paths.specs.plan.ParsedParts.{plain_at, range_bound_at, optional_range_step, range_step_part_at, rest_of_range, rest_of_union, index_union_or_range, name_or_name_list, indexes_range_or_names, range_or_names, quoted_names_at, rest_of_name_list, with_more_indexes, with_more_names};
 
 use crate::decimal::Decimal;
@@ -16,6 +18,7 @@ impl TreeParser<'_> {
     // word spells no index.
     fn parse_optional_range_bound(&mut self) -> Result<Option<i64>, Refusal>
         ensures reads { Reads (λ n. n) (range_bound_at self.old.text self.old.lexemes) result self.old self.new }
+        ensures stops { Stops (range_to ∷ []) result self.old self.new }
         ensures shorter { length self.new.lexemes ≤ length self.old.lexemes }
     {
         let mut behind = self.copy_of_place();
@@ -36,6 +39,7 @@ impl TreeParser<'_> {
     // refused where the word spells no step.
     fn parse_optional_range_step(&mut self) -> Result<Option<u64>, Refusal>
         ensures reads { Reads (λ n. n) (optional_range_step self.old.text self.old.lexemes) result self.old self.new }
+        ensures stops { Stops (range_step ∷ []) result self.old self.new }
         ensures shorter { length self.new.lexemes ≤ length self.old.lexemes }
     {
         let mut behind = self.copy_of_place();
@@ -55,6 +59,7 @@ impl TreeParser<'_> {
     // Takes the last part of a range, `:step`, `:` or nothing, and answers the step, if there is one.
     fn parse_optional_colon_and_range_step(&mut self) -> Result<Option<u64>, Refusal>
         ensures reads { Reads (λ n. n) (range_step_part_at self.old.text self.old.lexemes) result self.old self.new }
+        ensures stops { Stops (range_by ∷ []) result self.old self.new }
         ensures shorter { length self.new.lexemes ≤ length self.old.lexemes }
     {
         if self.take_token(Kind::Split).is_none() {
@@ -68,6 +73,7 @@ impl TreeParser<'_> {
     // `from`.
     fn parse_rest_of_range(&mut self, from: Option<i64>) -> Result<ParseToken, Refusal>
         ensures reads { Reads (λ t. t) (rest_of_range self.old.text from self.old.lexemes) result self.old self.new }
+        ensures stops { Stops (blanks ∷ range_to ∷ range_by ∷ []) result self.old self.new }
         ensures shorter { length self.new.lexemes ≤ length self.old.lexemes }
     {
         self.skip_blanks();
@@ -79,6 +85,7 @@ impl TreeParser<'_> {
     // Takes the further indexes of a union, each behind a comma, and answers those in `found` and these behind them.
     fn parse_and_append_indexes(&mut self, mut found: Vec<i64>) -> Result<Vec<i64>, Refusal>
         ensures reads { Reads (λ v. v.items) (with_more_indexes self.old.text found.items self.old.lexemes) result self.old self.new }
+        ensures stops { Stops (more_indexes ∷ []) result self.old self.new }
         ensures shorter { length self.new.lexemes ≤ length self.old.lexemes }
     {
         while self.take_token(Kind::Comma).is_some() {
@@ -97,6 +104,7 @@ impl TreeParser<'_> {
     // `first`.
     fn parse_rest_of_union(&mut self, first: i64) -> Result<ParseToken, Refusal>
         ensures reads { Reads (λ t. t) (rest_of_union self.old.text first self.old.lexemes) result self.old self.new }
+        ensures stops { Stops (blanks ∷ index ∷ more_indexes ∷ []) result self.old self.new }
         ensures shorter { length self.new.lexemes ≤ length self.old.lexemes }
     {
         self.skip_blanks();
@@ -112,6 +120,7 @@ impl TreeParser<'_> {
     // behind them.
     fn parse_and_append_names(&mut self, mut found: Vec<StrRange>) -> Result<Vec<StrRange>, Refusal>
         ensures reads { Reads (λ v. v.items) (with_more_names self.old.text found.items self.old.lexemes) result self.old self.new }
+        ensures stops { Stops (more_names ∷ []) result self.old self.new }
         ensures shorter { length self.new.lexemes ≤ length self.old.lexemes }
     {
         while self.take_token(Kind::Comma).is_some() {
@@ -130,6 +139,7 @@ impl TreeParser<'_> {
     // `first`.
     fn parse_rest_of_name_list(&mut self, first: StrRange) -> Result<ParseToken, Refusal>
         ensures reads { Reads (λ t. t) (rest_of_name_list self.old.text first self.old.lexemes) result self.old self.new }
+        ensures stops { Stops (blanks ∷ quoted ∷ blanks ∷ more_names ∷ []) result self.old self.new }
         ensures shorter { length self.new.lexemes ≤ length self.old.lexemes }
     {
         self.skip_blanks();
@@ -146,6 +156,7 @@ impl TreeParser<'_> {
     // a union or a range.
     fn parse_behind_first_index(&mut self, n: i64) -> Result<ParseToken, Refusal>
         ensures reads { Reads (λ t. t) (index_union_or_range self.old.text n self.old.lexemes) result self.old self.new }
+        ensures stops { Stops (after_first_index ∷ []) result self.old self.new }
         ensures shorter { length self.new.lexemes ≤ length self.old.lexemes }
     {
         if self.take_token(Kind::Comma).is_some() {
@@ -161,6 +172,7 @@ impl TreeParser<'_> {
     // alone or a list of names.
     fn parse_behind_first_name(&mut self, span: StrRange) -> Result<ParseToken, Refusal>
         ensures reads { Reads (λ t. t) (name_or_name_list self.old.text span self.old.lexemes) result self.old self.new }
+        ensures stops { Stops (after_name ∷ []) result self.old self.new }
         ensures shorter { length self.new.lexemes ≤ length self.old.lexemes }
     {
         if self.take_token(Kind::Comma).is_some() {
@@ -173,6 +185,7 @@ impl TreeParser<'_> {
     // Takes a quoted name, or a list of them, as it stands in brackets.
     fn parse_name_or_name_list(&mut self) -> Result<ParseToken, Refusal>
         ensures reads { Reads (λ t. t) (quoted_names_at self.old.text self.old.lexemes) result self.old self.new }
+        ensures stops { Stops (quoted ∷ after_name ∷ []) result self.old self.new }
         ensures shorter { length self.new.lexemes ≤ length self.old.lexemes }
     {
         let span = self.take_quoted_text()?;
@@ -182,6 +195,7 @@ impl TreeParser<'_> {
     // Takes a range that has no first bound, or one quoted name or more.
     fn parse_range_or_names(&mut self) -> Result<ParseToken, Refusal>
         ensures reads { Reads (λ t. t) (range_or_names self.old.text self.old.lexemes) result self.old self.new }
+        ensures stops { Stops (range_or_names_wanted ∷ []) result self.old self.new }
         ensures shorter { length self.new.lexemes ≤ length self.old.lexemes }
     {
         if self.take_token(Kind::Split).is_some() {
@@ -194,6 +208,7 @@ impl TreeParser<'_> {
     // more.
     fn parse_indexes_range_or_names(&mut self) -> Result<ParseToken, Refusal>
         ensures reads { Reads (λ t. t) (indexes_range_or_names self.old.text self.old.lexemes) result self.old self.new }
+        ensures stops { Stops (indexes_range_or_names_wanted ∷ []) result self.old self.new }
         ensures shorter { length self.new.lexemes ≤ length self.old.lexemes }
     {
         let mut behind = self.copy_of_place();
@@ -214,6 +229,7 @@ impl TreeParser<'_> {
     #[tactic(auto, unfolding(crate::specs::plan::ParsedParts::plain_at))]
     pub(crate) fn parse_plain_bracket_token(&mut self) -> Result<ParseToken, Refusal>
         ensures reads { Reads (λ t. t) (plain_at self.old.text self.old.lexemes) result self.old self.new }
+        ensures stops { Stops (plain ∷ []) result self.old self.new }
         ensures shorter { length self.new.lexemes ≤ length self.old.lexemes }
     {
         if self.take_token(Kind::Asterisk).is_some() {

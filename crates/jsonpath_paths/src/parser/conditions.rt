@@ -3,7 +3,9 @@
 //! still be opened, one in the other.
 
 ghost use Rattle.std.specs.Prelude.{◌≡◌, ◌≤◌, length, option_map, MatchResult, false};
+ghost use Rattle.std.specs.Prelude.{◌∷◌, []};
 ghost use Rattle.jsonpath_paths.specs.plan.Parsing.{Reads};
+ghost use Rattle.jsonpath_paths.specs.plan.Wants.{Stops, StopsBefore, StopsDeeper, condition, part, steps as steps_wanted, candidate_tail, blanks, tail, sign, term, literal};
 ghost use Rattle.jsonpath_paths.specs.tree.View.{steps_of_list, condition_of, term_of};
 ghost use Rattle.jsonpath_paths.specs.plan.ParsedParts.{condition_by, condition_at, part_at, comparison_or_lone_at, candidate_condition_at, comparison_at, term_at, rest_of_comparison, literal_at};
 ghost use Rattle.jsonpath_paths.specs.tree.Tree.{path, at_path, literal as tree_literal, lone as tree_lone, join, compare};
@@ -24,6 +26,7 @@ impl TreeParser<'_> {
         levels: usize,
     ) -> Result<Box<Condition>, Refusal>
         ensures reads { Reads (λ b. condition_of b.value) (condition_at self.old.text levels self.old.lexemes) result self.old self.new }
+        ensures stops { StopsDeeper levels result self.old self.new }
         ensures shorter { length self.new.lexemes ≤ length self.old.lexemes }
     {
         if levels == 0 {
@@ -40,6 +43,7 @@ impl TreeParser<'_> {
         levels: usize,
     ) -> Result<Box<Condition>, Refusal>
         ensures reads { Reads (λ b. condition_of b.value) (condition_by self.old.text (condition_at self.old.text levels) self.old.lexemes) result self.old self.new }
+        ensures stops { Stops (condition levels ∷ []) result self.old self.new }
         ensures shorter { length self.new.lexemes ≤ length self.old.lexemes }
     {
         self.skip_blanks();
@@ -72,6 +76,7 @@ impl TreeParser<'_> {
     #[tactic(auto, unfolding(crate::specs::plan::ParsedParts::part_at))]
     fn parse_first_part_of_condition(&mut self, levels: usize) -> Result<Box<Condition>, Refusal>
         ensures reads { Reads (λ b. condition_of b.value) (part_at self.old.text (condition_at self.old.text levels) self.old.lexemes) result self.old self.new }
+        ensures stops { StopsBefore (part levels ∷ []) (blanks ∷ tail levels ∷ []) result self.old self.new }
         ensures shorter { length self.new.lexemes ≤ length self.old.lexemes }
     {
         let front = self.copy_of_place();
@@ -94,6 +99,7 @@ impl TreeParser<'_> {
     #[inline(never)]
     fn parse_candidate_path_condition(&mut self, levels: usize) -> Result<Box<Condition>, Refusal>
         ensures reads { Reads (λ b. condition_of b.value) (candidate_condition_at self.old.text (condition_at self.old.text levels) self.old.lexemes) result self.old self.new }
+        ensures stops { StopsBefore (steps_wanted levels ∷ candidate_tail levels ∷ []) (blanks ∷ tail levels ∷ []) result self.old self.new }
         ensures shorter { length self.new.lexemes ≤ length self.old.lexemes }
     {
         let steps = self.parse_steps(levels)?;
@@ -110,6 +116,7 @@ impl TreeParser<'_> {
         steps: Vec<ParserStep>,
     ) -> Result<Box<Condition>, Refusal>
         ensures reads { Reads (λ b. condition_of b.value) (comparison_or_lone_at self.old.text (condition_at self.old.text levels) (steps_of_list steps.items) self.old.lexemes) result self.old self.new }
+        ensures stops { StopsBefore (candidate_tail levels ∷ []) (blanks ∷ tail levels ∷ []) result self.old self.new }
         ensures shorter { length self.new.lexemes ≤ length self.old.lexemes }
     {
         match self.parse_comparison_sign_behind_blanks() {
@@ -127,6 +134,7 @@ impl TreeParser<'_> {
     #[inline(never)]
     fn parse_whole_comparison(&mut self, levels: usize) -> Result<Box<Condition>, Refusal>
         ensures reads { Reads (λ b. condition_of b.value) (comparison_at self.old.text (condition_at self.old.text levels) self.old.lexemes) result self.old self.new }
+        ensures stops { Stops (term levels ∷ blanks ∷ sign ∷ blanks ∷ term levels ∷ []) result self.old self.new }
         ensures shorter { length self.new.lexemes ≤ length self.old.lexemes }
     {
         let first = self.parse_term(levels)?;
@@ -149,6 +157,7 @@ impl TreeParser<'_> {
         op: FilterToken,
     ) -> Result<Box<Condition>, Refusal>
         ensures reads { Reads (λ b. condition_of b.value) (rest_of_comparison self.old.text (condition_at self.old.text levels) (term_of first.value) (op, self.old.lexemes)) result self.old self.new }
+        ensures stops { Stops (blanks ∷ term levels ∷ []) result self.old self.new }
         ensures shorter { length self.new.lexemes ≤ length self.old.lexemes }
     {
         self.skip_blanks();
@@ -167,6 +176,7 @@ impl TreeParser<'_> {
     #[tactic(auto, unfolding(crate::specs::plan::ParsedParts::term_at))]
     fn parse_term(&mut self, levels: usize) -> Result<Box<Term>, Refusal>
         ensures reads { Reads (λ b. term_of b.value) (term_at self.old.text (condition_at self.old.text levels) self.old.lexemes) result self.old self.new }
+        ensures stops { Stops (term levels ∷ []) result self.old self.new }
         ensures shorter { length self.new.lexemes ≤ length self.old.lexemes }
     {
         if self.take_token(Kind::At).is_some() {
@@ -186,6 +196,7 @@ impl TreeParser<'_> {
     #[inline(never)]
     fn parse_boxed_literal_term(&mut self) -> Result<Box<Term>, Refusal>
         ensures reads { Reads (λ b. term_of b.value) (option_map (λ r. (tree_literal r.0, r.1)) (literal_at self.old.text self.old.lexemes)) result self.old self.new }
+        ensures stops { Stops (literal ∷ []) result self.old self.new }
         ensures shorter { length self.new.lexemes ≤ length self.old.lexemes }
     {
         let token = self.parse_literal()?;

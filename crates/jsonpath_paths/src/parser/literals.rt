@@ -1,7 +1,8 @@
 //! Literals: `true`, `false`, numbers and quoted texts, as the sides of comparisons.
 
-ghost use Rattle.std.specs.Prelude.{◌≡◌, ◌≤◌, length, Some, None, MatchResult};
+ghost use Rattle.std.specs.Prelude.{◌≡◌, ◌≤◌, length, ◌∷◌, [], is_some, Some, None, MatchResult};
 ghost use Rattle.jsonpath_paths.specs.plan.Parsing.{Reads};
+ghost use Rattle.jsonpath_paths.specs.plan.Wants.{Stops, StopsBehind, if_word, literal, literal_word, fraction};
 ghost use Rattle.jsonpath_paths.specs.declared.parser.tree_parser.Refusal.TheVariants.{Refused};
 ghost use Rattle.std.specs.Str.{str_eq_ignore_ascii_case};
 ghost use Rattle.jsonpath_paths.specs.Literals.{truth_of};
@@ -18,6 +19,7 @@ impl TreeParser<'_> {
     // with the point and the digits behind it, which are taken here. Refused where they spell no number in range.
     fn parse_rest_of_number(&mut self, word: &str) -> Result<Decimal, Refusal>
         ensures reads { Reads (λ d. d) (rest_of_number self.old.text word.now self.old.lexemes) result self.old self.new }
+        ensures stops { StopsBehind (if_word (is_some (decimal_of word.now [])) (fraction ∷ [])) result self.old self.new }
         ensures shorter { length self.new.lexemes ≤ length self.old.lexemes }
     {
         if self.take_token(Kind::Dot).is_none() {
@@ -40,6 +42,7 @@ impl TreeParser<'_> {
     // them.
     fn parse_literal_beginning_with_word(&mut self, word: &str) -> Result<ParseToken, Refusal>
         ensures reads { Reads (λ t. t) (literal_from_word self.old.text word.now self.old.lexemes) result self.old self.new }
+        ensures stops { StopsBehind (literal_word word.now []) result self.old self.new }
         ensures shorter { length self.new.lexemes ≤ length self.old.lexemes }
     {
         if let Some(truth) = parse_bool(word) {
@@ -53,6 +56,7 @@ impl TreeParser<'_> {
     #[tactic(auto, unfolding(crate::specs::plan::ParsedParts::literal_at))]
     pub(crate) fn parse_literal(&mut self) -> Result<ParseToken, Refusal>
         ensures reads { Reads (λ t. t) (literal_at self.old.text self.old.lexemes) result self.old self.new }
+        ensures stops { Stops (literal ∷ []) result self.old self.new }
         ensures shorter { length self.new.lexemes ≤ length self.old.lexemes }
     {
         let mut behind = self.copy_of_place();

@@ -8,6 +8,8 @@ ghost use Rattle.jsonpath_paths.specs.text.Characters.{bytes_at};
 ghost use Rattle.jsonpath_paths.specs.declared.text.str_reader.StrRange.{StrRange};
 ghost use denote.Ref.{Bor};
 ghost use Rattle.jsonpath_paths.specs.token.Refusals.{MatchPlace};
+ghost use Rattle.jsonpath_paths.specs.plan.RefusedPlace.{refused_place};
+ghost use Rattle.jsonpath_paths.specs.RefusedAt.{RefusedAt};
 ghost use Rattle.jsonpath_paths.specs.Spelling.{Spells, IsInGrammar};
 ghost use Rattle.jsonpath_paths.specs.Listed.{IsListOfText};
 ghost use Rattle.jsonpath_paths.specs.tree.View.{path_of};
@@ -56,15 +58,17 @@ fn error_at_refused_token_or_character(
     stop: &Tokenizer<'_>,
     text: &str,
 ) -> TokenError
-    requires { stop.now.text ≡ text.now }
-    ensures { MatchPlace result (length text.now) }
+    requires same { stop.now.text ≡ text.now }
+    requires parsed { parser.now.text ≡ text.now }
+    ensures exact { result ≡ refused_place text.now parser.now.lexemes stop.now }
+    ensures place { MatchPlace result (length text.now) }
 {
     match parser.next_token_end() {
         Some(n) => {
-            if n < text.len() {
-                TokenError::Position(n)
-            } else {
+            if n == text.len() {
                 TokenError::Eof
+            } else {
+                TokenError::Position(n)
             }
         }
         None => stop.error_at_refused_character_end(),
@@ -85,6 +89,7 @@ impl<'a> PathParser<'a> {
     pub fn compile(alloc: Global, input: &'a str) -> Result<PathParser<'a>, TokenError>
         ensures found { IfOk result (λ p. (p ≡ input.now) × IsInGrammar input.now) }
         ensures only { IfErr result (λ e. e ≢ OutOfMemory → IsInGrammar input.now → ⊥) }
+        ensures refused { IfErr result (λ e. e ≢ OutOfMemory → RefusedAt input.now e) }
         ensures place { IfErr result (λ e. e ≢ OutOfMemory → MatchPlace e (length input.now)) }
     {
         let (found, stop) = lexemes_up_to_refusal(alloc, input)?;

@@ -3,6 +3,7 @@
 
 ghost use Rattle.std.specs.Prelude.{◌≡◌, ◌≤◌, ◌<◌, ◌++◌, ◌∷◌, [], length, option_map, IfOk, MatchResult};
 ghost use Rattle.jsonpath_paths.specs.plan.Parsing.{Reads};
+ghost use Rattle.jsonpath_paths.specs.plan.Wants.{Stops, steps, step, word, inner, close, plain};
 ghost use Rattle.jsonpath_paths.specs.declared.tree.parser_node.ParserStep.{ParserStep};
 ghost use Rattle.jsonpath_paths.specs.tree.View.{steps_of_list, inner_of, condition_of};
 ghost use Rattle.jsonpath_paths.specs.plan.ParsedParts.{plain_at, steps_at, step_at, array_at, word_step, inner_at, condition_at};
@@ -18,6 +19,7 @@ impl TreeParser<'_> {
     #[cycle(nested)]
     pub(crate) fn parse_steps(&mut self, levels: usize) -> Result<Vec<ParserStep>, Refusal>
         ensures reads { Reads (λ v. steps_of_list v.items) (steps_at self.old.text (condition_at self.old.text levels) self.old.lexemes) result self.old self.new }
+        ensures stops { Stops (steps levels ∷ []) result self.old self.new }
         ensures shorter { length self.new.lexemes ≤ length self.old.lexemes }
     {
         let mut found: Vec<ParserStep> = Vec::new(self.alloc);
@@ -37,6 +39,7 @@ impl TreeParser<'_> {
     #[tactic(auto, unfolding(crate::specs::plan::ParsedParts::step_at))]
     fn parse_step(&mut self, levels: usize, next: &mut ParserStep) -> Result<(), Refusal>
         ensures reads { Reads (λ _. (next.new.leaves, next.new.bracket, inner_of next.new.inner)) (step_at self.old.text (condition_at self.old.text levels) self.old.lexemes) result self.old self.new }
+        ensures stops { Stops (step levels ∷ []) result self.old self.new }
         ensures shorter { length self.new.lexemes ≤ length self.old.lexemes }
         ensures taken { IfOk result (λ _. length self.new.lexemes < length self.old.lexemes) }
     {
@@ -62,6 +65,7 @@ impl TreeParser<'_> {
     #[inline(never)]
     fn parse_word_step(&mut self, leaves: bool, next: &mut ParserStep) -> Result<(), Refusal>
         ensures reads { Reads (λ _. (next.new.leaves, next.new.bracket, inner_of next.new.inner)) (word_step self.old.text (condition_at self.old.text 0) leaves self.old.lexemes) result self.old self.new }
+        ensures stops { Stops (word ∷ []) result self.old self.new }
         ensures shorter { length self.new.lexemes ≤ length self.old.lexemes }
     {
         let token = self.take_word_or_wildcard()?;
@@ -84,6 +88,7 @@ impl TreeParser<'_> {
         next: &mut ParserStep,
     ) -> Result<(), Refusal>
         ensures reads { Reads (λ _. (next.new.leaves, next.new.bracket, inner_of next.new.inner)) (array_at self.old.text (condition_at self.old.text levels) leaves self.old.lexemes) result self.old self.new }
+        ensures stops { Stops (inner levels ∷ close ∷ []) result self.old self.new }
         ensures shorter { length self.new.lexemes ≤ length self.old.lexemes }
     {
         self.parse_bracket_content(levels, &mut next.inner)?;
@@ -100,6 +105,7 @@ impl TreeParser<'_> {
     #[tactic(auto, unfolding(crate::specs::plan::ParsedParts::inner_at))]
     fn parse_bracket_content(&mut self, levels: usize, into: &mut Inner) -> Result<(), Refusal>
         ensures reads { Reads (λ _. inner_of into.new) (inner_at self.old.text (condition_at self.old.text levels) self.old.lexemes) result self.old self.new }
+        ensures stops { Stops (inner levels ∷ []) result self.old self.new }
         ensures shorter { length self.new.lexemes ≤ length self.old.lexemes }
     {
         let front = self.copy_of_place();
@@ -130,6 +136,7 @@ impl TreeParser<'_> {
     #[inline(never)]
     fn parse_plain_token_into_step(&mut self, into: &mut Inner) -> Result<(), Refusal>
         ensures reads { Reads (λ _. inner_of into.new) (option_map (λ r. (tree_plain r.0, r.1)) (plain_at self.old.text self.old.lexemes)) result self.old self.new }
+        ensures stops { Stops (plain ∷ []) result self.old self.new }
         ensures shorter { length self.new.lexemes ≤ length self.old.lexemes }
     {
         let token = self.parse_plain_bracket_token()?;

@@ -2,6 +2,8 @@
 
 ghost use Rattle.std.specs.Prelude.{IsTrue, ◌↔◌, ◌≡◌, Some, None, option_map, IfNone, IfSome, [], length, ◌≤◌, ◌<◌};
 ghost use Rattle.jsonpath_paths.specs.plan.Parsing.{Reads, next_token_end};
+ghost use Rattle.jsonpath_paths.specs.plan.Wants.{Stops, Want, stop, word, index, quoted, blanks};
+ghost use Rattle.std.specs.Prelude.{◌∷◌, List};
 ghost use Rattle.jsonpath_paths.specs.plan.ParsedParts.{by_kind, begins_step, take_token, index_at, step_word_at, quoted_at, skip};
 ghost use Rattle.jsonpath_paths.specs.Grammar.{comparison, connective};
 ghost use Rattle.jsonpath_paths.specs.text.Characters.{bytes_at};
@@ -129,6 +131,7 @@ impl<'s> TreeParser<'s> {
     // Takes a word that spells an index. Refused where none is next.
     pub(crate) fn take_index(&mut self) -> Result<i64, Refusal>
         ensures reads { Reads (λ n. n) (index_at self.old.text self.old.lexemes) result self.old self.new }
+        ensures stops { Stops (index ∷ []) result self.old self.new }
         ensures shorter { length self.new.lexemes ≤ length self.old.lexemes }
     {
         let mut behind = self.copy_of_place();
@@ -147,6 +150,7 @@ impl<'s> TreeParser<'s> {
     // Takes a text in double or single quotes, and answers its span, quotes included. Refused where none is next.
     pub(crate) fn take_quoted_text(&mut self) -> Result<StrRange, Refusal>
         ensures reads { Reads (λ s. s) (quoted_at self.old.lexemes) result self.old self.new }
+        ensures stops { Stops (quoted ∷ []) result self.old self.new }
         ensures shorter { length self.new.lexemes ≤ length self.old.lexemes }
     {
         if let Some(span) = self.take_token(Kind::DoubleQuoted) {
@@ -161,6 +165,7 @@ impl<'s> TreeParser<'s> {
     // Takes a word or `*`, as it stands behind dots. Refused where neither is next.
     pub(crate) fn take_word_or_wildcard(&mut self) -> Result<ParseToken, Refusal>
         ensures reads { Reads (λ t. t) (step_word_at self.old.text self.old.lexemes) result self.old self.new }
+        ensures stops { Stops (word ∷ []) result self.old self.new }
         ensures shorter { length self.new.lexemes ≤ length self.old.lexemes }
     {
         if let Some(span) = self.take_token(Kind::Key) {
@@ -256,6 +261,7 @@ impl<'s> TreeParser<'s> {
     #[tactic(auto, unfolding(crate::specs::plan::ParsedParts::skip), using(crate::proofs::parser::SameKindLemmas::same_kind_is))]
     pub(crate) fn skip_blanks(&mut self)
         ensures blanks { self.new.lexemes ≡ skip self.old.lexemes }
+        ensures stops { (ws : List Want) → stop self.old.text (blanks ∷ ws) self.old.lexemes ≡ stop self.old.text ws self.new.lexemes }
         ensures shorter { length self.new.lexemes ≤ length self.old.lexemes }
         ensures text { self.new.text ≡ self.old.text }
     {

@@ -1,10 +1,11 @@
 //! All the tokens of a text, taken as one path.
 
-ghost use Rattle.std.specs.Prelude.{◌≡◌, IfOk, IfErr};
+ghost use Rattle.std.specs.Prelude.{◌≡◌, Some, IfOk, IfErr};
 ghost use Rattle.jsonpath_paths.specs.tree.View.{path_of};
 ghost use Rattle.jsonpath_paths.specs.tree.Tree.{Path};
 ghost use Rattle.jsonpath_paths.specs.plan.ParsedParts.{path_at};
 ghost use Rattle.jsonpath_paths.specs.Grammar.{SpellsPath};
+ghost use Rattle.jsonpath_paths.specs.plan.Wants.{stop, whole_wants};
 ghost use Rattle.jsonpath_paths.specs.plan.PathAnswer.{IsPathAnswer};
 ghost use Rattle.jsonpath_paths.specs.declared.parser.tree_parser.Refusal.TheVariants.{Refused};
 
@@ -20,7 +21,9 @@ impl TreeParser<'_> {
     // are none. The clause says so in the words of the parser's plan.
     #[tactic(auto, unfolding(crate::specs::plan::ParsedParts::path_at))]
     fn parse_whole_path_by_plan(&mut self) -> Result<ParserNode, Refusal>
-        ensures { IsPathAnswer path_of (path_at self.old.text self.old.lexemes) result }
+        ensures answer { IsPathAnswer path_of (path_at self.old.text self.old.lexemes) result }
+        ensures stops { IfErr result (λ e. e ≡ Refused → stop self.old.text whole_wants self.old.lexemes ≡ Some self.new.lexemes) }
+        ensures text { self.new.text ≡ self.old.text }
     {
         if self.take_token(Kind::Absolute).is_none() {
             return Err(Refusal::Refused);
@@ -41,6 +44,8 @@ impl TreeParser<'_> {
     pub(crate) fn parse_whole_path(&mut self) -> Result<ParserNode, Refusal>
         ensures found { IfOk result (λ p. SpellsPath self.old.text (path_of p) self.old.lexemes) }
         ensures only { IfErr result (λ e. e ≡ Refused → (p : Path) → SpellsPath self.old.text p self.old.lexemes → ⊥) }
+        ensures stops { IfErr result (λ e. e ≡ Refused → stop self.old.text whole_wants self.old.lexemes ≡ Some self.new.lexemes) }
+        ensures text { self.new.text ≡ self.old.text }
     {
         self.parse_whole_path_by_plan()
     }

@@ -10,6 +10,7 @@ ghost use Rattle.jsonpath_paths.specs.plan.NextToken.{ends_at, closes_at, first_
 ghost use Rattle.jsonpath_paths.specs.text.Spans.{IsSpan, AreSpans, Tile};
 ghost use Rattle.jsonpath_paths.specs.token.Reading.{and_then, reading_from, single_character_kind, optional_equals, two_characters, quoted_lexeme, dollar_word, blanks_or_word, operator_blanks_or_word, several_character_lexeme, lexeme_beginning_with};
 ghost use Rattle.jsonpath_paths.specs.token.Refusals.{fault, MatchPlace};
+ghost use Rattle.jsonpath_paths.specs.plan.RefusedPlace.{behind_character};
 ghost use Rattle.jsonpath_paths.specs.text.TextPlace.{ahead, past};
 ghost use Rattle.jsonpath_paths.specs.text.Characters.{is_stop_character, is_no_stop, goes_on, bytes_at};
 
@@ -339,7 +340,8 @@ impl<'a> Tokenizer<'a> {
     // The error for the next character, which begins no token: `Position` of its end, or `Eof` where it ends the text,
     // is a quote that is not closed, or there is none.
     pub(crate) fn error_at_refused_character_end(&self) -> TokenError
-        ensures { MatchPlace result (length self.now.text) }
+        ensures exact { result ≡ behind_character self.now.text self.now.pos (ahead self.now) }
+        ensures place { MatchPlace result (length self.now.text) }
     {
         let mut ahead = self.reader.copy_of_place();
         match ahead.next_char() {
@@ -347,9 +349,11 @@ impl<'a> Tokenizer<'a> {
                 if c == '"' || c == '\'' {
                     return TokenError::Eof;
                 }
-                match ahead.peek_char() {
-                    Ok(_) => TokenError::Position(ahead.current_pos()),
-                    Err(_) => TokenError::Eof,
+                let end = ahead.current_pos();
+                if end == self.text().len() {
+                    TokenError::Eof
+                } else {
+                    TokenError::Position(end)
                 }
             }
             Err(_) => TokenError::Eof,

@@ -1,4 +1,5 @@
-use Rattle.std.proofs.Common.{◌≡◌, ◌+◌, ◌*◌, ◌≤◌, length}
+use Rattle.std.proofs.Common.{◌≡◌, ◌+◌, ◌*◌, ◌≤◌, length, List, ◌∷◌}
+use Rattle.jsonpath_paths.specs.plan.Wants.{Want, stop, steps}
 use Rattle.jsonpath_paths.specs.plan.ParsedParts.{steps_at, condition_at}
 use Rattle.jsonpath_paths.specs.tree.View.{steps_of_list}
 use Rattle.jsonpath_paths.proofs.parser.LevelLemmas.{after_steps}
@@ -28,6 +29,7 @@ decreases-parse_bracket_content l = 20 * l.levels + 1
 abbrev pub invariant-parse_steps-loop-found : goal.invariant-parse_steps-loop-found
 invariant-parse_steps-loop-found l = record {
   text : l.self.text ≡ l.fn.self.text;
+  stops : (ws : List Want) → stop l.fn.self.text (steps l.levels ∷ ws) l.fn.self.lexemes ≡ stop l.fn.self.text (steps l.levels ∷ ws) l.self.lexemes;
   shorter : length l.self.lexemes ≤ length l.fn.self.lexemes;
   read : steps_at l.fn.self.text (condition_at l.fn.self.text l.levels) l.fn.self.lexemes
       ≡ after_steps (steps_of_list l.found.items) (steps_at l.fn.self.text (condition_at l.fn.self.text l.levels) l.self.lexemes);

@@ -1,0 +1,259 @@
+-- Where the machine of wants stops, the grammar refuses the text.
+use Rattle.std.proofs.Common.{◌≡◌, ◌≤◌, ◌+◌, ℕ, zero, suc, Bool, true, false, List, [], ◌∷◌, ◌++◌, length, take, drop, Option, Some, None, cond, refl, sym, subst, ap, ap₂, ◌∙◌, arith, append_assoc, append-nil, length-append, ◌⊎◌, inl, inr}
+use Rattle.std.specs.Prelude.{if◌then◌else◌}
+use Rattle.std.specs.Char.{len_utf8}
+use Rattle.std.specs.Str.{chars, IsUtf8}
+use Rattle.std.proofs.lemmas.Bool.{and_from, and_parts}
+use Rattle.std.proofs.Math.Seq.{drop-append_seam, take-append_seam}
+use Rattle.std.proofs.lemmas.Str.{encodes-append}
+use lib.Utf8.{scalars, encodes}
+use Rattle.jsonpath_paths.specs.Grammar.{Lexemes, SpellsPath}
+use Rattle.jsonpath_paths.specs.RefusedAt.{end_of, BeginsPath, place_in, RefusedAt, at_token, at_character, at_end}
+use Rattle.jsonpath_paths.specs.tree.Tree.{Path}
+use Rattle.jsonpath_paths.specs.text.Characters.{byte_len, byte_len_is, bytes_at, is_quote}
+use Rattle.jsonpath_paths.specs.token.Tokens.{TokensAt}
+use Rattle.jsonpath_paths.specs.declared.token.tokens.Lexeme.{Lexeme}
+use Rattle.jsonpath_paths.specs.declared.token.tokens.TokenError.TheVariants.{Eof}
+use Rattle.jsonpath_paths.specs.plan.Wants.{Want, Sign, stop, stop_on, feed, run, run_on, may_end, whole_wants}
+use Rattle.jsonpath_paths.proofs.parser.DerivationLemmas.{sound_path, complete_path}
+use Rattle.jsonpath_paths.proofs.parser.EndedLemmas.{characters_of, lexemes_of, signs, added_end, added_tokens, added_scalars, added_signs}
+use Rattle.jsonpath_paths.proofs.parser.FollowPathLemmas.{read_ends, ends_read}
+use Rattle.jsonpath_paths.proofs.parser.TidyLemmas.{fine, stays_fed, stays_run, clean_run, fine_real, fine_hard, clean_hard}
+use Rattle.jsonpath_paths.proofs.parser.WantsLemmas.{endings, goes_on, nothing_helps}
+use Rattle.jsonpath_paths.proofs.token.FrontKeptLemmas.{reach, Within, LastEnds, kept}
+use Rattle.jsonpath_paths.proofs.tree.FencedLemmas.{At, scalars_parts}
+use Rattle.jsonpath_paths.proofs.token.TokenizedLemmas.{reads, found_spelled}
+use Rattle.jsonpath_paths.specs.token.Reading.{reading_from}
+use Rattle.jsonpath_paths.specs.text.Spans.{Tile}
+use Rattle.jsonpath_paths.specs.text.TextPlace.{Place, ahead}
+use Rattle.jsonpath_paths.specs.plan.RefusedPlace.{behind_character, refused_place}
+use Rattle.jsonpath_paths.proofs.parser.SoundLemmas.{some_same}
+use Rattle.std.proofs.lemmas.Str.{encodes-chars, chars-encodes, scalars-chars}
+
+-- the machine over the signs of tokens
+
+-- the tokens that ran, and why no more did
+pub record Stopped (text : List ℕ) (ws : List Want) (ts here : Lexemes) : Type 0 where
+  pub front : Lexemes
+  pub left : List Want
+  pub split : ts ≡ front ++ here
+  pub ran : run ws (signs text front) ≡ Some left
+
+-- the next token may not come
+abbrev Refused : List ℕ → List Want → Lexemes → Type 0
+Refused text ws [] = Unit {0}
+Refused text ws (t ∷ ts) = feed ws t.kind (bytes_at text t.span) ≡ None
+
+abbrev StoppedSo : List ℕ → List Want → Lexemes → Lexemes → Type 0
+StoppedSo text ws ts here = (s : Stopped text ws ts here) × Refused text s.left here
+
+stopped : (text : List ℕ) (ws : List Want) (ts here : Lexemes) → stop text ws ts ≡ Some here → StoppedSo text ws ts here
+stopped text ws [] here h = by_end (may_end ws) h
+  where
+    at_start : [] ≡ here → StoppedSo text ws [] here
+    at_start e = subst (StoppedSo text ws []) e (record { front = []; left = ws; split = refl; ran = refl }, tt)
+
+    by_end : (b : Bool) → cond {A = Option Lexemes} b None (Some []) ≡ Some here → StoppedSo text ws [] here
+    by_end true h = cc h
+    by_end false h = at_start (some_same [] here h)
+stopped text ws (p ∷ ps) here h = by_fed (feed ws p.kind (bytes_at text p.span)) refl h (λ us i. stopped text us ps here i)
+  where
+    by_fed : (o : Option (List Want)) → feed ws p.kind (bytes_at text p.span) ≡ o → stop_on o (p ∷ ps) (λ us. stop text us ps) ≡ Some here
+        → ((us : List Want) → stop text us ps ≡ Some here → StoppedSo text us ps here) → StoppedSo text ws (p ∷ ps) here
+    by_fed None e h more = subst (StoppedSo text ws (p ∷ ps)) (some_same (p ∷ ps) here h) (record { front = []; left = ws; split = refl; ran = refl }, e)
+    by_fed (Some us) e h more =
+        let r = more us h in
+        (record { front = p ∷ r.0.front; left = r.0.left; split = ap (λ x. p ∷ x) r.0.split; ran = ap (λ o. run_on o (λ vs. run vs (signs text r.0.front))) e ∙ r.0.ran }, r.1)
+
+-- all tokens ran, and a path may end there
+abbrev AllRan : List ℕ → List Want → Lexemes → Type 0
+AllRan text ws ts = (us : List Want) × (run ws (signs text ts) ≡ Some us) × (may_end us ≡ true)
+
+all_ran : (text : List ℕ) (ws : List Want) (ts : Lexemes) → stop text ws ts ≡ None → AllRan text ws ts
+all_ran text ws [] h = by_end (may_end ws) refl h
+  where
+    by_end : (b : Bool) → may_end ws ≡ b → cond {A = Option Lexemes} b None (Some []) ≡ None → AllRan text ws []
+    by_end true e h = (ws, refl, e)
+    by_end false e h = cc h
+all_ran text ws (p ∷ ps) h = by_fed (feed ws p.kind (bytes_at text p.span)) refl h (λ us i. all_ran text us ps i)
+  where
+    by_fed : (o : Option (List Want)) → feed ws p.kind (bytes_at text p.span) ≡ o → stop_on o (p ∷ ps) (λ us. stop text us ps) ≡ None
+        → ((us : List Want) → stop text us ps ≡ None → AllRan text us ps) → AllRan text ws (p ∷ ps)
+    by_fed None e h more = cc h
+    by_fed (Some us) e h more = let r = more us h in (r.0, ap (λ o. run_on o (λ vs. run vs (signs text ps))) e ∙ r.1, r.2)
+
+ran_stops : (text : List ℕ) (ws us : List Want) (ts : Lexemes) → run ws (signs text ts) ≡ Some us → may_end us ≡ true → stop text ws ts ≡ None
+ran_stops text ws us [] h e = ap (λ b. cond {A = Option Lexemes} b None (Some [])) (ap may_end (some_same ws us h) ∙ e)
+ran_stops text ws us (p ∷ ps) h e = by_fed (feed ws p.kind (bytes_at text p.span)) h (λ vs i. ran_stops text vs us ps i e)
+  where
+    by_fed : (o : Option (List Want)) → run_on o (λ vs. run vs (signs text ps)) ≡ Some us → ((vs : List Want) → run vs (signs text ps) ≡ Some us → stop text vs ps ≡ None)
+        → stop_on o (p ∷ ps) (λ vs. stop text vs ps) ≡ None
+    by_fed None h more = cc h
+    by_fed (Some vs) h more = more vs h
+
+-- tokens of two texts that begin alike
+
+signs_upon : (text : List ℕ) (ps qs : Lexemes) → signs text (ps ++ qs) ≡ signs text ps ++ signs text qs
+signs_upon text [] qs = refl
+signs_upon text (p ∷ ps) qs = ap (λ x. record { kind = p.kind; word = bytes_at text p.span } ∷ x) (signs_upon text ps qs)
+
+shorter_cut : (k n : ℕ) (xs : List ℕ) → k ≤ n → take k (take n xs) ≡ take k xs
+shorter_cut zero n xs h = refl
+shorter_cut (suc k) zero xs h = absurd (omega arith)
+shorter_cut (suc k) (suc n) [] h = refl
+shorter_cut (suc k) (suc n) (x ∷ xs) h = ap (λ ys. x ∷ ys) (shorter_cut k n xs (omega arith))
+
+cut_within : (i k n : ℕ) (xs : List ℕ) → i + k ≤ n → take k (drop i (take n xs)) ≡ take k (drop i xs)
+cut_within zero k n xs h = shorter_cut k n xs (omega arith)
+cut_within (suc i) k zero xs h = absurd (omega arith)
+cut_within (suc i) k (suc n) [] h = refl
+cut_within (suc i) k (suc n) (x ∷ xs) h = cut_within i k n xs (omega arith)
+
+signs_same : (n : ℕ) (here there : List ℕ) (ps : Lexemes) → take n here ≡ take n there → Within n ps → signs here ps ≡ signs there ps
+signs_same n here there [] e h = refl
+signs_same n here there (p ∷ ps) e h =
+    let bytes : bytes_at here p.span ≡ bytes_at there p.span =
+    sym (cut_within p.span.pos p.span.offset n here h.0) ∙ (ap (λ x. take p.span.offset (drop p.span.pos x)) e ∙ cut_within p.span.pos p.span.offset n there h.0) in
+    ap₂ (λ (w : List ℕ) (more : List Sign). record { kind = p.kind; word = w } ∷ more) bytes (signs_same n here there ps e h.1)
+
+-- a path that begins with the tokens that ran
+
+last_ends : (text : List ℕ) (vs us : List Want) (ps : Lexemes) → fine vs ≡ true → run vs (signs text ps) ≡ Some us → LastEnds ps (characters_of (endings us))
+last_ends text vs us [] f h = tt
+last_ends text vs us (p ∷ []) f h = λ test may. added_end (endings us) p.kind test may (λ e. clean_hard us (clean_run vs us [] (record { kind = p.kind; word = bytes_at text p.span }) f h e))
+last_ends text vs us (p ∷ q ∷ ps) f h = by_fed (feed vs p.kind (bytes_at text p.span)) refl h (λ ws g i. last_ends text ws us (q ∷ ps) g i)
+  where
+    by_fed : (o : Option (List Want)) → feed vs p.kind (bytes_at text p.span) ≡ o → run_on o (λ ws. run ws (signs text (q ∷ ps))) ≡ Some us
+        → ((ws : List Want) → fine ws ≡ true → run ws (signs text (q ∷ ps)) ≡ Some us → LastEnds (q ∷ ps) (characters_of (endings us))) → LastEnds (q ∷ ps) (characters_of (endings us))
+    by_fed None e h more = cc h
+    by_fed (Some ws) e h more = more ws (stays_fed vs ws p.kind (bytes_at text p.span) f e).0 h
+
+reach_end : (front : Lexemes) → reach 0 front ≡ end_of front
+reach_end [] = refl
+reach_end (p ∷ ps) = refl
+
+front_bytes : (cs ds : List ℕ) → take (byte_len cs) (encodes (cs ++ ds)) ≡ encodes cs
+front_bytes cs ds = ap₂ (λ n xs. take n xs) (byte_len_is cs) (encodes-append cs ds) ∙ take-append_seam (encodes cs) (encodes ds)
+
+scalars_upon : (xs ys : List ℕ) → scalars xs ≡ true → scalars ys ≡ true → scalars (xs ++ ys) ≡ true
+scalars_upon [] ys h i = i
+scalars_upon (x ∷ xs) ys h i = let p = and_parts _ _ h in and_from _ _ p.0 (scalars_upon xs ys p.1 i)
+
+begins : (text : List ℕ) (front here : Lexemes) (rest : List ℕ) (us : List Want) → IsUtf8 text → TokensAt 0 (chars text) (front ++ here) rest → run whole_wants (signs text front) ≡ Some us
+    → BeginsPath text front
+begins text front here rest us utf8 read ran =
+    let k = kept front here (chars text) rest read in
+    let fc = k.characters in
+    let es = endings us in
+    let w = characters_of es in
+    let other : List ℕ = encodes (fc ++ w) in
+    let later = lexemes_of (0 + byte_len fc) es in
+    let end : end_of front ≡ byte_len fc = sym (reach_end front) ∙ (k.end ∙ omega arith) in
+    let text_is : text ≡ encodes (fc ++ k.tail) = sym (encodes-chars text utf8) ∙ ap encodes k.split in
+    let same : take (end_of front) other ≡ take (end_of front) text =
+    ap (λ n. take n other) end ∙ (front_bytes fc w ∙ (sym (front_bytes fc k.tail) ∙ (ap (take (byte_len fc)) (sym text_is) ∙ ap (λ n. take n text) (sym end)))) in
+    let front_scalars = (scalars_parts fc k.tail (subst (λ x. scalars x ≡ true) k.split (scalars-chars text utf8))).0 in
+    let all_scalars = scalars_upon fc w front_scalars (added_scalars es) in
+    let is_fine : fine us ≡ true = stays_run whole_wants us (signs text front) refl ran in
+    let there : At other (0 + byte_len fc) w = (
+      omega (arith, byte_len_is fc, ap length (encodes-append fc w), length-append (encodes fc) (encodes w)),
+      added_scalars es,
+      ap₂ (λ n xs. drop n xs) (let e : 0 + byte_len fc ≡ length (encodes fc) = omega (arith, byte_len_is fc) in e) (encodes-append fc w) ∙ drop-append_seam (encodes fc) (encodes w),
+    ) in
+    let tokens : TokensAt 0 (fc ++ w) (front ++ later) [] = k.again w later (last_ends text whole_wants us front refl ran) (added_tokens (0 + byte_len fc) es (fine_hard us is_fine)) in
+    let within : Within (end_of front) front = subst (λ n. Within n front) (sym (sym (reach_end front) ∙ k.end)) k.within in
+    let all_signs = signs_upon other front later ∙ ap₂ (λ a b. a ++ b) (signs_same (end_of front) other text front same within) (added_signs other (0 + byte_len fc) es there) in
+    let goes = goes_on whole_wants us (signs text front) ran (fine_real us is_fine) in
+    let path = ends_read other (front ++ later) (ran_stops other whole_wants goes.left (front ++ later) (ap (run whole_wants) all_signs ∙ goes.ran) goes.ended) in
+    record {
+      whole = other;
+      later = later;
+      path = path.0;
+      same = same;
+      read = subst (λ cs. TokensAt 0 cs (front ++ later) []) (sym (chars-encodes (fc ++ w) all_scalars)) tokens;
+      spelled = sound_path other (front ++ later) path.0 path.1;
+    }
+
+-- and none that begins with one more
+
+never_begins : (text : List ℕ) (front here : Lexemes) (t : Lexeme) (rest : List ℕ) (us : List Want) → TokensAt 0 (chars text) (front ++ t ∷ here) rest → run whole_wants (signs text front) ≡ Some us
+    → feed us t.kind (bytes_at text t.span) ≡ None → BeginsPath text (front ++ t ∷ []) → ⊥
+never_begins text front here t rest us read ran refused b =
+    let all = front ++ t ∷ [] in
+    let k = kept all here (chars text) rest (subst (λ ps. TokensAt 0 (chars text) ps rest) (sym (append_assoc front (t ∷ []) here)) read) in
+    let within : Within (end_of all) all = subst (λ n. Within n all) (sym (sym (reach_end all) ∙ k.end)) k.within in
+    let s : Sign = record { kind = t.kind; word = bytes_at text t.span } in
+    let later = signs b.whole b.later in
+    let all_signs : signs b.whole (all ++ b.later) ≡ signs text front ++ s ∷ later =
+    signs_upon b.whole all b.later ∙ (ap (λ x. x ++ later) (signs_same (end_of all) b.whole text all b.same within ∙ signs_upon text front (t ∷ [])) ∙ append_assoc (signs text front) (s ∷ []) later) in
+    let ran_all = all_ran b.whole whole_wants (all ++ b.later) (read_ends b.whole (all ++ b.later) b.path (complete_path b.whole (all ++ b.later) b.path b.spelled)) in
+    let none : run whole_wants (signs b.whole (all ++ b.later)) ≡ None = ap (run whole_wants) all_signs ∙ nothing_helps whole_wants us (signs text front) later s ran refused in
+    cc (ran_all.1, none)
+
+-- the places
+
+end_last : (front : Lexemes) (t : Lexeme) → end_of (front ++ t ∷ []) ≡ t.span.pos + t.span.offset
+end_last [] t = refl
+end_last (p ∷ []) t = refl
+end_last (p ∷ q ∷ ps) t = end_last (q ∷ ps) t
+
+refused_token : (text : List ℕ) (ts later : Lexemes) (t : Lexeme) (rest : List ℕ) → IsUtf8 text → TokensAt 0 (chars text) ts rest → stop text whole_wants ts ≡ Some (t ∷ later)
+    → RefusedAt text (place_in text (t.span.pos + t.span.offset))
+refused_token text ts later t rest utf8 read h =
+    let s = stopped text whole_wants ts (t ∷ later) h in
+    let front = s.0.front in
+    let tokens = subst (λ ps. TokensAt 0 (chars text) ps rest) s.0.split read in
+    subst (λ n. RefusedAt text (place_in text n)) (end_last front t)
+    (at_token front later t rest tokens (begins text front (t ∷ later) rest s.0.left utf8 tokens s.0.ran) (never_begins text front later t rest s.0.left tokens s.0.ran s.1))
+
+-- all tokens may begin a path
+begins_all : (text : List ℕ) (ts : Lexemes) (rest : List ℕ) → IsUtf8 text → TokensAt 0 (chars text) ts rest → (stop text whole_wants ts ≡ Some []) ⊎ (stop text whole_wants ts ≡ None) → BeginsPath text ts
+begins_all text ts rest utf8 read (inl h) =
+    let s = stopped text whole_wants ts [] h in
+    let same : ts ≡ s.0.front = s.0.split ∙ append-nil s.0.front in
+    let tokens = subst (λ ps. TokensAt 0 (chars text) ps rest) s.0.split read in
+    subst (BeginsPath text) (sym same) (begins text s.0.front [] rest s.0.left utf8 tokens s.0.ran)
+begins_all text ts rest utf8 read (inr h) =
+    let r = all_ran text whole_wants ts h in
+    begins text ts [] rest r.0 utf8 (subst (λ ps. TokensAt 0 (chars text) ps rest) (sym (append-nil ts)) read) r.1
+
+spelled_stops : (text : List ℕ) (ts : Lexemes) (p : Path) → SpellsPath text p ts → stop text whole_wants ts ≡ None
+spelled_stops text ts p h = read_ends text ts p (complete_path text ts p h)
+
+tile_end : (from to : ℕ) (ps : Lexemes) → Tile from ps to → reach from ps ≡ to
+tile_end from to [] h = h
+tile_end from to (p ∷ []) h = ap (λ n. n + p.span.offset) h.0 ∙ h.1
+tile_end from to (p ∷ q ∷ ps) h = tile_end (from + p.span.offset) to (q ∷ ps) h.1
+
+all_tokens : (text : List ℕ) (ts : Lexemes) → ts ≡ (reading_from 0 0 (chars text)).lexemes → TokensAt 0 (chars text) ts (reading_from 0 0 (chars text)).rest
+all_tokens text ts same =
+    subst (λ ps. TokensAt 0 (chars text) ps (reading_from 0 0 (chars text)).rest) (sym same) (reads (suc (length (chars text))) 0 (chars text) (omega arith))
+
+-- the character behind all tokens, if they may begin a path
+refused_character : (text : List ℕ) (ts : Lexemes) (pos c : ℕ) (cs : List ℕ) → Tile 0 ts pos → TokensAt 0 (chars text) ts (c ∷ cs) → BeginsPath text ts → RefusedAt text (behind_character text pos (c ∷ cs))
+refused_character text ts pos c cs tile read b =
+    subst (λ n. RefusedAt text (if is_quote c then Eof else place_in text (n + len_utf8 c))) (sym (reach_end ts) ∙ tile_end 0 pos ts tile) (at_character ts c cs read b)
+
+module _ (text : List ℕ) (ts : Lexemes) (p : Place) (utf8 : IsUtf8 text) (same : ts ≡ (reading_from 0 0 (chars text)).lexemes) (left : (reading_from 0 0 (chars text)).rest ≡ ahead p) (tile : Tile 0 ts p.pos) where
+  -- where the tokens stop, or what is behind them
+  pub refused_there : (here : Lexemes) → stop text whole_wants ts ≡ Some here → RefusedAt text (refused_place text here p)
+  refused_there (t ∷ later) h = refused_token text ts later t _ utf8 (all_tokens text ts same) h
+  refused_there [] h = by_left (ahead p) left
+    where
+      by_left : (cs : List ℕ) → (reading_from 0 0 (chars text)).rest ≡ cs → RefusedAt text (behind_character text p.pos cs)
+      by_left [] e =
+          let read = subst (TokensAt 0 (chars text) ts) e (all_tokens text ts same) in
+          at_end ts read (begins_all text ts [] utf8 read (inl h)) (λ g. cc (h, spelled_stops text ts g.0 (subst (SpellsPath text g.0) (sym same) (found_spelled text g.0 g.1).1)))
+      by_left (c ∷ cs) e =
+          let read = subst (TokensAt 0 (chars text) ts) e (all_tokens text ts same) in
+          refused_character text ts p.pos c cs tile read (begins_all text ts (c ∷ cs) utf8 read (inl h))
+
+  -- all the tokens are a path, and something is behind them
+  pub refused_behind : (q : Path) → SpellsPath text q ts → (ahead p ≡ [] → ⊥) → RefusedAt text (behind_character text p.pos (ahead p))
+  refused_behind q spelled some = by_left (ahead p) left some
+    where
+      by_left : (cs : List ℕ) → (reading_from 0 0 (chars text)).rest ≡ cs → (cs ≡ [] → ⊥) → RefusedAt text (behind_character text p.pos cs)
+      by_left [] e some = absurd (some refl)
+      by_left (c ∷ cs) e some =
+          let read = subst (TokensAt 0 (chars text) ts) e (all_tokens text ts same) in
+          refused_character text ts p.pos c cs tile read (begins_all text ts (c ∷ cs) utf8 read (inr (spelled_stops text ts q spelled)))

@@ -1,0 +1,268 @@
+-- Whatever is wanted can be given: each stack has tokens that lead from it to the end of a path.
+use Rattle.std.proofs.Common.{◌≡◌, ℕ, Bool, true, false, List, [], ◌∷◌, Option, Some, None, refl, ◌∙◌, ap}
+use Rattle.std.specs.Prelude.{◌++◌, ◌&&◌, is_some}
+use Rattle.std.proofs.lemmas.Bool.{and_parts}
+use Rattle.jsonpath_paths.specs.declared.token.tokens.Kind.{Kind}
+use Rattle.jsonpath_paths.specs.declared.token.tokens.Kind.TheVariants as k
+use Rattle.jsonpath_paths.specs.Numbers.{index_of, range_step_of, decimal_of, fraction_of}
+use Rattle.jsonpath_paths.specs.plan.Wants.{Want, Sign, dollar, blanks, steps, step, word, after_dot, after_dots, close, inner, plain, indexes_range_or_names, range_or_names, after_first_index, more_indexes, index, range_to, range_by, range_step, after_name, more_names, quoted, open_group, condition, part, candidate_tail, behind_blank, tail, sign, term, literal, fraction, digits, move, moved, feed, run, run_on, may_pass, may_end, passes, if_word}
+
+-- the stack is led to the end of a path by these tokens
+pub record Ends (ws : List Want) (ts : List Sign) : Type 0 where
+  pub left : List Want
+  pub ran : run ws ts ≡ Some left
+  pub ended : may_end left ≡ true
+
+-- the tokens that end what is wanted
+pub data Ender : Type 0 where
+  dollar_sign bracket parenthesis opening name candidate not_equal star naught : Ender
+
+abbrev pub kind_of : Ender → Kind
+kind_of dollar_sign = k.Absolute
+kind_of bracket = k.CloseArray
+kind_of parenthesis = k.CloseParenthesis
+kind_of opening = k.OpenParenthesis
+kind_of name = k.SingleQuoted
+kind_of candidate = k.At
+kind_of not_equal = k.NotEqual
+kind_of star = k.Asterisk
+kind_of naught = k.Key
+
+-- its characters, which are bytes
+abbrev pub word_of : Ender → List ℕ
+word_of dollar_sign = 36 ∷ []
+word_of bracket = 93 ∷ []
+word_of parenthesis = 41 ∷ []
+word_of opening = 40 ∷ []
+word_of name = 39 ∷ 39 ∷ []
+word_of candidate = 64 ∷ []
+word_of not_equal = 33 ∷ 61 ∷ []
+word_of star = 42 ∷ []
+word_of naught = 48 ∷ []
+
+abbrev pub sign_of : Ender → Sign
+sign_of e = record { kind = kind_of e; word = word_of e }
+
+abbrev pub signs_of : List Ender → List Sign
+signs_of [] = []
+signs_of (e ∷ es) = sign_of e ∷ signs_of es
+
+-- what ends a want; nothing, where the want may be given up for whatever ends another
+abbrev pub ending : Want → List Ender
+ending dollar = dollar_sign ∷ []
+ending word = star ∷ []
+ending (after_dot n) = star ∷ []
+ending (after_dots n) = star ∷ []
+ending close = bracket ∷ []
+ending (inner n) = star ∷ []
+ending plain = star ∷ []
+ending indexes_range_or_names = name ∷ []
+ending range_or_names = name ∷ []
+ending index = naught ∷ []
+ending range_to = naught ∷ []
+ending range_step = naught ∷ []
+ending quoted = name ∷ []
+ending open_group = opening ∷ []
+ending (condition n) = candidate ∷ parenthesis ∷ []
+ending (part n) = candidate ∷ parenthesis ∷ []
+ending (candidate_tail n) = parenthesis ∷ []
+ending (behind_blank n) = parenthesis ∷ []
+ending (tail n) = parenthesis ∷ []
+ending sign = not_equal ∷ []
+ending (term n) = candidate ∷ []
+ending literal = name ∷ []
+ending digits = naught ∷ []
+ending _ = []
+
+-- a want that is ended by nothing
+pub data Silent : Want → Type 0 where
+  blanks_s : Silent blanks
+  steps_s : {n : ℕ} → Silent (steps n)
+  first_s : Silent after_first_index
+  indexes_s : Silent more_indexes
+  by_s : Silent range_by
+  name_s : Silent after_name
+  names_s : Silent more_names
+  fraction_s : Silent fraction
+
+pub passing : {w : Want} → Silent w → may_pass w ≡ true
+passing blanks_s = refl
+passing steps_s = refl
+passing first_s = refl
+passing indexes_s = refl
+passing by_s = refl
+passing name_s = refl
+passing names_s = refl
+passing fraction_s = refl
+
+-- it is given up for each of them
+pub given_up : {w : Want} → Silent w → (e : Ender) → move w (kind_of e) (word_of e) ≡ passes
+given_up blanks_s dollar_sign = refl
+given_up blanks_s bracket = refl
+given_up blanks_s parenthesis = refl
+given_up blanks_s opening = refl
+given_up blanks_s name = refl
+given_up blanks_s candidate = refl
+given_up blanks_s not_equal = refl
+given_up blanks_s star = refl
+given_up blanks_s naught = refl
+given_up steps_s dollar_sign = refl
+given_up steps_s bracket = refl
+given_up steps_s parenthesis = refl
+given_up steps_s opening = refl
+given_up steps_s name = refl
+given_up steps_s candidate = refl
+given_up steps_s not_equal = refl
+given_up steps_s star = refl
+given_up steps_s naught = refl
+given_up first_s dollar_sign = refl
+given_up first_s bracket = refl
+given_up first_s parenthesis = refl
+given_up first_s opening = refl
+given_up first_s name = refl
+given_up first_s candidate = refl
+given_up first_s not_equal = refl
+given_up first_s star = refl
+given_up first_s naught = refl
+given_up indexes_s dollar_sign = refl
+given_up indexes_s bracket = refl
+given_up indexes_s parenthesis = refl
+given_up indexes_s opening = refl
+given_up indexes_s name = refl
+given_up indexes_s candidate = refl
+given_up indexes_s not_equal = refl
+given_up indexes_s star = refl
+given_up indexes_s naught = refl
+given_up by_s dollar_sign = refl
+given_up by_s bracket = refl
+given_up by_s parenthesis = refl
+given_up by_s opening = refl
+given_up by_s name = refl
+given_up by_s candidate = refl
+given_up by_s not_equal = refl
+given_up by_s star = refl
+given_up by_s naught = refl
+given_up name_s dollar_sign = refl
+given_up name_s bracket = refl
+given_up name_s parenthesis = refl
+given_up name_s opening = refl
+given_up name_s name = refl
+given_up name_s candidate = refl
+given_up name_s not_equal = refl
+given_up name_s star = refl
+given_up name_s naught = refl
+given_up names_s dollar_sign = refl
+given_up names_s bracket = refl
+given_up names_s parenthesis = refl
+given_up names_s opening = refl
+given_up names_s name = refl
+given_up names_s candidate = refl
+given_up names_s not_equal = refl
+given_up names_s star = refl
+given_up names_s naught = refl
+given_up fraction_s dollar_sign = refl
+given_up fraction_s bracket = refl
+given_up fraction_s parenthesis = refl
+given_up fraction_s opening = refl
+given_up fraction_s name = refl
+given_up fraction_s candidate = refl
+given_up fraction_s not_equal = refl
+given_up fraction_s star = refl
+given_up fraction_s naught = refl
+
+pub pass_ends : {w : Want} → Silent w → (ws : List Want) (es : List Ender) → Ends ws (signs_of es) → Ends (w ∷ ws) (signs_of es)
+pass_ends {w = w} s ws [] h =
+    record { left = w ∷ h.left; ran = ap (λ o. run_on o (λ us. Some (w ∷ us))) h.ran; ended = ap (λ b. b && may_end h.left) (passing s) ∙ h.ended }
+pass_ends {w = w} s ws (e ∷ es) h =
+    record { left = h.left; ran = ap (λ m. run_on (moved m ws (feed ws (kind_of e) (word_of e))) (λ us. run us (signs_of es))) (given_up s e) ∙ h.ran; ended = h.ended }
+
+zero_is_index : is_some (index_of (48 ∷ [])) ≡ true
+unfolding index_of
+zero_is_index = refl
+
+zero_is_step : is_some (range_step_of (48 ∷ [])) ≡ true
+unfolding range_step_of
+zero_is_step = refl
+
+zero_is_fraction : is_some (decimal_of (48 ∷ []) (48 ∷ [])) ≡ true
+unfolding decimal_of fraction_of
+zero_is_fraction = refl
+
+by_word : (b : Bool) (us ws : List Want) (later : Option (List Want)) (ts : List Sign) (left : List Want) → b ≡ true → run (us ++ ws) ts ≡ Some left
+    → run_on (moved (if_word b us) ws later) (λ vs. run vs ts) ≡ Some left
+by_word b us ws later ts left e h = ap (λ b. run_on (moved (if_word b us) ws later) (λ vs. run vs ts)) e ∙ h
+
+-- a step by itself stands on no stack
+abbrev pub real : Want → Bool
+real (step n) = false
+real _ = true
+
+abbrev pub all_real : List Want → Bool
+all_real [] = true
+all_real (w ∷ ws) = real w && all_real ws
+
+-- what is wanted first is ended before the others are
+pub end_first : (w : Want) (ws : List Want) (es : List Ender) → real w ≡ true → Ends ws (signs_of es) → Ends (w ∷ ws) (signs_of (ending w ++ es))
+end_first blanks ws es r h = pass_ends blanks_s ws es h
+end_first (steps n) ws es r h = pass_ends steps_s ws es h
+end_first after_first_index ws es r h = pass_ends first_s ws es h
+end_first more_indexes ws es r h = pass_ends indexes_s ws es h
+end_first range_by ws es r h = pass_ends by_s ws es h
+end_first after_name ws es r h = pass_ends name_s ws es h
+end_first more_names ws es r h = pass_ends names_s ws es h
+end_first fraction ws es r h = pass_ends fraction_s ws es h
+end_first (inner n) ws es r h = let b = pass_ends blanks_s ws es h in record { left = b.left; ran = b.ran; ended = b.ended }
+end_first (term n) ws es r h = let b = pass_ends (steps_s {n = n}) ws es h in record { left = b.left; ran = b.ran; ended = b.ended }
+end_first index ws es r h = record { left = h.left; ran = by_word (is_some (index_of (48 ∷ []))) [] ws _ (signs_of es) h.left zero_is_index h.ran; ended = h.ended }
+end_first range_to ws es r h =
+    let b = pass_ends blanks_s ws es h in record { left = b.left; ran = by_word (is_some (index_of (48 ∷ []))) (blanks ∷ []) ws _ (signs_of es) b.left zero_is_index b.ran; ended = b.ended }
+end_first range_step ws es r h =
+    let b = pass_ends blanks_s ws es h in record { left = b.left; ran = by_word (is_some (range_step_of (48 ∷ []))) (blanks ∷ []) ws _ (signs_of es) b.left zero_is_step b.ran; ended = b.ended }
+end_first digits ws es r h = record { left = h.left; ran = by_word (is_some (decimal_of (48 ∷ []) (48 ∷ []))) [] ws _ (signs_of es) h.left zero_is_fraction h.ran; ended = h.ended }
+end_first (step n) ws es r h = cc
+end_first word ws es r h = record { left = h.left; ran = h.ran; ended = h.ended }
+end_first plain ws es r h = let b = pass_ends blanks_s ws es h in record { left = b.left; ran = b.ran; ended = b.ended }
+end_first indexes_range_or_names ws es r h = let b = pass_ends name_s ws es h in record { left = b.left; ran = b.ran; ended = b.ended }
+end_first range_or_names ws es r h = let b = pass_ends name_s ws es h in record { left = b.left; ran = b.ran; ended = b.ended }
+end_first literal ws es r h = record { left = h.left; ran = h.ran; ended = h.ended }
+end_first dollar ws es r h = record { left = h.left; ran = h.ran; ended = h.ended }
+end_first (after_dot n) ws es r h = record { left = h.left; ran = h.ran; ended = h.ended }
+end_first (after_dots n) ws es r h = record { left = h.left; ran = h.ran; ended = h.ended }
+end_first close ws es r h = record { left = h.left; ran = h.ran; ended = h.ended }
+end_first quoted ws es r h = record { left = h.left; ran = h.ran; ended = h.ended }
+end_first open_group ws es r h = record { left = h.left; ran = h.ran; ended = h.ended }
+end_first (condition n) ws es r h = record { left = h.left; ran = h.ran; ended = h.ended }
+end_first (part n) ws es r h = record { left = h.left; ran = h.ran; ended = h.ended }
+end_first (candidate_tail n) ws es r h = record { left = h.left; ran = h.ran; ended = h.ended }
+end_first (behind_blank n) ws es r h = record { left = h.left; ran = h.ran; ended = h.ended }
+end_first (tail n) ws es r h = record { left = h.left; ran = h.ran; ended = h.ended }
+end_first sign ws es r h = record { left = h.left; ran = h.ran; ended = h.ended }
+
+-- each stack has tokens that lead from it to the end of a path
+abbrev pub endings : (ws : List Want) → List Ender
+endings [] = []
+endings (w ∷ ws) = ending w ++ endings ws
+
+pub all_end : (ws : List Want) → all_real ws ≡ true → Ends ws (signs_of (endings ws))
+all_end [] r = record { left = []; ran = refl; ended = refl }
+all_end (w ∷ ws) r = let both = and_parts (real w) (all_real ws) r in end_first w ws (endings ws) both.0 (all_end ws both.1)
+
+run_on_behind : (o : Option (List Want)) (ts us : List Sign) → ((vs : List Want) → run vs (ts ++ us) ≡ run_on (run vs ts) (λ ws. run ws us))
+    → run_on o (λ vs. run vs (ts ++ us)) ≡ run_on (run_on o (λ vs. run vs ts)) (λ vs. run vs us)
+run_on_behind None ts us h = refl
+run_on_behind (Some vs) ts us h = h vs
+
+pub run_behind : (ws : List Want) (ts us : List Sign) → run ws (ts ++ us) ≡ run_on (run ws ts) (λ vs. run vs us)
+run_behind ws [] us = refl
+run_behind ws (t ∷ ts) us = run_on_behind (feed ws t.kind t.word) ts us (λ vs. run_behind vs ts us)
+
+-- tokens that may come one after the other go on to the end of a path
+pub goes_on : (ws us : List Want) (ts : List Sign) → run ws ts ≡ Some us → all_real us ≡ true → Ends ws (ts ++ signs_of (endings us))
+goes_on ws us ts h r =
+    let e = all_end us r in
+    record { left = e.left; ran = run_behind ws ts (signs_of (endings us)) ∙ ap (λ o. run_on o (λ vs. run vs (signs_of (endings us)))) h ∙ e.ran; ended = e.ended }
+
+-- and behind a token that may not come next nothing helps
+pub nothing_helps : (ws us : List Want) (ts more : List Sign) (t : Sign) → run ws ts ≡ Some us → feed us t.kind t.word ≡ None → run ws (ts ++ t ∷ more) ≡ None
+nothing_helps ws us ts more t h e =
+    run_behind ws ts (t ∷ more) ∙ ap (λ o. run_on o (λ vs. run vs (t ∷ more))) h ∙ ap (λ o. run_on o (λ vs. run vs more)) e
