@@ -10,6 +10,6 @@ cd "$(dirname "${BASH_SOURCE[0]}")/.." || exit 1
     crate=${crate#crates/}
     echo "${crate%%/*}"
 done | sort -u | while read -r crate; do
-    [ -e "crates/$crate/out/rlib/$crate.rlib" ] || rt lib "$crate" < /dev/null > /dev/null 2>&1
+    [ -e "crates/$crate/out/rlib/$crate.rlib" ] || (cd "crates/$crate" && rt lib < /dev/null > /dev/null 2>&1)
 done
 PYTHONDONTWRITEBYTECODE=1 exec python3 checks/bodies.py "$@"

@@ -21,26 +21,25 @@ use jsonpath_nodes::laws::spots_show_their_locations;
 use jsonpath_nodes::{Location, compute_paths};
 use std::alloc::Global;
 
-/// The result of an edit: the edited text, and what the path selects.
+/// The result of an edit of a document: the edited text, and what the path of the edit selects.
 #[derive(Drop)]
 pub struct Edited {
     /// The text of the edited document.
     pub text: Vec<u8>,
-    /// How many locations below the root the path selects.
+    /// How many locations below the root the path of the edit selects.
     pub targets: usize,
-    /// Whether the path selects the root, which no edit changes.
+    /// Whether the path of the edit selects the root, which no edit changes.
     pub selects_root: bool,
 }
 
-/// The edited text of a document, for an edit by one path: `change` is made, all at once, at each selected value
-/// below the root that lies in no other selected value below the root. `text` is the text that the document was read
-/// from. To replace a value, its own text is replaced; to remove it, the whole member or item goes, with its name and
-/// colon, the blanks around it, and at most one comma on either side. If the object has the name several times, each
-/// of these members is removed. Every other byte stays.
+/// The edited text of a document, for an edit by one path: `change` is made, all at once, at each selected value below
+/// the root that lies in no other selected value below the root. `text` is the text that the document was read from. To
+/// replace a value, its own text is replaced; to remove it, the whole member or item is removed, with its name and
+/// colon, the blanks around it, and one comma, before or after it, if there is one. If an object has the name several
+/// times, each of these members is removed. Every other byte of the text stays.
 ///
 /// The edited text is read again before it is returned. Errors: `EditNests` if it nests too deep to be read;
-/// `EditDiffers` if what is read is not the changed document, which would be a fault of this library; or
-/// `OutOfMemory`.
+/// `EditDiffers` if what is read is not the changed document, which would be a fault of this library; or `OutOfMemory`.
 pub fn edit_text(
     alloc: Global,
     text: &str,

@@ -9,8 +9,8 @@ ghost use Rattle.jpath_edits.specs.ExactAt.{exact_child, exact_at};
 use json::Value as Exact;
 use jsonpath_nodes::{PathStep, Steps};
 
-/// The value at the location that these steps lead to in an exact tree, which keeps each number as it is written;
-/// `None` if there is none. It takes no memory.
+/// The value at the location that these steps lead to in an exact tree, the tree of a JSON text that keeps each number
+/// as it is written; `None` if there is no value. It takes no memory.
 pub fn exact_value_at_steps<'v, 'a>(
     root: &'v Exact<'a>,
     steps: Steps<'_, '_>,
@@ -23,8 +23,9 @@ pub fn exact_value_at_steps<'v, 'a>(
     }
 }
 
-/// The same as `exact_value_at_steps`, for a tree whose numbers are all numbers of JSON, as those of any text are: the
-/// clauses say that those of the value are, too, so that it can be printed.
+/// The value at the location that these steps lead to in an exact tree, the tree of a JSON text that keeps each number
+/// as it is written; `None` if there is no value. The numbers of the tree have to be numbers of JSON, as those of any
+/// text are; the contract says that those of the value are, too, so that it can be printed.
 pub fn printable_value_at_steps<'v, 'a>(
     root: &'v Exact<'a>,
     steps: Steps<'_, '_>,

@@ -13,8 +13,8 @@ use jsonpath_select::{JsonPathError, select_path, select_tokens, tokens_fit};
 use serde_json::Value;
 use std::alloc::Global;
 
-/// The nodes that a path selects in a document, in the path's order, with duplicates. They are nodes of the
-/// document's image, the copy on which paths are run.
+/// The nodes that a path selects in a document, in the path's order, with duplicates. They are nodes of the document's
+/// image, the copy of it on which paths are run.
 pub fn select_in_document<'v>(
     alloc: Global,
     document: &'v Document<'_>,
@@ -25,8 +25,8 @@ pub fn select_in_document<'v>(
     select_in_image(alloc, &document.image, &document.numbers, query)
 }
 
-/// The nodes that a path selects in the image of a document, the copy on which paths are run, or in a value of it,
-/// which is then the path's `$`. `numbers` says how the image represents the numbers of the document.
+/// The nodes that a path selects in the image of a document, the copy on which paths are run, or in a value of this
+/// image, which is then the path's `$`. `numbers` says how the image represents the numbers of the document.
 pub fn select_in_image<'v>(
     alloc: Global,
     image: &'v Value,

@@ -13,12 +13,12 @@ use json::Value as Exact;
 use jsonpath_nodes::Location;
 use std::alloc::Global;
 
-/// What an edit does with each value that its path selects.
+/// What an edit does with each value that the edit's path selects.
 #[derive(Clone, Copy, Debug, Drop)]
 pub enum Change<'c> {
-    /// Replaces it by this text.
+    /// Replaces each selected value by this JSON text.
     Put(&'c str),
-    /// Removes it, with its comma and the blanks before it.
+    /// Removes each selected value, with its comma and the blanks before it.
     Take,
 }
 
@@ -34,10 +34,10 @@ impl<'c> Change<'c> {
     }
 }
 
-/// The text of a document with `change` made at each of the locations below the root that has none of the others
-/// above it, all at once. `exact` is the exact tree of the text, and `places` is in document order. Errors:
-/// `EditDiffers` if a replaced part of the text, read again, is not the value at its location, which would be a fault
-/// of this library; or `OutOfMemory`.
+/// The text of a document with `change` made, all at once, at each of the locations `places` that is below the root and
+/// has no ancestor among them. `exact` is the document's exact tree, which keeps numbers as written, and `places` is in
+/// document order. Errors: `EditDiffers` if a replaced part of the text, read again, is not the value at its location,
+/// which would be a fault of this library; or `OutOfMemory`.
 pub fn changed_text(
     alloc: Global,
     text: &str,

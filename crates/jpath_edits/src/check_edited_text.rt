@@ -41,10 +41,10 @@ fn document_with_change(
     }
 }
 
-/// Whether the bytes, read again, are the document of this text with the change made at these locations. `image` is
-/// the document as `serde_json` reads it, `None` if it rejects a number; then, and if it rejects a number of the new
-/// value, all numbers count as equal. False if the bytes are no UTF-8. The error `EditNests` means that they are
-/// UTF-8 but can't be read, as a document that nests too deep.
+/// Whether the bytes of an edited text, read again, are the document of the original text with the change made at these
+/// locations. `image` is the original document as `serde_json` reads it, `None` if it rejects a number; then, and if it
+/// rejects a number of the new value, all numbers count as equal. False if the bytes are no UTF-8. The error
+/// `EditNests` means that they are UTF-8 but can't be read, as a document that nests too deep.
 pub fn are_bytes_of_changed_document(
     alloc: Global,
     text: &str,

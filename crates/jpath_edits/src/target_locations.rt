@@ -7,7 +7,8 @@ ghost use Rattle.jpath_edits.specs.Changed.{below_root};
 use jsonpath_nodes::Location;
 use std::alloc::{AllocError, Global};
 
-/// The locations without the root. They are in document order, each once, so only the first can be the root.
+/// The locations of a list without the root. The list is in document order, each once, so only its first can be the
+/// root.
 pub fn locations_below_root(places: &[Location]) -> &[Location]
     ensures { result.now ≡ below_root places.now }
 {

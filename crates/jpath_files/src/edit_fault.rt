@@ -6,28 +6,29 @@ ghost use Rattle.jpath_files.specs.FaultWords.{fault_words};
 use std::fmt::{self, Display, Formatter};
 use std::io;
 
-/// Why a file is not edited in place.
+/// Why a file could not be edited in place.
 #[derive(Debug, Drop)]
 pub enum EditFault {
-    /// It is a folder, a pipe, a device or the like.
+    /// The file is no regular file, but a folder, a pipe, a device or the like.
     NotRegular,
-    /// It has so many names, and an edit under one of them would part it from the others.
+    /// The file has this number of names (hard links), and a new file in its place would replace only one of them.
     HardLinks(u64),
-    /// Another program holds a lock on it.
+    /// Another program has a lock on the file.
     Locked,
-    /// It can't be locked.
+    /// The file can't be locked.
     NoLock(io::Error),
-    /// It was changed after it was read.
+    /// The file, or the new file beside it, was changed by another program while the file was edited.
     Changed,
     /// The edited text is longer than a file may be (`ulimit -f`).
     TooLong,
-    /// A new file in its place can't have its owner, group and mode.
+    /// The new file, which should replace the edited one, can't have that one's owner, group and mode.
     OwnerLost,
-    /// A part of the edited text is in the file, and its old text can't be put back.
+    /// A write into the file failed: a part of the edited text is in it, and its old text can't be restored.
     Torn(io::Error),
-    /// The edited text is in the file, and the folder can't be seen to be on the disk.
+    /// The edited text is in the file, but a call that forces the folder to the disk failed, so it may be lost in a
+    /// crash.
     Unsynced(io::Error),
-    /// A call of the system failed.
+    /// A system call failed before anything of the file was changed, or all was restored.
     Failed(io::Error),
 }
 

@@ -3,7 +3,8 @@
 use std::cell::Cell;
 use std::io::{self, ErrorKind, Read, Write};
 
-/// A reader of a file that prints each error on standard error, with the file's name, and returns it.
+/// A reader of a file that prints each error of a read on standard error, with the file's name, and also returns it. An
+/// interrupted read is not printed.
 #[derive(Drop)]
 pub struct FaultTellingReader<'r, T, R> {
     pub rt: &'r T,
@@ -29,8 +30,8 @@ impl<'r, T: Eprint, R: Read> Read for FaultTellingReader<'r, T, R> {
     }
 }
 
-/// A writer to standard output that prints each error of a write on standard error and returns it. A closed pipe is
-/// not reported: `is_pipe_closed` is set.
+/// A writer to standard output that prints each error of a write on standard error, and also returns it. A closed pipe
+/// is not printed: `is_pipe_closed` is set. Nor is an interrupted write.
 #[derive(Drop)]
 pub struct FaultTellingWriter<'r, 'c, T, W> {
     pub rt: &'r T,

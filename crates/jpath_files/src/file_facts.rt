@@ -9,27 +9,27 @@ use std::os::unix::fs::MetadataExt;
 // The bits of a mode that say who may do what.
 const RIGHTS: u32 = 0o7777;
 
-/// What the system knows of a file.
+/// What the system knows of a file: its owner, rights, size, times, names and so on.
 #[derive(Clone, Copy, Debug, Drop, PartialEq, Eq)]
 pub struct FileFacts {
     pub is_regular: bool,
-    /// How many names it has.
+    /// How many names (hard links) the file has.
     pub links: u64,
     pub device: u64,
     pub inode: u64,
     pub size: u64,
-    /// When its bytes changed last: seconds since 1970, and nanoseconds.
+    /// When the file's bytes changed last: seconds since 1970, and nanoseconds.
     pub modified: (i64, i64),
-    /// When its bytes or anything of these facts changed last.
+    /// When the file's bytes, owner, rights or number of names changed last: seconds since 1970, and nanoseconds.
     pub changed: (i64, i64),
-    /// Who may read, write and run it.
+    /// The permission bits of the file's mode: who may read, write and run it.
     pub rights: u32,
     pub owner: u32,
     pub group: u32,
 }
 
 impl FileFacts {
-    /// The facts of a file by what the system knows of it.
+    /// The facts of a file, taken from its `Metadata`.
     pub fn of_metadata(found: &Metadata) -> FileFacts
         ensures regular { IsTrue result.is_regular ↔ IsFile (file_type found.now) }
         ensures size { result.size ≡ metadata_len found.now }
@@ -49,14 +49,14 @@ impl FileFacts {
         }
     }
 
-    /// Whether a file belongs to the same owner and group as another.
+    /// Whether the two files with these facts belong to the same owner and group.
     pub fn has_same_owner(&self, other: &FileFacts) -> bool
         ensures { IsTrue result ↔ ((self.now.owner ≡ other.now.owner) × (self.now.group ≡ other.now.group)) }
     {
         self.owner == other.owner && self.group == other.group
     }
 
-    /// Whether these are of the same file, whatever was done to it between.
+    /// Whether these facts are of one file, of the same device and inode, even if it was changed in between.
     pub fn is_same_file(&self, other: &FileFacts) -> bool
         ensures { IsTrue result ↔ ((self.now.device ≡ other.now.device) × (self.now.inode ≡ other.now.inode)) }
     {

@@ -15,27 +15,27 @@ const TRIES: u32 = 500;
 
 const WAIT_MILLISECONDS: u64 = 20;
 
-/// How the edited text comes into a file.
+/// How an edited text is written to a file: by a new file, or into the file itself.
 #[derive(Clone, Copy, Debug, Drop, PartialEq, Eq)]
 pub enum Way {
-    /// A new file takes its place.
+    /// A new file with the edited text replaces the file.
     NewFile,
-    /// It is written into the file.
+    /// The edited text is written into the file itself.
     IntoFile,
 }
 
-/// A regular file that is open to be edited. While it is open it is locked for other edits.
+/// A regular file that is open to be edited in place. While it is open it is locked for other edits.
 #[derive(Drop)]
 pub struct FileToEdit<'r> {
     pub disk: HostDisk<'r>,
-    /// What it was when it was opened.
+    /// The facts of the file (owner, size, times and so on) when it was opened.
     pub found: FileFacts,
     pub way: Way,
 }
 
-/// Opens a file to be edited in this way, and locks it; a symbolic link leads to its file. Where another edit has it,
-/// waits until that is done, some ten seconds at most. An error if it is no regular file, if it has several names and a
-/// new file is to take its place, if it stays locked, and if it can't be opened or locked.
+/// Opens a file to be edited in place, as `way` says, and locks it; for a symbolic link, the file that it leads to. If
+/// another edit has the file locked, waits until that is done, some ten seconds at most. An error if it is no regular
+/// file, if it has several names and `way` is `NewFile`, if it stays locked, or if it can't be opened or locked.
 pub fn open_to_edit<'r>(
     rt: &'r HostRuntime,
     name: &str,

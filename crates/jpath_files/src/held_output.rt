@@ -9,7 +9,7 @@ use std::mem;
 // From so many bytes on, what is held is handed on.
 const ROOM: usize = 65536;
 
-/// A buffer of output, and the writer that it goes to.
+/// A buffer of output bytes, and the writer to which the buffer is written.
 #[derive(Drop)]
 pub struct HeldOutput<W> {
     pub writer: W,
@@ -17,7 +17,7 @@ pub struct HeldOutput<W> {
 }
 
 impl<W: Output> HeldOutput<W> {
-    /// An empty buffer for the output to this writer.
+    /// An output buffer with no bytes, and this writer to which they will be written.
     pub fn new(alloc: Global, writer: W) -> HeldOutput<W>
         ensures writer { result.writer ≡ writer }
         ensures nothing { result.bytes.items ≡ [] }
@@ -28,9 +28,9 @@ impl<W: Output> HeldOutput<W> {
         }
     }
 
-    /// Appends a text to the buffer: all of it, or nothing if memory runs out. If the buffer is empty, it changes
-    /// places with `text` and no byte is copied; else `text` keeps its bytes. So the caller clears it before the
-    /// next text.
+    /// Appends a text to the output buffer: all of it, or nothing if memory runs out. If the buffer is empty, the two
+    /// `Vec`s are swapped and no byte is copied; else `text` keeps its bytes. So the caller clears `text` before the
+    /// next one.
     pub fn hold_text(&mut self, text: &mut Vec<u8>) -> Result<(), AllocError>
         ensures ok { OnOk result (W.written self.new.writer ++ self.new.bytes.items ≡ (W.written self.old.writer ++ self.old.bytes.items) ++ text.old.items) }
         ensures err { OnErr result (W.written self.new.writer ++ self.new.bytes.items ≡ W.written self.old.writer ++ self.old.bytes.items) }
@@ -42,8 +42,8 @@ impl<W: Output> HeldOutput<W> {
         self.bytes.extend_from_slice(text.as_slice())
     }
 
-    /// Writes the buffer out once it has `ROOM` bytes (64 KB) or more. If that fails, what was not written is still
-    /// in the buffer.
+    /// Writes the output buffer to the writer if it has `ROOM` bytes (64 KB) or more. If that fails, what was not
+    /// written is still in the buffer.
     pub fn flush_if_full(&mut self) -> Result<(), IoFailed>
         ensures same { W.written self.new.writer ++ self.new.bytes.items ≡ W.written self.old.writer ++ self.old.bytes.items }
         ensures relieved { OnOk result (length self.new.bytes.items < ROOM) }
@@ -56,7 +56,7 @@ impl<W: Output> HeldOutput<W> {
         self.flush()
     }
 
-    /// Writes the buffer out. If that fails, what was not written is still in the buffer.
+    /// Writes the output buffer to the writer. If that fails, what was not written is still in the buffer.
     pub fn flush(&mut self) -> Result<(), IoFailed>
         ensures same { W.written self.new.writer ++ self.new.bytes.items ≡ W.written self.old.writer ++ self.old.bytes.items }
         ensures flushed { OnOk result (self.new.bytes.items ≡ []) }

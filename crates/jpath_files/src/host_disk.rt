@@ -14,8 +14,8 @@ use std::path::PathBuf;
 // Who may read and write a new file before it has the mode of the old one: its owner alone.
 const OWNER_ALONE: u32 = 0o600;
 
-/// A file that is open, by the system's own calls. No clause of std says what they do: that they do what the clauses of
-/// `Disk` say is trusted. `model` notes each call that is made.
+/// The system calls of an edit in place, on a real file that is open. That they do what the contracts of the trait
+/// `Disk` say is trusted, not proved, since std's file calls have no contracts. For proofs it records each call made.
 #[derive(Drop)]
 pub struct HostDisk<'r> {
     rt: &'r HostRuntime,
@@ -32,7 +32,7 @@ pub struct HostDisk<'r> {
     model: DiskModel,
 }
 
-/// What the system knows of the file at this path.
+/// What the system knows of the file at this path: its owner, size, times and so on.
 pub(crate) fn facts_at(rt: &HostRuntime, path: &PathBuf) -> io::Result<FileFacts> {
     Ok(FileFacts::of_metadata(&fs::metadata(rt, path)?))
 }

@@ -10,13 +10,13 @@ use crate::file_to_edit::Way;
 use std::alloc::Global;
 use std::io::{self, ErrorKind};
 
-/// Puts bytes in the place of the content of a file that is open to be edited, and sees that they are on the disk.
-/// `found` is what was known of the file when it was opened. A new file beside it takes its place when it is whole
-/// and written, with its owner, group and mode; or the bytes are written into the file itself, as `way` says.
+/// Replaces the content of a file that is open to be edited by these bytes, and forces them to the disk. `found` has
+/// the facts of the file when it was opened. As `way` says, either a new file beside it replaces it, once that is
+/// complete and on the disk, with the same owner, group and mode; or the bytes are written into the file itself.
 ///
 /// It is an error if the file was changed since it was opened, if a new file can't have its owner, group and mode, or
-/// if a call of the system fails. The file is then as it was and nothing is left beside it, except with `Torn` and
-/// `Unsynced`. The contract holds provided that what the calls reported of both files was true.
+/// if a system call fails. The file is then as it was and nothing is left beside it, except with `Torn` and `Unsynced`.
+/// The contract holds provided that what the system calls reported of both files was true.
 pub fn put_in_place<D: Disk>(
     alloc: Global,
     disk: &mut D,

@@ -8,7 +8,8 @@ use crate::disk::{Call, Place};
 use crate::file_facts::FileFacts;
 use std::marker::Model;
 
-/// A file and the new file beside it, for proofs alone: at run time the type has no size.
+/// What is known of the file that is edited in place and of the new file beside it, for proofs alone: at run time the
+/// type has no size.
 #[derive(Drop)]
 pub struct DiskModel {
     ghost state: { DiskState },

@@ -13,13 +13,13 @@ use json_recognizer::{
 };
 use std::fmt::{self, Display, Formatter};
 
-/// Why a document has an error.
+/// Why a document of a file has an error.
 #[derive(Clone, Copy, Debug, Drop, PartialEq, Eq)]
 pub enum Reason {
-    /// A byte is wrong; what was wanted in its place.
+    /// A byte of the document is wrong; the field says what could have been in its place.
     Wrong(Wanted),
     EndsTooEarly,
-    /// It can't be used, or memory ran out.
+    /// The document can't be used, for this reason, or memory ran out.
     Other(DocumentRefusal),
 }
 
@@ -47,10 +47,11 @@ impl Display for Reason {
     }
 }
 
-/// Where and why a document of a file has an error. It prints as the line that reports it.
+/// The error of a document of a file: the file's name, the line and column, and the reason. It prints as the line on
+/// standard error that reports it.
 #[derive(Clone, Copy, Debug, Drop)]
 pub struct RefusedDocument<'n> {
-    /// The file's name.
+    /// The name of the file that has the document.
     pub name: &'n str,
     pub place: LineColumn,
     pub reason: Reason,
@@ -67,9 +68,9 @@ impl Display for RefusedDocument<'_> {
 }
 
 impl<'n> RefusedDocument<'n> {
-    /// The report of a piece of a file's stream that begins at this place: of the first byte with which no document goes
-    /// on, and of what was wanted there; of its end, where it cuts a document short; else of its first byte that is no
-    /// blank.
+    /// The error of a piece of a file's stream, which begins at `place`. It is at the first byte with which no document
+    /// goes on, with what could have been there; or at the piece's end, if a document is cut short there; or else, with
+    /// the reason `refusal`, at the first byte of the piece that is no blank.
     pub fn of_piece(
         name: &'n str,
         bytes: &[u8],

@@ -18,21 +18,23 @@ use json::{Scratch, Value as Exact};
 use serde_json::Value;
 use std::alloc::Global;
 
-/// A document: its exact tree, and its image, which paths are run on.
+/// A JSON document as `jpath` reads it: its exact tree, which keeps digits and the order of members, and its image, the
+/// `serde_json` value on which paths are run.
 #[derive(Drop)]
 pub struct Document<'a> {
-    /// The exact tree: numbers by their digits, members in their order. It borrows the text.
+    /// The exact tree of the document: numbers by their digits, members in the order of the text. It borrows the text.
     pub exact: Exact<'a>,
-    /// The image, on which paths are run: the same values, with the numbers as `numbers` says.
+    /// The image of the document, on which paths are run: the same values, with the numbers represented as the field
+    /// `numbers` says.
     pub image: Value,
-    /// How the image represents the numbers.
+    /// How the image, the copy of the document on which paths are run, represents its numbers.
     pub numbers: Numbers,
 }
 
 impl<'a> Document<'a> {
-    /// Reads a document from its text, for paths whose filters compare what `compared` says. Its tree borrows the
-    /// text, and `scratch`, which has the texts whose escapes were resolved. Errors: `NotADocument` if the text is
-    /// no JSON document, `HugeExponent` if an exponent is too long to compare, or `OutOfMemory`.
+    /// Reads a document from its text, for paths whose filters compare what `compared` says. The document's tree
+    /// borrows the text, and `scratch`, which has the texts whose escapes were resolved. Errors: `NotADocument` if the
+    /// text is no JSON document, `HugeExponent` if an exponent is too long to compare, or `OutOfMemory`.
     pub fn read(
         alloc: Global,
         text: &'a str,
@@ -51,8 +53,8 @@ impl<'a> Document<'a> {
         Document::of_exact_tree(alloc, text, exact, compared)
     }
 
-    /// The document of an exact tree, which was read from this text, for paths whose filters compare what `compared`
-    /// says. Errors: `HugeExponent` if an exponent is too long to compare, or `OutOfMemory`.
+    /// Makes a document of its exact tree, which was read from this text, for paths whose filters compare what
+    /// `compared` says. Errors: `HugeExponent` if an exponent is too long to compare, or `OutOfMemory`.
     pub fn of_exact_tree(
         alloc: Global,
         text: &str,

@@ -89,8 +89,9 @@ fn copy_members_if_numbers_fit(
     Ok(Some(Value::Object(images)))
 }
 
-/// Copies an exact tree to a `serde_json` value, each number replaced as `numbers` says. `numbers` must be `Ranked`
-/// or `Alike`: `Scaled` numbers may not fit, and for `AsRead`, which is no way to copy, each number would be 0.
+/// Copies an exact tree, which keeps each number as written, to a `serde_json` value, with each number replaced as
+/// `numbers` says. `numbers` must be `Ranked` or `Alike`: with `Scaled` a number may not fit, and with `AsRead`, which
+/// is no way to copy, each number would be 0.
 pub fn copy_with_numbers(
     alloc: Global,
     exact: &Exact<'_>,

@@ -13,8 +13,8 @@ use std::alloc::{AllocError, Global};
 use std::cmp::Ordering;
 
 /// A key by which numbers compare: keys are in the order of their numbers, and equal if the numbers are. The digits
-/// have no 0 in front and none at the end, and the number is 0.DIGITS times ten to the exponent. A negative number
-/// has its exponent negated, each digit subtracted from 9, and a last digit above all others.
+/// have no 0 in front and none at the end, and the number is 0.DIGITS times ten to the exponent. For a negative number,
+/// the exponent is negated, each digit is subtracted from 9, and a last digit above all others is added.
 #[derive(Debug, Drop, PartialEq, Eq, PartialOrd, Ord)]
 pub struct NumberKey {
     side: i8,
@@ -36,7 +36,7 @@ impl NumberKey {
         }
     }
 
-    /// Compares two keys by the numbers that they are made of.
+    /// Compares two keys: the result is the order of the numbers that they were made of.
     pub fn compare(&self, other: &NumberKey) -> Ordering
         ensures { (s t : List ℕ) → IsKeyOf s self.now → IsKeyOf t other.now → result ≡ text_cmp s t }
     {

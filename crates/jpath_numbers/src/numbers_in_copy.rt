@@ -22,21 +22,21 @@ use jsonpath_paths::{Decimal, ParseToken};
 use serde_json::Number;
 use std::alloc::Global;
 
-/// How the document copy that paths run on represents the numbers.
+/// How the copy of a document on which paths are run represents the document's numbers.
 #[derive(Drop)]
 pub enum Numbers {
-    /// Unchanged, as `serde_json` read them.
+    /// The copy has the numbers unchanged, as `serde_json` read them.
     AsRead,
-    /// Each times ten to this power, which makes it an integer.
+    /// The copy has each number times ten to this power, which makes each an integer.
     Scaled(u32),
-    /// Each by its rank among these keys, which ascend.
+    /// The copy has, for each number, its rank among these keys, which ascend.
     Ranked(Vec<NumberKey>),
-    /// All equal: nothing compares them.
+    /// The copy has the same number everywhere, since no filter compares numbers.
     Alike,
 }
 
 impl Numbers {
-    /// True if the document copy that paths run on has the numbers unchanged, as `serde_json` read them.
+    /// Whether the copy of a document on which paths are run has the numbers unchanged, as `serde_json` read them.
     pub fn is_as_read(&self) -> bool
         ensures { result ≡ is_as_read self.now }
     {
@@ -86,8 +86,8 @@ impl Numbers {
         }
     }
 
-    /// The token list of a path in which each number that a filter compares is replaced as the numbers of the copy are:
-    /// times the power of ten, or by its rank.
+    /// The token list of a path in which each number that a filter compares is replaced as the numbers of the
+    /// document's copy are: it is multiplied by the power of ten, or replaced by its rank.
     pub fn tokens_with_literals_placed(
         &self,
         alloc: Global,

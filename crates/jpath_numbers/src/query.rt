@@ -11,7 +11,7 @@ use jsonpath_paths::{
 };
 use std::alloc::Global;
 
-/// A compiled path, with its token list.
+/// A compiled path of `jpath`, with its token list.
 #[derive(Drop)]
 pub struct Query<'a> {
     path: PathParser<'a>,
@@ -20,12 +20,12 @@ pub struct Query<'a> {
     compares: bool,
 }
 
-/// What the filters of some paths compare: whether they compare any numbers, and which numbers the paths contain.
+/// What the filters of some paths compare: whether they compare any numbers, and which numbers the path texts contain.
 #[derive(Drop)]
 pub struct Compared {
-    /// Whether some filter compares what may be numbers: a side that is a text or a boolean is none.
+    /// Whether some filter of the paths compares what may be numbers; not if a side is a literal text or boolean.
     pub is_any: bool,
-    /// The numbers that the paths have as sides of comparisons.
+    /// The literal numbers that the filters of the paths compare.
     pub literals: Vec<Decimal>,
 }
 
@@ -52,14 +52,14 @@ impl<'a> Query<'a> {
         })
     }
 
-    /// The text of the path.
+    /// The text of this compiled path.
     pub fn text(&self) -> &'a str
         ensures { result.now ≡ self.now.path }
     {
         self.path.text()
     }
 
-    /// The compiled path.
+    /// The path of this query, as a compiled `PathParser`.
     pub fn path(&self) -> &PathParser<'a>
         ensures { result.now ≡ self.now.path }
     {
@@ -68,7 +68,8 @@ impl<'a> Query<'a> {
 }
 
 impl Compared {
-    /// What the filters of these paths compare. The only error is `OutOfMemory`.
+    /// What the filters of these paths compare: whether numbers, and which literal ones. The only error is
+    /// `OutOfMemory`.
     pub fn of_queries(alloc: Global, queries: &[Query<'_>]) -> Result<Compared, TokenError>
         ensures any { IfOk result (λ compared. All (λ q. q.compares ≡ true → compared.is_any ≡ true) queries.now) }
         ensures added { IfOk result (λ compared. All (λ q. HasSides compared.literals.items q.tokens.items (length q.tokens.items)) queries.now) }
@@ -84,7 +85,8 @@ impl Compared {
         Ok(compared)
     }
 
-    /// Adds what the filters of one more path compare. The only error is `OutOfMemory`.
+    /// Adds to what the filters of some paths compare what those of one more path compare. The only error is
+    /// `OutOfMemory`.
     pub fn add_query(&mut self, query: &Query<'_>) -> Result<(), TokenError>
         ensures any { OnOk result (self.new.is_any ≡ (self.old.is_any || query.now.compares)) }
         ensures kept { OnOk result (KeepsLiterals self.old.literals.items self.new.literals.items) }

@@ -2,7 +2,7 @@
 
 use json::Value as Exact;
 
-/// Whether the value contains, at any depth, a number that is not an integer of 64 bits.
+/// Whether the value contains, at any depth, a number that is not an integer of 64 bits, such as 1.5.
 #[cycle(unread)]
 pub fn has_unread_number(value: &Exact<'_>) -> bool {
     match value {

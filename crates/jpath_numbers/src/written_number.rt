@@ -5,7 +5,7 @@ ghost use Rattle.jpath_numbers.specs.NumberKey.{power};
 
 use fast_float::Numeral;
 
-/// Whether a text begins with a minus.
+/// Whether the text of a number begins with a minus sign.
 pub fn has_minus(bytes: &[u8]) -> bool
     ensures value { result ≡ (slice_index bytes.now 0 == 45) }
     ensures len { IsTrue result → 0 < length bytes.now }

@@ -17,24 +17,24 @@ use json::{Scratch, Value as Exact};
 use std::alloc::{AllocError, AllocFailed, Global};
 use std::slice;
 
-/// What `jpath` is to write for each document: lines, an array, a count, a table, or the edited text.
+/// What `jpath` writes for each document: lines, an array, a count, a table, or the edited text.
 #[derive(Drop)]
 pub enum Task<'a> {
-    /// A line for each match.
+    /// Writes a line for each value that one of the paths selects, with the value, its location or both.
     Lines(Vec<Query<'a>>, Shown),
-    /// One array for each document.
+    /// Writes one JSON array for each document, with all values that the paths select.
     Array(Vec<Query<'a>>),
-    /// The number of matches in each file.
+    /// Writes the number of values that the paths select in all documents of each file.
     Count(Vec<Query<'a>>),
-    /// Nothing: only the exit status.
+    /// Writes nothing: only the exit status says whether the paths select any value.
     Quiet(Vec<Query<'a>>),
-    /// A row for each match of one path, a field for each of the others.
+    /// Writes a table: a row for each value that one path selects, and in it a field for each of the other paths.
     Table(Table<'a>),
-    /// The document, edited.
+    /// Writes each document with these edits made.
     Edits(Vec<Edit<'a>>),
 }
 
-/// A table: the path whose matches are its rows, and its columns.
+/// The table that `jpath` writes: the path whose selected values are its rows, and the paths and names of its columns.
 #[derive(Drop)]
 pub struct Table<'a> {
     pub rows: Query<'a>,
@@ -44,34 +44,34 @@ pub struct Table<'a> {
     pub has_header: bool,
 }
 
-/// An edit: a path, and what becomes of the values that it selects.
+/// An edit by `jpath`: a path, and by what the values that it selects are replaced, or that they are removed.
 #[derive(Drop)]
 pub struct Edit<'a> {
     pub query: Query<'a>,
     pub compared: Compared,
     pub words: EditWords<'a>,
-    /// The JSON text that replaces a selected value.
+    /// The JSON text that replaces each value that the edit's path selects.
     pub value: Vec<u8>,
 }
 
-/// Everything that the command line asks for: the task, how lines look, and the files.
+/// Everything that the command line of `jpath` asks for: the task, how lines look, and the files.
 #[derive(Drop)]
 pub struct Wanted<'a> {
     pub task: Task<'a>,
-    /// What the filters of the paths compare.
+    /// What the filters of all paths on the command line compare: whether numbers, and which literal ones.
     pub compared: Compared,
     pub look: Look,
     pub files: Vec<&'a str>,
     pub has_names: bool,
     pub keeps_going: bool,
     pub is_in_place: bool,
-    /// Whether what is edited in place is written into the file itself.
+    /// Whether the edited text is written into the file itself (`--copy`), instead of a new file that replaces it.
     pub is_copied: bool,
 }
 
 impl<'a> Wanted<'a> {
-    /// Whether blanks between documents, and a byte order mark before the first, are written as they are. True
-    /// exactly if there are edits and the documents are not laid out anew.
+    /// Whether blanks between documents, and a byte order mark before the first, are written as they are. True exactly
+    /// if there are edits and the edited documents are not laid out over lines (`--pretty`).
     pub fn keeps_blanks_between_documents(&self) -> bool
         ensures { result ≡ is_edit self.now.task && not self.now.look.is_pretty }
     {
@@ -79,16 +79,16 @@ impl<'a> Wanted<'a> {
     }
 }
 
-/// Why no document is read.
+/// Why `jpath` reads no document after its command line was parsed.
 #[derive(Drop)]
 pub enum Refused {
-    /// The options make no sense together; the sentence says what to write.
+    /// The options contradict each other; the sentence says what to write instead.
     Words(&'static str),
-    /// A path has a syntax error, which is printed already.
+    /// A path on the command line has a syntax error, which is printed already.
     Told,
-    /// Out of memory.
+    /// Memory ran out.
     OutOfMemory,
-    /// `--check`: only the paths were to be checked, and they are well formed.
+    /// With `--check` only the paths were to be checked, and they are well formed.
     Checked,
 }
 
@@ -114,9 +114,9 @@ impl<T: Drop> From<AllocFailed<T>> for Refused {
     }
 }
 
-/// Everything that the command line asks for: paths compiled, the task, the layout of lines and the files. `Refused`
-/// if the options contradict each other, if a path has a syntax error, which is printed here with its position, or
-/// if only the paths were to be checked.
+/// Everything that the command line of `jpath` asks for: paths compiled, the task, the layout of lines and the files.
+/// `Refused` if the options contradict each other, if a path has a syntax error, which is printed here with its
+/// position, or if only the paths were to be checked.
 pub fn wanted_of_words<'a>(
     rt: &(impl Eprint + Alloc<A = Global>),
     words: &Words<'a>,
@@ -180,7 +180,8 @@ fn wanted_with_task<'a>(
     })
 }
 
-/// Whether lines are coloured: as `--color` says or, if it is `auto`, on a terminal, unless NO_COLOR is set.
+/// Whether `jpath` writes its lines in colours: as `--color` says or, if that is `auto`, if the output is a terminal
+/// and NO_COLOR is not set.
 pub fn wants_color(flags: &Flags, is_terminal: bool, has_no_color: bool) -> bool
     ensures { result ≡ colored_by flags.now.color is_terminal has_no_color }
 {

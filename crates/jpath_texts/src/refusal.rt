@@ -5,16 +5,16 @@ use std::alloc::{AllocError, AllocFailed};
 /// Why `jpath` writes nothing for a text: it is no document, or can't be edited or compared as asked.
 #[derive(Clone, Copy, Debug, Drop, PartialEq, Eq)]
 pub enum DocumentRefusal {
-    /// The text is no JSON document, or it nests too deep.
+    /// The text is no JSON document, or it nests deeper than 127 levels.
     NotADocument,
-    /// Numbers are compared, and one has an exponent of more than 38 digits.
+    /// Filters compare numbers, and a number has an exponent of more than 38 digits.
     HugeExponent,
     /// The edited document would nest too deep to be read again.
     EditNests,
-    /// What an edit replaces in a text is not what is at its targets, or the edited text, read again, is not the
-    /// changed document. It is never seen.
+    /// What an edit would replace in a text is not the values that its path selects, or the edited text, read again, is
+    /// not the changed document. This would be a fault of the program: it never comes.
     EditDiffers,
-    /// There is not enough memory.
+    /// Memory ran out.
     OutOfMemory,
 }
 

@@ -85,21 +85,21 @@ const EDITS: [EditOption; 4] = [
     ("remove", &PATH, "Nothing at each place that PATH selects"),
 ];
 
-/// An edit option with its arguments.
+/// An edit option of the command line, with its arguments.
 #[derive(Clone, Copy, Debug, Drop)]
 pub enum EditWords<'a> {
     /// `--set PATH JSON`: the value of a JSON text in place of each value that the path selects.
     Set(&'a str, &'a str),
-    /// `--set-text PATH TEXT`: a text in place of each of them.
+    /// `--set-text PATH TEXT`: a text in place of each value that the path selects.
     SetText(&'a str, &'a str),
-    /// `--null PATH`: null in place of each of them.
+    /// `--null PATH`: null in place of each value that the path selects.
     Null(&'a str),
-    /// `--remove PATH`: removes each of them.
+    /// `--remove PATH`: removes each value that the path selects.
     Remove(&'a str),
 }
 
 impl<'a> EditWords<'a> {
-    /// The path whose selected values are edited.
+    /// The text of the path in this edit option, whose selected values are edited.
     pub fn path(&self) -> &'a str
         ensures { result.now ≡ path_of self.now }
     {
@@ -110,7 +110,7 @@ impl<'a> EditWords<'a> {
     }
 }
 
-/// When output is coloured, the argument of `--color`.
+/// When output is coloured, as the argument of `--color` says.
 #[derive(Clone, Copy, Debug, Drop, PartialEq, Eq)]
 pub enum Color {
     Auto,
@@ -143,27 +143,27 @@ pub struct Flags {
 #[derive(Drop)]
 pub struct Words<'a> {
     pub flags: Flags,
-    /// The paths of the options `-e`, in the order of the command line.
+    /// The path texts of the options `-e`, in the order of the command line.
     pub paths: Vec<&'a str>,
     pub rows: Option<&'a str>,
-    /// The edits, in the order of the command line.
+    /// The edit options with their arguments, in the order of the command line.
     pub edits: Vec<EditWords<'a>>,
     /// The words on the command line that belong to no option: the path and the files.
     pub rest: Vec<&'a str>,
 }
 
-/// The result of parsing the command line: the options and words, or the status with which to exit.
+/// The result of parsing the command line: its options and words, or the status with which to exit.
 #[derive(Drop)]
 pub enum ParseOutcome<'a> {
-    /// The parsed command line.
+    /// The options and words of the command line, parsed.
     Words(Words<'a>),
-    /// Help or the version was asked for and is printed, or an option was wrong and the error is printed: the
-    /// program ends with this status.
+    /// The program is to exit with this status: help or the version was asked for and is printed, or an option was
+    /// wrong and the error is printed.
     Ended(u8),
 }
 
-/// Parses the command line, whose first word is the program's name: options, paths and files. Help, the version, and
-/// errors are printed here; the program then ends with the status that is returned.
+/// Parses the command line, whose first word is the program's name, into options, paths and files. Help, the version,
+/// and errors are printed here; the program then has to exit with the status that is returned.
 pub fn parse_words<'a>(
     rt: &(impl Print + Eprint + Alloc<A = Global>),
     words: &'a [String],

@@ -20,7 +20,7 @@ const NO_BACKWARDS: &str = "a range has no negative step: it never runs backward
 
 const PARENTHESES: &str = "a filter's condition stands in parentheses: [?(@.price < 10)]";
 
-/// A sentence on what to write in place of a path text with a syntax error at this byte, or an empty text if no hint
+/// A sentence on what to write instead of a path text that has a syntax error at byte `at`, or an empty text if no hint
 /// is known.
 pub fn hint_for_refused_path(alloc: Global, path: &str, at: usize) -> Result<String, AllocError> {
     if !path.starts_with('$') {
@@ -135,8 +135,8 @@ fn hint_to_quote_name(alloc: Global, rest: &str) -> Result<String, AllocError> {
     }
 }
 
-/// Warns on standard error if a path has `&&` and `||` in one condition without parentheses between them: here both
-/// have the same precedence and group to the right, not so in RFC 9535.
+/// Prints a warning on standard error if a path has `&&` and `||` in one condition without parentheses between them:
+/// here both have the same precedence and group to the right, unlike in RFC 9535.
 pub fn warn_of_mixed_connectives(rt: &(impl Eprint + Alloc<A = Global>), path: &str) {
     if let Ok(true) = has_mixed_connectives(rt.alloc(), path) {
         let _ = eprintln!(rt;

@@ -7,15 +7,15 @@ ghost use Rattle.json_recognizer.specs.Machine.{accepts, after_all, refused};
 ghost use Rattle.json_recognizer.specs.Grammar.{Begins, IsWritten, max_depth};
 ghost use Rattle.json_recognizer.specs.Stream.{IsFound, found_in};
 
-/// Lemma: the recognizer accepts a text exactly if the grammar of JSON has it as a document.
+/// Lemma: the recognizer accepts a text exactly if it is a document by the grammar of JSON.
 pub fn accepts_documents()
     ensures accepted { (text : List Class) → accepts Value [] max_depth text ≡ true → IsWritten text }
     ensures written { (text : List Class) → IsWritten text → accepts Value [] max_depth text ≡ true }
     ensures refused { (front : List ℕ) → after_all Value [] max_depth (map class_of front) ≡ refused → Begins front → ⊥ }
 {}
 
-/// Lemma: the first document of a text, or its first wrong byte, as the recognizer finds it, is what the grammar
-/// says; where it finds neither, the text is the beginning of a document.
+/// Lemma: what the recognizer finds as a text's first document, or its first wrong byte, is so by the grammar of JSON;
+/// if it finds neither, the text is the beginning of a document.
 pub fn found_by_grammar()
     ensures { (text : List ℕ) → IsFound text (found_in text) }
 {}

@@ -10,16 +10,16 @@ use crate::class::Class;
 use crate::machine::{Mode, Move, Top};
 use crate::moves::move_of;
 
-/// The state of the recognizer between two bytes: its mode, and the arrays and objects that are open.
+/// The state of the recognizer between two bytes of a JSON text: its mode, and the arrays and objects that are open.
 #[derive(Drop)]
 pub struct State {
     pub mode: Mode,
     pub depth: usize,
-    /// What is open, from the outermost: true for an object, false for an array.
+    /// For each array or object that is open, from the outermost: true for an object, false for an array.
     pub kinds: [bool; 127],
 }
 
-/// The state before the first byte of a document.
+/// The state of the recognizer before the first byte of a document.
 #[inline(always)]
 pub fn start() -> State
     ensures is { next_of result ≡ goes Value [] max_depth }
@@ -60,8 +60,8 @@ fn first_in(is_object: bool) -> Mode
     }
 }
 
-/// Takes the next byte, given by its class, and returns true. Returns false if no JSON text goes on with that byte;
-/// the state is then unchanged.
+/// Takes the next byte of a JSON text, given by its class, into the recognizer's state, and returns true. Returns false
+/// if no JSON text goes on with that byte; the state is then unchanged.
 #[inline(always)]
 pub fn take(state: &mut State, class: Class) -> bool
     requires { state.old.depth ≤ max_depth }

@@ -11,14 +11,14 @@ use crate::class::{Class, class_of};
 use crate::machine::{Mode, NumberPart, TextPart};
 use crate::state::{self, State, start};
 
-/// The result of looking through the next bytes of a stream: what they are to the document that is being read.
+/// The result of looking through the next bytes of a stream: whether the document that is being read ends in them.
 #[derive(Clone, Copy, Debug, Drop)]
 pub enum Found {
-    /// The document goes on behind the piece.
+    /// The bytes of this call don't end the document: it goes on after them.
     GoesOn,
-    /// It ends behind so many bytes of the piece.
+    /// The document ends after this number of the bytes of this call.
     Ends(usize),
-    /// The byte behind so many is the first that no document goes on with.
+    /// The byte after this number of the bytes of this call is wrong: the first with which no document goes on.
     Refused(usize),
 }
 
@@ -106,7 +106,7 @@ fn count_staying(mode: Mode, bytes: &[u8]) -> usize
     }
 }
 
-/// Whether a document may end in this state, at the end of a stream.
+/// Whether a document is complete in this state of the recognizer, if the stream ends here.
 pub fn is_final(state: &State) -> bool
     requires { state.now.depth ≤ max_depth }
     ensures { result ≡ is_final state.now.mode (frames state.now.depth state.now.kinds) }
@@ -216,8 +216,8 @@ fn take_byte(state: &mut State, byte: u8) -> Found
     found_behind(state)
 }
 
-/// Looks through the next bytes of a stream, `piece`: whether the document that is being read ends in them, or has
-/// its first wrong byte there, or goes on behind them. `state` is what the bytes before led to; it is updated.
+/// Looks through the next bytes of a stream, `piece`: whether the document that is being read ends in them, or has its
+/// first wrong byte there, or goes on after them. `state` is the recognizer's state before these bytes; it is updated.
 pub fn find_end(state: &mut State, piece: &[u8]) -> Found
     requires depth { state.old.depth ≤ max_depth }
     requires open { is_over state.old ≡ false }
@@ -241,7 +241,8 @@ pub fn find_end(state: &mut State, piece: &[u8]) -> Found
     Found::GoesOn
 }
 
-/// The number of bytes of the first document of a text, with the blanks before it; of all, where there is none.
+/// The number of bytes of the first document of a text, with the blanks before it; of the whole text, if it has no
+/// document.
 pub fn first_document_len(text: &[u8]) -> usize
     ensures { result ≡ end_or (length text.now) (found_in text.now) }
 {

@@ -22,29 +22,30 @@ pub enum Wanted {
     Colon,
     CommaOrBracket,
     CommaOrBrace,
-    /// The document is over: blanks alone may follow.
+    /// The byte comes after the end of the document, where only blanks may follow.
     End,
     Digit,
     DigitOrSign,
-    /// The rest of `true`, `false` or `null`; so `nan` is wrong at its second letter, and `NaN` at its first.
+    /// In the byte's place the rest of `true`, `false` or `null` was expected; so `nan` is wrong at its second letter,
+    /// and `NaN` at its first.
     Word,
     HexDigit,
     Escape,
-    /// Half of a surrogate pair, without the other.
+    /// The byte is wrong because the escape of half a surrogate pair comes without the other half.
     LoneSurrogate,
-    /// A control character, which a text has only escaped.
+    /// The byte is a control character, which a quoted text can have only as an escape.
     Control,
     NotUtf8,
-    /// More than 127 arrays and objects in one another.
+    /// The byte opens an array or object within 127 others, which is too deep.
     TooDeep,
-    /// A comma is before the bracket or brace.
+    /// The byte is a closing bracket or brace, and a comma comes before it.
     CommaBefore,
     Comment,
-    /// `NaN` or `Infinity`.
+    /// The byte begins `NaN` or `Infinity`, which are no JSON.
     NotANumber,
 }
 
-/// The sentence of an error.
+/// Prints the reason as a sentence of an error message.
 impl Display for Wanted {
     ghost output = { λ wanted. Some (wanted_words wanted) };
 
@@ -126,8 +127,8 @@ fn in_text(part: TextPart, is_name: bool, class: Class) -> Wanted
     }
 }
 
-/// What an error message says was expected in place of a wrong byte. Each byte that it names would have been right
-/// there; others may be, too.
+/// The reason, for an error message, why a byte of class `class` is wrong in the mode `mode` of the recognizer: what
+/// was expected there, or what is wrong. Each byte that it names would have been right there; others may be, too.
 pub fn what_was_wanted(mode: Mode, top: Top, class: Class) -> Wanted
     ensures { (c : Class) → names result c ≡ true → move mode top c ≢ Wrong }
 {
@@ -157,8 +158,9 @@ pub fn what_was_wanted(mode: Mode, top: Top, class: Class) -> Wanted
     }
 }
 
-/// What an error message says was expected in place of a wrong byte that comes in this state. Each byte that it names
-/// would have been right there, except for a bracket that opens too many arrays and objects in one another.
+/// The reason, for an error message, why the byte `byte` is wrong in this state of the recognizer: what was expected
+/// there, or what is wrong. Each byte that it names would have been right there, except for a bracket that opens too
+/// many arrays and objects in one another.
 pub fn wanted_at(state: &State, byte: u8) -> Wanted
     requires { state.now.depth ≤ max_depth }
     ensures { (c : Class) → names result c ≡ true → move state.now.mode (top_of (frames state.now.depth state.now.kinds)) c ≢ Wrong }

@@ -6,36 +6,36 @@ use std::alloc::Global;
 use std::hint::black_box;
 use std::time::{Duration, Instant};
 
-/// A call of the library that is measured.
+/// A call of the library whose time is measured.
 #[derive(Clone, Copy)]
 pub enum Action {
-    /// A question about what the compiled path selects.
+    /// A question about what the compiled path selects, such as which values, or how many.
     Ask(Asked),
-    /// Null put at what the compiled path selects.
+    /// Puts null at what the compiled path selects, in a copy of the document.
     Delete,
-    /// What the compiled path selects taken away.
+    /// Removes what the compiled path selects from a copy of the document.
     Remove,
-    /// The path compiled.
+    /// Compiles the path text.
     Compile,
 }
 
-/// What is measured of a compiled path that selects in a document.
+/// A question about what a compiled path selects in a document; the time of its answer is measured.
 #[derive(Clone, Copy)]
 pub enum Asked {
-    /// The values that the path selects.
+    /// Which values does the path select?
     Values,
-    /// The nodes: the values with their locations.
+    /// Which nodes does the path select, each a value with its location?
     Spots,
-    /// How many they are.
+    /// How many values does the path select?
     Count,
-    /// The first of them.
+    /// What is the first value that the path selects?
     First,
-    /// Whether there is any.
+    /// Does the path select any value?
     Exists,
 }
 
 impl Action {
-    /// The action that a word of the command line names, as `select`; `None` for any other word.
+    /// The action that is meant by a word of the command line, such as `select`; `None` for any other word.
     pub fn of(word: &str) -> Option<Action> {
         match word {
             "select" => Some(Action::Ask(Asked::Values)),
@@ -51,9 +51,9 @@ impl Action {
     }
 }
 
-/// Makes a call `count` times, and returns the time that they take together and the number of results of one call:
-/// how many values or nodes the path selects, 1 for a first value, a test for any or a compiled path. Copies of the
-/// document that updates change are made outside that time.
+/// Makes the call that `action` means `count` times, and returns the time of all together and the number of results of
+/// one call: the selected values or nodes; 0 or 1 for a first value and for whether there is any; 1 for a compiled
+/// path. The time does not include the copies of the document that updates change.
 pub fn measure(
     rt: &HostRuntime,
     action: Action,

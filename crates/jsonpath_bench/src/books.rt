@@ -4,7 +4,7 @@ use jsonpath_lib::read_document;
 use serde_json::Value;
 use std::alloc::Global;
 
-/// A document for measuring: a store with so many books and one bicycle. Every other book has an isbn; the prices run
+/// A document for measuring: a store with `count` books and one bicycle. Every other book has an isbn; the prices run
 /// from 100 to 1900 in steps of 300.
 pub fn books_document(alloc: Global, count: u64) -> Result<Value> {
     let mut text = String::new(alloc);

@@ -30,8 +30,8 @@ pub use jsonpath_select::laws::{
 };
 use serde_json::Value;
 
-/// Lemma: if a path selects one location alone and that exists, deleting by it is the single update that puts null
-/// there, and removing is the one that removes the value there. Both leave all else as it is, and at the root they
+/// Lemma: if a path selects one location alone and that exists, deleting by the path is the single update that puts
+/// null there, and removing is the one that removes the value there. Both leave all else as it is, and at the root they
 /// change nothing; `putting_at_one_location` says what a single update leaves.
 ///
 /// ```text
@@ -81,8 +81,8 @@ pub fn masks_in_any_order()
     nulling_and_taking_ignore_order();
 }
 
-/// Lemma: the result of removing by several paths depends on the set of paths alone, neither on their order nor on
-/// repeats.
+/// Lemma: the result of removing all values that several paths select depends on the set of paths alone, neither on
+/// their order nor on repeats.
 ///
 /// ```text
 /// laws::removes_in_any_order();

@@ -41,8 +41,8 @@ pub fn locations_below_root_ascend()
     ensures { BelowAscends }
 {}
 
-/// Lemma: a list of locations put in document order, each once, ascends strictly and has exactly the members of the
-/// list.
+/// Lemma: a list of locations, sorted into document order and without repeats, ascends strictly and has exactly the
+/// locations of the original list.
 ///
 /// ```text
 /// laws::locations_once_in_order_ascend();
@@ -52,7 +52,7 @@ pub fn locations_once_in_order_ascend()
     ensures members { OnceInOrderKeepsMembers }
 {}
 
-/// Lemma: locations that compare equal are the same.
+/// Lemma: two locations that compare equal have the same steps.
 ///
 /// ```text
 /// laws::equal_locations_are_same();
@@ -61,7 +61,7 @@ pub fn equal_locations_are_same()
     ensures { (l m : Location) → location_cmp l m ≡ Equal → l ≡ m }
 {}
 
-/// Lemma: the nodes at a list of locations of a document have these locations, in the same order.
+/// Lemma: if a list of nodes is at a list of locations of a document, in order, the nodes' own locations are that list.
 ///
 /// ```text
 /// laws::spots_show_their_locations();
@@ -70,8 +70,8 @@ pub fn spots_show_their_locations()
     ensures { (doc : Data) (ls : List Location) (spots : List Spot) → StandAt doc ls spots → map location_of spots ≡ ls }
 {}
 
-/// Lemma: nulling puts null at each location below the root that exists and has no ancestor in the list, and changes
-/// nothing beside them. It is the same as putting null at each location in turn.
+/// Lemma: putting null at a list of locations puts it at each that exists, is below the root and has no ancestor in the
+/// list, and changes nothing else. It is the same as putting null at each location in turn.
 ///
 /// ```text
 /// laws::nulling_at_topmost();
@@ -82,8 +82,8 @@ pub fn nulling_at_topmost()
     ensures in_turn { NullsInTurn }
 {}
 
-/// Lemma: a single update that puts a value changes the value at its location, and nothing beside it. If the
-/// location doesn't exist, or is the root, nothing changes.
+/// Lemma: an update that puts a value at a single location changes the value there, and nothing else. If the location
+/// doesn't exist, or is the root, nothing changes.
 ///
 /// ```text
 /// laws::putting_at_one_location();
@@ -95,7 +95,7 @@ pub fn putting_at_one_location()
 {}
 
 /// Lemma: a run of single updates by a closure that always returns the same value puts that value at each location in
-/// turn. The lemma only speaks of the closure and doesn't call it.
+/// turn. The call does nothing: the closure is not called.
 ///
 /// ```text
 /// let on = &mut |_old: Value| Some(Value::Bool(true));
@@ -107,8 +107,8 @@ pub fn updates_put_one_answer_in_turn<F: FnMut(Value) -> Option<Value>>(_closure
         → (ls : List Location) (before after : Data) (f g : F) → RunsWith F.FnMut ls before f g after → after ≡ update_each answer ls before }
 {}
 
-/// Lemma: at locations in document order, each once, removing the values all at once is the same as removing them
-/// one after another, from the last location back to the first.
+/// Lemma: for a list of locations in document order, each once, removing the values there all at once is the same as
+/// removing them one after another, from the last location back to the first.
 ///
 /// ```text
 /// laws::taking_at_once_is_in_turn();
@@ -117,8 +117,8 @@ pub fn taking_at_once_is_in_turn()
     ensures { TakesFromTheBack }
 {}
 
-/// Lemma: the results of nulling and of removing depend on the set of locations alone, neither on their order nor on
-/// repeats.
+/// Lemma: the results of putting null at a list of locations, and of removing the values there, depend on the set of
+/// locations alone, neither on their order nor on repeats.
 ///
 /// ```text
 /// laws::nulling_and_taking_ignore_order();
@@ -157,8 +157,8 @@ pub fn topmost_descend_to_same_set()
     ensures step { DescentOfTheTopmost }
 {}
 
-/// Lemma: if no location lies below another and the closure removes nothing, then after a run of single updates each
-/// location has the closure's result for it, and all else is as it was.
+/// Lemma: if no location of a list lies below another and the closure removes nothing, a run of single updates leaves
+/// at each location the closure's result for the value there, and all else as it was.
 ///
 /// ```text
 /// laws::replacements_stay_in_place();
@@ -177,9 +177,9 @@ pub fn candidates_of_disjoint_in_descents()
     ensures { DisjointInOneDescent }
 {}
 
-/// Lemma: locations are disjoint if no two are the same and none is below another; so distinct ones of equal depth
-/// are disjoint. Disjoint locations are apart, as `apart_locations_meet_candidates_once` says, and no location is at
-/// or below two of them. From disjoint locations, a step that selects no child of a value twice leads to disjoint
+/// Lemma: locations are disjoint if no two are the same and none is below another; so distinct ones of equal depth are
+/// disjoint. Disjoint locations are apart: all different, and none leads to another by indexes alone. No location is at
+/// or below two disjoint ones. From disjoint locations, a step that selects no child of a value twice leads to disjoint
 /// ones (`*` if the names ascend in each object there), and so do a filter and its candidates.
 ///
 /// ```text
@@ -208,10 +208,10 @@ pub fn apart_locations_meet_candidates_once()
     ensures no_repeat { ApartHasNoRepeat }
 {}
 
-/// Lemma: which steps lead to locations that are apart, as `apart_locations_meet_candidates_once` says. From any
-/// distinct locations: a name, or a list of different names. From one location: `..` before a name. From locations that
-/// are apart: an index, a slice, and a list of different indexes that count from the front. Those of them that meet a
-/// filter's condition are apart, too.
+/// Lemma: which steps lead to locations that are apart: all different, and none leads to another by indexes alone. From
+/// any distinct locations: a name, or a list of different names. From one location: `..` before a name. From locations
+/// that are apart: an index, a slice, and a list of different indexes that count from the front. Those of them that
+/// meet a filter's condition are apart, too.
 ///
 /// ```text
 /// laws::steps_keep_locations_apart();
@@ -241,8 +241,8 @@ pub fn steps_lead_without_repeats()
     ensures kept { KeptHasNoRepeat }
 {}
 
-/// Lemma: the document that a value models is well formed: in each of its objects the names ascend strictly. The
-/// function walks over the value and returns nothing.
+/// Lemma: in the value and in everything below it, the names of each object ascend strictly. The function walks over
+/// the value and returns nothing.
 ///
 /// ```text
 /// laws::value_is_document(json);
@@ -278,8 +278,8 @@ fn object_is_document(members: &Map<String, Value>)
     }
 }
 
-/// Lemma: if the value is an object, its names ascend strictly. The function looks at no value below and returns
-/// nothing.
+/// Lemma: if the value is an object, its names ascend strictly. Nothing is said of the values of its members. The call
+/// returns nothing.
 ///
 /// ```text
 /// let document = read_document(alloc, br#"{"b":1,"a":2}"#)?;

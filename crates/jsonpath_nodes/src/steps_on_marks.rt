@@ -18,7 +18,7 @@ use crate::step::plain_step::PlainStep;
 use crate::step::stride::{Stride, listed_names, plain_step_of_selection};
 use std::alloc::Global;
 
-/// Applies a plain step, one without a condition, to each node: the children that it selects there.
+/// Applies a step without a condition, such as `[0]`, to each node: the children that it selects there.
 ///
 /// ```text
 /// let items = steps_on_marks::plain_step_from_each(alloc, &[&document], &PlainStep::Every)?;
@@ -67,7 +67,7 @@ fn selected_children_of_each<'a, M: Mark<'a>>(
     Ok(found)
 }
 
-/// The member of this name of each node that is an object and has one. The name is taken literally.
+/// The member of the given name, from each node that is an object and has one. The name is taken literally.
 ///
 /// ```text
 /// let found = steps_on_marks::named_member_from_each(alloc, &[&document], "a")?;
@@ -88,7 +88,7 @@ pub fn named_member_from_each<'a, M: Mark<'a>>(
     Ok(found)
 }
 
-/// Appends to a list the member of this name, if the node is an object that has one. The name is taken literally.
+/// Appends to a list of nodes the member of the given name, if the node is an object that has one. The name is literal.
 ///
 /// ```text
 /// let mut found: Vec<&Value> = Vec::new(alloc);
@@ -108,8 +108,8 @@ pub fn add_named_member<'a, M: Mark<'a>>(
     Ok(())
 }
 
-/// Applies a plain step to each node and to all its descendants, each before its children, as `..` does. The only error
-/// is `NoMemory`.
+/// Applies a step without a condition, such as `[0]`, to each node and to all its descendants, each before its
+/// children, as `..` does. The only error is `NoMemory`.
 ///
 /// ```text
 /// let found = steps_on_marks::plain_step_from_all_below(alloc, &[&document], &PlainStep::Named("a"))?;
@@ -130,7 +130,7 @@ pub fn plain_step_from_all_below<'a, M: Descends<'a>>(
     Ok(found)
 }
 
-/// Applies a `Stride` to each node: to the node alone, or to all its descendants too.
+/// Applies a `Stride`, a step without a condition, to each node; if its `leaves` is set, to all descendants too (`..`).
 ///
 /// ```text
 /// let second = Stride {

@@ -37,7 +37,7 @@ pub(crate) fn is_whole_part_in_range(negative: bool, whole: u64) -> bool
 }
 
 impl Decimal {
-    /// The number with this whole part and this many units of 10^-18 after the point, or its negative. `None` if
+    /// The number with this whole part and `units` units of 10^-18 after the point; below zero if `negative`. `None` if
     /// `units` is 10^18 or more, or for a negative number if `whole` is above 2^63.
     ///
     /// ```text
@@ -56,7 +56,7 @@ impl Decimal {
         Some(decimal_of_parts_in_range(negative, whole, units))
     }
 
-    /// An integer as a decimal.
+    /// Converts an integer to a decimal, exactly.
     ///
     /// ```text
     /// assert!(rt; Decimal::of_i64(-3).units() == -3_000_000_000_000_000_000);
@@ -69,7 +69,7 @@ impl Decimal {
         }
     }
 
-    /// An unsigned integer as a decimal.
+    /// Converts an unsigned integer to a decimal, exactly.
     ///
     /// ```text
     /// assert!(rt; Decimal::of_u64(18_446_744_073_709_551_615) > Decimal::of_i64(0));
@@ -82,7 +82,7 @@ impl Decimal {
         }
     }
 
-    /// The number in units of 10^-18.
+    /// The number as a whole number of units of 10^-18.
     ///
     /// ```text
     /// assert!(rt; Decimal::of_u64(2).units() == 2_000_000_000_000_000_000);

@@ -31,7 +31,7 @@ pub fn longest_front()
     ensures one_token { (from to other : Place) (t u : Token) → TakesToken from t to → TakesToken from u other → (t ≡ u) × (to ≡ other) }
 {}
 
-/// Lemma: if a text begins with a word, and not with a dollar sign, its first token is this word, as far as it goes.
+/// Lemma: if a path text begins with a name or number and not with `$`, its first token is all of that name or number.
 ///
 /// ```text
 /// laws::word_is_first_token();
@@ -50,7 +50,7 @@ pub fn one_tree_per_text()
     ensures { (text : List ℕ) (p q : Path) → Spells text p → Spells text q → p ≡ q }
 {}
 
-/// Lemma: no two syntax trees in the forms of the grammar have the same token list.
+/// Lemma: no two syntax trees that the grammar allows have the same token list.
 ///
 /// ```text
 /// laws::one_tree_per_token_list();

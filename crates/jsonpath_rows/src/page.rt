@@ -10,8 +10,8 @@ use std::alloc::Global;
 // Stands for the bar inside a cell, `\|`, while a line is taken apart.
 const BAR: &str = "\u{0}";
 
-/// The test rows of a page of documentation, from all its tables that show paths with documents and answers, in the
-/// page's order. A table's line with a cell too few, or without code where there has to be some, is an error.
+/// The test rows of a page of documentation: those of all its tables that show paths with documents and answers, in the
+/// page's order. An error if a table's line has a cell too few, or a cell has no code where it needs some.
 pub fn rows_of(alloc: Global, page: &str) -> Result<Vec<Row>> {
     let mut rows = Vec::new(alloc);
     let mut head = Vec::new(alloc);

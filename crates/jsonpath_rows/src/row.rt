@@ -5,8 +5,8 @@ use serde::Deserialize;
 use std::alloc::{AllocError, Global};
 use std::fmt;
 
-/// A test row: the words and the input of a run of `jsonpath_run`, and the exit status, the output and the error text
-/// that it must have. If `error` is `None`, the error has to be one of `serde_json`, whatever its words.
+/// A test of the program `jsonpath_run`: the words and the input of a run, and the exit status, the output and the
+/// error text that it must have. If `error` is `None`, the error has to be one of `serde_json`, whatever its words.
 #[derive(Drop, Deserialize)]
 pub struct Row {
     pub words: Vec<String>,
@@ -26,7 +26,7 @@ impl fmt::Display for Row {
     }
 }
 
-/// What a run wrote on standard output and standard error, and its exit status.
+/// What a run of a program wrote on standard output and standard error, and its exit status.
 #[derive(Drop)]
 pub struct Outcome {
     status: u8,
@@ -35,7 +35,7 @@ pub struct Outcome {
 }
 
 impl Outcome {
-    /// Whether a run has the exit status, the output and the error text that its test row expects.
+    /// Whether this run has the exit status, the output and the error text that the test row expects.
     pub fn is_of(&self, row: &Row) -> bool {
         let is_error = match &row.error {
             Some(error) => self.error.as_str() == error.as_str(),
@@ -54,7 +54,7 @@ impl fmt::Display for Outcome {
     }
 }
 
-/// Runs the program `jsonpath_run` on the words and the input of a test row.
+/// Runs the program `jsonpath_run` on the words and the input of a test row, and returns what it wrote and its status.
 pub fn outcome_of(alloc: Global, row: &Row) -> Result<Outcome, AllocError> {
     let words = row
         .words

@@ -8,22 +8,22 @@ use jsonpath_select::{
 use serde_json::Value;
 use std::alloc::Global;
 
-/// A way to select by a path in a document, of which each has to give the same answer: by one of the selectors, or by
-/// the token list.
+/// A way to select by a path in a document: by one of the selectors, or by the token list. All have to give the same
+/// answer.
 #[derive(Clone, Copy)]
 pub enum Method {
-    /// `JsonSelector`.
+    /// Selects values by a `JsonSelector`.
     JsonSelector,
-    /// `Selector`, its values.
+    /// Selects values by a `Selector`.
     Selector,
-    /// `Selector`, its nodes.
+    /// Selects nodes, values with locations, by a `Selector`.
     SelectorSpots,
-    /// `tokens_fit` and `select_tokens` on the path's token list.
+    /// Selects by `tokens_fit` and `select_tokens` on the path's token list.
     TokenList,
 }
 
 impl Method {
-    /// The name of this way to select, for an error message.
+    /// The name of this way to select, such as `Selector`, for an error message.
     pub fn name(self) -> &'static str {
         match self {
             Method::JsonSelector => "JsonSelector",
@@ -34,8 +34,8 @@ impl Method {
     }
 }
 
-/// Whether selecting in this way gives the output or the error that a test row expects. `None` if the row is not
-/// about `select` with one path.
+/// Whether selecting in the way `way` gives the output or the error that a test row expects. `None` if the row is not
+/// about the command `select` with one path.
 pub fn is_selected(alloc: Global, row: &Row, way: Method) -> Result<Option<bool>, JsonPathError> {
     let [command, path] = row.words.as_slice() else {
         return Ok(None);

@@ -5,7 +5,7 @@ ghost use Rattle.jsonpath_run.specs.Fault.{status_of, fault_text};
 use jsonpath_select::JsonPathError;
 use std::fmt;
 
-/// Why the program gives no answer. `Display` prints the message for standard error, without the line end.
+/// Why the program `jsonpath_run` gives no answer. `Display` prints the message for standard error, without line end.
 ///
 /// ```text
 /// let text = format!(in alloc; "{}", Fault::Io)?;
@@ -13,16 +13,16 @@ use std::fmt;
 /// ```
 #[derive(Debug, Drop)]
 pub enum Fault {
-    /// The words are no call: an unknown command, too few or too many words, or one that is no UTF-8.
+    /// The command line is not valid: an unknown command, too few or too many words, or a word that is no UTF-8.
     Usage,
     /// A path or the input has an error, the answer can't be printed, or memory ran out.
     Refused(JsonPathError),
-    /// A read or a write failed.
+    /// A read of the input or a write of the output failed.
     Io,
 }
 
 impl Fault {
-    /// The exit status: 1 for `Refused`, 2 for the wrong words, 3 if a read or a write failed.
+    /// The exit status for this error: 1 for `Refused`, 2 for `Usage`, 3 for `Io`.
     ///
     /// ```text
     /// assert_eq!(rt; Fault::Usage.status(), 2);

@@ -4,7 +4,7 @@ ghost use Rattle.jsonpath_run.specs.Output.{IsOutput};
 
 use jsonpath_paths::laws::one_tree_per_text;
 
-/// Lemma: the program has at most one output for given words and a given input.
+/// Lemma: the program `jsonpath_run` has at most one output for given arguments and a given input.
 ///
 /// ```text
 /// one_output_per_input();

@@ -22,8 +22,8 @@ use serde_json::Value;
 use std::alloc::Global;
 use std::mem::forget;
 
-/// Runs the program on its arguments, without the program's name: compiles the paths, reads the input to its end if
-/// the command needs it, and writes the answer with a line end. Returns the exit status 0.
+/// Runs the program `jsonpath_run` on its arguments, without its name: compiles the paths, reads the input to its end
+/// if the command needs it, and writes the answer with a line end. Returns the exit status 0.
 ///
 /// Errors: `Usage` exactly if the arguments are no valid command line, and then nothing is read; `Refused` if a path
 /// isn't in the grammar, and then nothing is read, if the input is no document or the answer can't be printed, or if

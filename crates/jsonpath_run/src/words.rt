@@ -10,19 +10,19 @@ ghost use Rattle.jsonpath_run.specs.Words.{IsCall, IsUsage, IsCount};
 /// ```
 #[derive(Clone, Copy, Debug, PartialEq, Eq)]
 pub enum Command {
-    /// Writes the list of the values that a path selects.
+    /// The command that writes the list of the values that a path selects in a document.
     Select,
-    /// Writes the document with null at what a path selects.
+    /// The command that writes the document with null in place of each value that a path selects.
     Delete,
-    /// Writes the document without what a path selects.
+    /// The command that writes the document without the values that a path selects.
     Remove,
-    /// Writes `ok` for a text that is a path.
+    /// The command that writes `ok` if a text is a path.
     Check,
-    /// Writes the document with null at what any of several paths selects.
+    /// The command that writes the document with null in place of each value that any of several paths selects.
     Mask,
 }
 
-/// The parsed words of a call of the program: the command and the texts of its paths.
+/// The parsed command line of the program `jsonpath_run`: the command and the texts of its paths.
 ///
 /// ```text
 /// let words = ["mask", "$.a", "$.b"];
@@ -34,14 +34,14 @@ pub enum Command {
 /// ```
 #[derive(Clone, Copy)]
 pub struct Call<'w, 'a> {
-    /// The command that the words name.
+    /// The command that the first word of the command line names.
     pub command: Command,
-    /// The texts of the paths, in the words' order. They may have syntax errors.
+    /// The texts of the paths, in the order of the command line. They may have syntax errors.
     pub paths: &'w [&'a str],
 }
 
-/// Parses the words of a call of the program, without the program's name. `None` if the command is unknown or the
-/// number of paths is wrong for it.
+/// Parses the command line of the program `jsonpath_run`, without the program's name. `None` if the command is unknown
+/// or the number of paths is wrong for it.
 ///
 /// ```text
 /// assert!(rt; parse_call(&["select", "$.a"]).is_some());

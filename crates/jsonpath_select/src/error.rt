@@ -190,7 +190,7 @@ pub fn error_of_parse_fault(alloc: Global, fault: &ParseFault) -> JsonPathError
     }
 }
 
-/// Becomes `Path` with the fault's text as its message, or `OutOfMemory`. It takes no memory.
+/// An error of `Parser` becomes `Path` with its text as the message, or `OutOfMemory`. It takes no memory.
 impl From<ParseFault> for JsonPathError {
     ghost use Rattle.jsonpath_select.specs.JsonPathErrors.{error_of};
     ghost use Rattle.std.specs.Prelude.{◌≡◌};
@@ -205,7 +205,7 @@ impl From<ParseFault> for JsonPathError {
     }
 }
 
-/// Becomes `OutOfMemory`.
+/// The error that memory ran out becomes `OutOfMemory`.
 impl From<NoMemory> for JsonPathError {
     ghost use Rattle.std.specs.Prelude.{◌≡◌};
     ghost use Rattle.jsonpath_select.specs.declared.error.JsonPathError.TheVariants.{OutOfMemory};
@@ -217,7 +217,7 @@ impl From<NoMemory> for JsonPathError {
     }
 }
 
-/// Becomes `OutOfMemory`.
+/// The error that memory ran out becomes `OutOfMemory`.
 impl From<AllocError> for JsonPathError {
     ghost use Rattle.std.specs.Prelude.{◌≡◌};
     ghost use Rattle.jsonpath_select.specs.declared.error.JsonPathError.TheVariants.{OutOfMemory};
@@ -229,7 +229,7 @@ impl From<AllocError> for JsonPathError {
     }
 }
 
-/// Becomes `OutOfMemory`.
+/// The error that memory ran out becomes `OutOfMemory`.
 impl<T: Drop> From<AllocFailed<T>> for JsonPathError {
     ghost use Rattle.std.specs.Prelude.{◌≡◌};
     ghost use Rattle.jsonpath_select.specs.declared.error.JsonPathError.TheVariants.{OutOfMemory};

@@ -12,7 +12,7 @@ use jsonpath_paths::laws::{
     connective_joins_conditions, longest_front, one_tree_per_text, word_is_first_token,
 };
 
-/// Lemma: a path text selects one list in a document, by whichever selector, and however often.
+/// Lemma: a path text selects one list in a document, whichever selector is used, and however often.
 ///
 /// ```text
 /// laws::one_selection_per_text();
@@ -37,7 +37,7 @@ pub fn paths_without_repeats_select_once()
     equal_locations_are_same();
 }
 
-/// Lemma: two paths that differ only in the order of the sides of `&&` and `||` select the same list.
+/// Lemma: two paths that differ only in the order of the sides of `&&` and `||` select the same list in any document.
 ///
 /// ```text
 /// laws::swapped_sides_select_alike();
@@ -90,7 +90,7 @@ pub fn dotted_names_select_one_location()
     longest_front();
 }
 
-/// Lemma: the answer of a path that selects one location is the value there if that exists, and else empty.
+/// Lemma: a path that selects one location alone selects one value, that there, or none if the location doesn't exist.
 ///
 /// ```text
 /// laws::one_location_answers_one_value();
@@ -133,9 +133,9 @@ pub fn each_location_has_a_value()
     all_locations_stand_below_root();
 }
 
-/// Lemma: what begins at the root is the same at every candidate: a side of a comparison that is a path from the
-/// root has one list of values, and a condition whose paths all begin at the root holds at all candidates or at
-/// none. So it is decided once.
+/// Lemma: in a filter, what begins at the root is the same at every candidate: a side of a comparison that is a path
+/// from the root has one list of values, and a condition whose paths all begin at the root holds at all candidates or
+/// at none. So it is decided once.
 ///
 /// ```text
 /// laws::rooted_is_same_for_all_candidates();
@@ -186,8 +186,8 @@ pub fn what_leads_on_suffices()
     equal_locations_are_same();
 }
 
-/// Lemma: the first node that some steps select from a list in two pieces, in the path's order, is the first of what
-/// they select from the first piece and then from the second. So the first node can be found piece by piece.
+/// Lemma: the first node that some steps select from a list in two pieces, in the path's order, is the first that they
+/// select from the first piece or, if that is none, from the second. So it can be found piece by piece.
 ///
 /// ```text
 /// laws::first_is_of_first_piece();

@@ -3,7 +3,7 @@ ghost use Rattle.std.specs.Prelude.{◌≡◌, ◌≤◌, take, length, false, n
 
 use crate::streams::{Input, IoFailed};
 
-/// A slice of bytes, read from its front. No read fails.
+/// A slice of bytes as an input, which is read from its front. No read fails.
 ///
 /// ```text
 /// let mut bytes = Bytes::new(b"[1]");
@@ -19,7 +19,7 @@ pub struct Bytes<'a> {
 }
 
 impl<'a> Bytes<'a> {
-    /// The bytes before the first read.
+    /// An input that reads this slice of bytes from its front.
     ///
     /// ```text
     /// assert!(rt; !Input::failed(&Bytes::new(b"[1]")));

@@ -43,7 +43,7 @@ pub fn value_at<'a>(
     select(alloc, json, text.as_str())
 }
 
-/// The selected values as the text of a JSON array: by `$[*].name`, say, the names in a list of records.
+/// The values that the path selects as the text of a JSON array: by `$[*].name`, say, the names in a list of records.
 pub fn column_text(alloc: Global, json: &Value, path: &str) -> Result<String, JsonPathError>
     ensures { IfOk result (λ text. (values : List Data) × Selects path.now (view json.now) values × (list_text values ≡ Some (string_bytes text))) }
 {
@@ -51,7 +51,7 @@ pub fn column_text(alloc: Global, json: &Value, path: &str) -> Result<String, Js
     list_to_text(alloc, found.as_slice())
 }
 
-/// Whether the path selects exactly `count` values, duplicates included.
+/// Whether the path selects exactly `count` values in the document, duplicates included.
 pub fn selects_exactly(
     alloc: Global,
     json: &Value,
@@ -64,7 +64,7 @@ pub fn selects_exactly(
     Ok(found.len() == count)
 }
 
-/// What the path selects by a `JsonSelector`, and what by a `Selector`: the two lists are equal.
+/// What the path selects by a `JsonSelector`, and what it selects by a `Selector`: the two lists are equal.
 pub fn select_by_both_selectors<'a>(
     alloc: Global,
     json: &'a Value,
@@ -83,8 +83,8 @@ pub fn select_by_both_selectors<'a>(
     Ok((first, second))
 }
 
-/// What `$[?((@.isbn) && (@.price < 1000))]` selects of the books, and what it selects with the two conditions in the
-/// other order: the two lists are equal.
+/// What `$[?((@.isbn) && (@.price < 1000))]` selects in an array of books, and what it selects with the two conditions
+/// in the other order: the two lists are equal.
 pub fn select_with_both_condition_orders<'a>(
     alloc: Global,
     books: &'a Value,

@@ -12,8 +12,8 @@ use serde_json::Value;
 use std::alloc::Global;
 use std::rc::Rc;
 
-/// Puts a compiled path into a `JsonSelector` or a `JsonSelectorMut` by `set_parser`. After an error it has the path
-/// that it had.
+/// Puts a compiled path into a `JsonSelector` or a `JsonSelectorMut` by `set_parser`. After an error the selector has
+/// the path that it had before.
 pub fn set_parser_in_pair<'a, V: HeldValue>(
     alloc: Global,
     held: &mut HeldPair<Rc<PathParser<'a>>, V>,
@@ -26,7 +26,7 @@ pub fn set_parser_in_pair<'a, V: HeldValue>(
     Ok(())
 }
 
-/// Compiles a path text into a `Selector` or a `SelectorMut` by `set_path`. After an error it has the path that it had.
+/// Compiles a path text into a `Selector` or `SelectorMut` by `set_path`. After an error its path is the one before.
 pub fn set_path_in_pair<P: OfNode + Drop, V: HeldValue>(
     alloc: Global,
     held: &mut HeldPair<P, V>,
@@ -39,7 +39,7 @@ pub fn set_path_in_pair<P: OfNode + Drop, V: HeldValue>(
     Ok(())
 }
 
-/// The answer of a selector after two path texts, one after the other: what the second selects.
+/// Sets two path texts in a selector, one after the other, and returns what the second selects.
 pub fn select_by_second_path<'a>(
     alloc: Global,
     json: &'a Value,
@@ -55,7 +55,7 @@ pub fn select_by_second_path<'a>(
     held.select(alloc)
 }
 
-/// What one path in a selector selects in two documents, one after the other.
+/// What one path, set in a selector once, selects in a first document and then in a second.
 pub fn select_in_two_documents<'a>(
     alloc: Global,
     path: &str,
@@ -74,8 +74,8 @@ pub fn select_in_two_documents<'a>(
     Ok((first, second))
 }
 
-/// The document with null in place of what the path selects below the root, by calls of an update type that are
-/// statements of their own. `None` would mean that the type has no document.
+/// The document with null in place of what the path selects below the root, by a `SelectorMut` whose calls are not
+/// chained. `None` would mean that the `SelectorMut` has no document.
 pub fn delete_in_statements(
     alloc: Global,
     json: Value,
@@ -89,8 +89,8 @@ pub fn delete_in_statements(
     Ok(held.take())
 }
 
-/// Removes what the path of the update type selects from its document, and returns whether that was done. An error
-/// leaves all as it was.
+/// Removes what the path of the `SelectorMut` selects from its document, and returns whether that was done. After an
+/// error the document is as it was.
 pub fn remove_or_leave(alloc: Global, held: &mut SelectorMut) -> bool
     ensures removed { result ≡ true → RemovesHeld held.old.path (document held.old) (document held.new) }
     ensures left { result ≡ false → held.new ≡ held.old }

@@ -14,7 +14,7 @@ use serde_json::Value;
 use std::alloc::Global;
 use std::rc::Rc;
 
-/// The values that the path selects.
+/// The values that the path selects in the document, by the method `select`.
 pub fn select<'v>(
     alloc: Global,
     json: &'v Value,
@@ -26,7 +26,7 @@ pub fn select<'v>(
     path.select(alloc, json)
 }
 
-/// The nodes that the path selects.
+/// The nodes that the path selects in the document, each a value with its location.
 pub fn select_spots<'v>(
     alloc: Global,
     json: &'v Value,
@@ -38,7 +38,7 @@ pub fn select_spots<'v>(
     path.select_spots(alloc, json)
 }
 
-/// The locations that the path selects.
+/// The locations of what the path selects in the document.
 pub fn select_locations(
     alloc: Global,
     json: &Value,
@@ -50,7 +50,7 @@ pub fn select_locations(
     path.select_locations(alloc, json)
 }
 
-/// The text of the values that the path selects.
+/// The values that the path selects in the document, as the text of a JSON array.
 pub fn select_as_str(
     alloc: Global,
     json: &Value,
@@ -62,7 +62,7 @@ pub fn select_as_str(
     path.select_as_str(alloc, json)
 }
 
-/// The values that the path selects, each as a `T`.
+/// The values that the path selects in the document, each deserialized to a `T`.
 pub fn select_as<T: DeserializeOwned>(
     alloc: Global,
     json: &Value,
@@ -74,7 +74,7 @@ pub fn select_as<T: DeserializeOwned>(
     path.select_as(alloc, json)
 }
 
-/// How many values the path selects.
+/// How many values the path selects in the document.
 pub fn count(alloc: Global, json: &Value, path: &PathParser<'_>) -> Result<usize, JsonPathError>
     ensures ok { IfOk result (IsCountOf (Selects path.now (view json.now))) }
     ensures refused { IfErr result (λ e. e ≡ JsonPathError.OutOfMemory) }
@@ -82,7 +82,7 @@ pub fn count(alloc: Global, json: &Value, path: &PathParser<'_>) -> Result<usize
     path.count(alloc, json)
 }
 
-/// The first value that the path selects.
+/// The first value that the path selects in the document, or `None`.
 pub fn first<'v>(
     alloc: Global,
     json: &'v Value,
@@ -94,7 +94,7 @@ pub fn first<'v>(
     path.first(alloc, json)
 }
 
-/// Whether the path selects any value.
+/// Whether the path selects any value in the document.
 pub fn exists(alloc: Global, json: &Value, path: &PathParser<'_>) -> Result<bool, JsonPathError>
     ensures ok { IfOk result (TellsIfAny (Selects path.now (view json.now))) }
     ensures refused { IfErr result (λ e. e ≡ JsonPathError.OutOfMemory) }
@@ -102,7 +102,7 @@ pub fn exists(alloc: Global, json: &Value, path: &PathParser<'_>) -> Result<bool
     path.exists(alloc, json)
 }
 
-/// Puts null at what the path selects.
+/// Puts null in the document at what the path selects.
 pub fn delete_in(
     alloc: Global,
     value: &mut Value,
@@ -115,7 +115,7 @@ pub fn delete_in(
     path.delete_in(alloc, value)
 }
 
-/// Removes what the path selects.
+/// Removes from the document what the path selects.
 pub fn remove_in(
     alloc: Global,
     value: &mut Value,
@@ -128,7 +128,7 @@ pub fn remove_in(
     path.remove_in(alloc, value)
 }
 
-/// Puts a value at what the path selects.
+/// Puts a copy of one value in the document at what the path selects.
 pub fn set_in(
     alloc: Global,
     value: &mut Value,
@@ -142,7 +142,7 @@ pub fn set_in(
     path.set_in(alloc, value, new)
 }
 
-/// Replaces what the path selects by the closure's results.
+/// Replaces in the document what the path selects by the closure's results.
 pub fn replace_in<F: FnMut(Value) -> Option<Value>>(
     alloc: Global,
     value: &mut Value,
@@ -159,8 +159,8 @@ pub fn replace_in<F: FnMut(Value) -> Option<Value>>(
     path.replace_in(alloc, value, fun)
 }
 
-/// Replaces what the path selects by the results of a closure. Its first error ends the updates; those before it
-/// remain.
+/// Replaces in the document what the path selects by the results of a closure. The closure's first error ends the
+/// updates; those before it remain.
 pub fn try_replace_in<E, F: FnMut(&Value) -> Result<Option<Value>, E>>(
     alloc: Global,
     value: &mut Value,
@@ -175,28 +175,28 @@ pub fn try_replace_in<E, F: FnMut(&Value) -> Result<Option<Value>, E>>(
     path.try_replace_in(alloc, value, fun)
 }
 
-/// The spelling of a compiled path, which the clauses of its verbs name: its text.
+/// The text of a compiled path, which the contracts of its methods call its spelling.
 pub fn spelling_of<P: AnyPath>(path: &P) -> &str
     ensures { result.now ≡ P.spelling path.now }
 {
     path.parts().text
 }
 
-/// The spelling of a path that owns its text is that text.
+/// The text of a compiled path that owns its text; contracts call it the path's spelling.
 pub fn spelling_of_node(path: &Node) -> &str
     ensures { result.now ≡ path.now }
 {
     spelling_of(path)
 }
 
-/// The spelling of a shared path is that of the path.
+/// The text of a compiled path that is shared; contracts call it the path's spelling.
 pub fn spelling_of_shared<P: AnyPath>(path: &Rc<P>) -> &str
     ensures { result.now ≡ P.spelling path.now.value }
 {
     spelling_of(path)
 }
 
-/// The spelling of a kept path, as `Compiled` and `PathCompiled`, is the text that it was compiled from.
+/// The text from which a `Compiled` or a `PathCompiled` was compiled; contracts call it the path's spelling.
 pub fn spelling_of_kept<P: AnyPath>(path: &KeptPath<P>) -> &str
     ensures { result.now ≡ path.now }
 {

@@ -11,16 +11,16 @@ use json::Scratch;
 use jsonpath_streams::{IoFailed, Output};
 use std::alloc::{AllocError, Global};
 
-/// Why the run ends early.
+/// Why a run of the program `jpath` ends before its last document.
 #[derive(Clone, Copy, Debug, Drop, PartialEq, Eq)]
 pub enum Stop {
-    /// Writing failed, or nobody reads the output any more.
+    /// A write to standard output failed, or its reader has closed the pipe.
     Output,
-    /// A match was found, and one is enough.
+    /// A match was found, and the option `--quiet` needs no more than one.
     Found,
-    /// A document had an error, which is printed already.
+    /// A document has an error, which is already printed, and the run does not go on after errors.
     Document,
-    /// Out of memory.
+    /// Memory ran out.
     OutOfMemory,
 }
 
@@ -46,8 +46,8 @@ impl From<IoFailed> for Stop {
     }
 }
 
-/// The task, the current file, the output so far, and whether a document had an error. It writes the output of each
-/// document that it visits.
+/// Visits the documents of a file and writes the output for each. It has the task, the file's name, the output so far,
+/// and whether a document had an error.
 #[derive(Drop)]
 pub struct DocumentVisitor<'r, 'w, T, W> {
     pub rt: &'r T,
@@ -61,7 +61,7 @@ pub struct DocumentVisitor<'r, 'w, T, W> {
 }
 
 impl<'r, 'w, T: Eprint + Alloc<A = Global>, W: Output> DocumentVisitor<'r, 'w, T, W> {
-    /// A visitor that has visited nothing yet: no output is buffered, and no document had an error.
+    /// A visitor that has visited no document yet: no output is buffered, and no document had an error.
     pub fn new(rt: &'r T, wanted: &'r Wanted<'w>, writer: W) -> DocumentVisitor<'r, 'w, T, W> {
         DocumentVisitor {
             rt,

@@ -15,8 +15,8 @@ use std::alloc::Global;
 use std::str;
 
 /// Appends the output for a document to `out` (lines, an array, a table or its edited text), and returns how many
-/// matches it has, or how many locations below the root the edits' paths select. `name` is the file's. An error may
-/// leave a part of it.
+/// matches it has, or for edits how many locations below the root their paths select. `name` is the file's name. After
+/// an error `out` may end with a part of the output.
 pub fn add_output_for_document(
     rt: &(impl Eprint + Alloc<A = Global>),
     wanted: &Wanted<'_>,

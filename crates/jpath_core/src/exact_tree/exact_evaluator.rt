@@ -25,17 +25,18 @@ use jsonpath_select::borrowed_name_at;
 use std::alloc::{AllocError, Global};
 use std::mem;
 
-/// The result of evaluating a path on an exact tree.
+/// The result of evaluating a path on an exact tree, the tree of a JSON text that keeps each number as it is written.
 #[derive(Clone, Copy, Debug, Drop)]
 pub struct ExactOutcome {
-    /// How many values the path selects.
+    /// How many values the path selects in the document.
     pub count: usize,
-    /// Whether a number was compared that is not an integer of 64 bits. It was compared exactly.
+    /// Whether a filter compared a number that is not an integer of 64 bits. Such numbers are compared exactly.
     pub has_fraction: bool,
 }
 
-/// Whether a path may be evaluated on the exact tree itself: it begins at the root, and consists of names, `[*]` and
-/// filters on members of a candidate. Some documents need an image for it all the same.
+/// Whether a path may be evaluated on the exact tree of a document, without an image (a copy with `serde_json`'s
+/// numbers): it begins at the root, and consists of names, `[*]` and filters on members of a candidate. Some documents
+/// need an image for it all the same.
 pub fn may_answer_by_exact_tree(query: &Query<'_>) -> bool {
     let path = query.path().tree();
     for step in &path.steps {
@@ -51,9 +52,9 @@ pub fn may_answer_by_exact_tree(query: &Query<'_>) -> bool {
     path.absolute
 }
 
-/// Writes a line for each value that a path selects in an exact tree, in the path's order, or no line if there is no
-/// `line`, and returns how many there are. `None` if the path or the tree needs an image: a part of the lines may
-/// then be written, as at an error.
+/// Writes a line for each value that a path selects in an exact tree, in the path's order, or no line if `line` is
+/// `None`, and returns how many values there are. `None` if the path or the document can only be evaluated on an image
+/// (a copy with `serde_json`'s numbers): a part of the lines may then be written, as after an error.
 pub fn add_lines_by_exact_tree(
     alloc: Global,
     exact: &Exact<'_>,

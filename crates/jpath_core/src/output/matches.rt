@@ -27,7 +27,7 @@ use std::alloc::{AllocError, Global};
 use std::mem;
 
 /// Appends a line to `out` for each value that one path selects in a document, in the path's order, and returns how
-/// many there are. After an error `out` may end with a part of these lines.
+/// many lines there are. After an error `out` may end with a part of these lines.
 pub fn add_lines_for_path(
     alloc: Global,
     document: &Document<'_>,
@@ -45,7 +45,7 @@ pub fn add_lines_for_path(
     Ok(spots.len())
 }
 
-/// The number of values that each of the paths selects in a document, duplicates included, all added up.
+/// The number of values that several paths select in a document, duplicates included, added up over the paths.
 pub fn count_matches(
     alloc: Global,
     document: &Document<'_>,
@@ -70,8 +70,8 @@ fn count_matches_of_path(
     Ok(select_in_document(alloc, document, query)?.len())
 }
 
-/// Appends to `out` one JSON array of all values that the paths select, those of the first path first, and a line
-/// end. Returns how many values there are. After an error `out` may end with a part of the array.
+/// Appends to `out` one JSON array of all values that the paths select in a document, those of the first path first,
+/// and a line end. Returns how many values there are. After an error `out` may end with a part of the array.
 pub fn add_array(
     alloc: Global,
     document: &Document<'_>,

@@ -6,8 +6,9 @@ use crate::output::value_text::Look;
 use json::Value as Exact;
 use std::alloc::{AllocError, Global};
 
-/// Appends an item of a JSON array to `out`, in colours or over several lines as `look` says, with the comma before
-/// it. A name that an object has several times is written once. After an error `out` may end with a part of the item.
+/// Appends an item of a JSON array to `out`, in colours or over several lines as `look` says, after a comma if
+/// `has_comma`. A name that an object has several times is written once. After an error `out` may end with a part of
+/// the item.
 pub fn add_array_item(
     alloc: Global,
     out: &mut Vec<u8>,
@@ -36,8 +37,8 @@ fn add_array_item_with_names_kept(
     add_value_at_depth(alloc, out, value, depth, look.is_colored)
 }
 
-/// Appends the closing bracket of the array, on a line of its own if there are items (`has_items`) and they are on
-/// lines.
+/// Appends the closing bracket of a JSON array to `out`, on a line of its own if the array has items (`has_items`) and
+/// `look` puts them on lines.
 pub fn add_array_end(out: &mut Vec<u8>, has_items: bool, look: Look) -> Result<(), AllocError> {
     if has_items {
         add_comma_and_indent(out, false, if look.is_pretty { Some(0) } else { None })?;

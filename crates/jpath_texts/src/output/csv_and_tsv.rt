@@ -7,12 +7,13 @@ use csv::{Terminator, WriterBuilder};
 use std::alloc::{AllocError, Global};
 use std::mem;
 
-/// How the fields of a row are separated.
+/// How the fields of a row of a table are separated: CSV or TSV.
 #[derive(Clone, Copy, Debug, Drop)]
 pub enum Separated {
-    /// By commas; a field with a comma, a quote or a line end is quoted.
+    /// CSV: fields are separated by commas; a field with a comma, a quote or a line end is quoted.
     ByCommas,
-    /// By tabs; a tab, a line end or a backslash in a field is written by a backslash and a letter.
+    /// TSV: fields are separated by tabs; a tab, a line end or a backslash in a field is written by a backslash and a
+    /// letter or a second backslash.
     ByTabs,
 }
 

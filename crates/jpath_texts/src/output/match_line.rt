@@ -7,29 +7,29 @@ ghost use Rattle.jpath_texts.specs.Lines.{named};
 use crate::output::value_text::Look;
 use std::alloc::AllocError;
 
-/// What `jpath` prints for a match: the value, its location, or both.
+/// What `jpath` prints for a value that a path selects: the value, its location, or both.
 #[derive(Clone, Copy, Debug, Drop, PartialEq, Eq)]
 pub enum Shown {
-    /// The value.
+    /// Prints the selected value.
     Values,
-    /// The location of the value.
+    /// Prints the location of the selected value.
     Places,
-    /// The location, a tab and the value.
+    /// Prints the location of the selected value, a tab and the value.
     PlacesAndValues,
 }
 
-/// How the line of a match is laid out.
+/// How a line is printed for a value that a path selects: which file name, what of the value, and in which layout.
 #[derive(Clone, Copy, Debug, Drop)]
 pub struct Line<'n> {
-    /// How its value is laid out.
+    /// How the selected value is laid out: raw, over lines, in colours.
     pub look: Look,
-    /// What the line shows of the match.
+    /// Whether the line shows the selected value, its location, or both.
     pub shown: Shown,
-    /// A file name to print before it, with a colon.
+    /// The name of a file to print at the front of the line, with a colon; `None` for no name.
     pub name: Option<&'n str>,
 }
 
-/// Appends a file's name and a colon, or nothing if there is no name.
+/// Appends a file's name and a colon to `out`, or nothing if `name` is `None`.
 pub fn add_file_name(out: &mut Vec<u8>, name: Option<&str>) -> Result<(), AllocError>
     ensures { OnOk result (out.new.items ≡ out.old.items ++ named name.entry) }
 {

@@ -16,7 +16,7 @@ use std::alloc::{AllocError, Global};
 // So many names of an object are compared with each other; an object that has more is made anew.
 const FEW: usize = 16;
 
-/// Writes a value with each name of an object once: where it occurs first, with its last value.
+/// Writes a JSON value to `writer`, with each name of an object once: where it occurs first, with its last value.
 pub fn write_with_names_once(
     alloc: Global,
     value: &Exact<'_>,

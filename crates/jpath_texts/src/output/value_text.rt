@@ -12,19 +12,19 @@ use json::{Pretty, Token, Value as Exact, Writer};
 use std::alloc::{AllocError, Global};
 use std::mem;
 
-/// How a value is laid out. If no field is set, it is written compactly.
+/// How a JSON value is printed. If no field is set, it is written compactly.
 #[derive(Clone, Copy, Debug, Drop)]
 pub struct Look {
-    /// Whether a text is written without quotes and escapes.
+    /// Whether a value that is a text is written without quotes and escapes.
     pub is_raw: bool,
-    /// Whether items and members are written on lines of their own, indented by two blanks.
+    /// Whether items and members of a value are written on lines of their own, indented by two blanks.
     pub is_pretty: bool,
-    /// Whether names, texts, numbers and the rest are in colours.
+    /// Whether names, texts, numbers and the rest of a value are written in colours.
     pub is_colored: bool,
 }
 
-/// Appends the compact text of a value. Members whose name comes again are all written. After an error nothing of the
-/// text is appended.
+/// Appends the compact JSON text of a value to `out`. Members whose name an object has several times are all written.
+/// After an error nothing is appended.
 pub fn add_compact_value(
     alloc: Global,
     out: &mut Vec<u8>,
@@ -40,8 +40,8 @@ pub fn add_compact_value(
     written
 }
 
-/// Appends a value as `look` says, each name of an object once: where it occurs first, with its last value. An error
-/// may leave a part of it.
+/// Appends the text of a value to `out`, raw, over lines or in colours as `look` says, with each name of an object
+/// once: where it occurs first, with its last value. After an error `out` may end with a part of the text.
 pub fn add_value_in_look(
     alloc: Global,
     out: &mut Vec<u8>,

@@ -2,15 +2,15 @@
 
 use json_recognizer::{Kind, LineColumn};
 
-/// The next of a stream: a document, or what is in its place.
+/// The next piece of a stream of documents: a document, wrong bytes in place of one, or blanks at the end.
 #[derive(Clone, Copy, Debug, Drop)]
 pub struct Piece<'p> {
-    /// Its bytes, with the blanks before it.
+    /// The bytes of the piece, with the blanks before its document.
     pub bytes: &'p [u8],
-    /// Where they begin.
+    /// The line and column in the stream at which the bytes of the piece begin.
     pub place: LineColumn,
-    /// What they are.
+    /// What the piece is: a document, wrong bytes in place of one, or blanks.
     pub kind: Kind,
-    /// Whether a byte order mark comes before it.
+    /// Whether a byte order mark comes before the piece in the stream.
     pub is_marked: bool,
 }

@@ -9,18 +9,18 @@ use json_recognizer::{Kind, ReadFailure, StreamBuffer};
 use jsonpath_streams::Input;
 use std::alloc::Global;
 
-/// What a visitor reports after a piece: matches found, whether to stop.
+/// What a visitor of documents reports after each: how many matches it has, and whether to stop.
 #[derive(Clone, Copy, Debug, Drop)]
 pub struct Taken {
-    /// How many matches it has.
+    /// How many matches the visited document has.
     pub count: usize,
-    /// Whether to stop, since nothing more is wanted.
+    /// Whether to visit no more documents of the stream, since the visitor needs none.
     pub is_enough: bool,
 }
 
 /// A visitor of the documents of a stream, one after another.
 pub trait Visitor {
-    /// The error with which it ends the stream.
+    /// The error by which the visitor ends the visits of a stream.
     type Stop: Drop;
 
     // What was written so far, handed on or not.
@@ -32,14 +32,14 @@ pub trait Visitor {
     // Why it may go no further.
     ghost stops: { Self → Self.Stop → Type 0 };
 
-    /// Called before each read of the stream, which may block: output can be flushed first.
+    /// Called before each read of the stream, which may block: buffered output can be written first.
     fn before_read(&mut self) -> Result<(), Self::Stop>
         ensures written { written self.new ≡ written self.old }
         ensures stops { IfErr result (stops self.new) }
         ensures stay { StayGiven (gives self.old) (gives self.new) };
 
-    /// Visits the next piece, writes the output for it, and reports what it found. If it returns an error, nothing is
-    /// written for the piece.
+    /// Visits the next piece of a stream (mostly a document), writes the output for it, and reports how many matches it
+    /// has. If it returns an error, nothing is written for the piece.
     fn visit_piece(&mut self, piece: &Piece<'_>) -> Result<Taken, Self::Stop>
         ensures gives { IfOk result (λ taken. (text : List ℕ) × (written self.new ≡ written self.old ++ text)
             × gives self.new piece.now.kind piece.now.bytes.now taken text) }
@@ -48,35 +48,36 @@ pub trait Visitor {
         ensures stay { StayGiven (gives self.old) (gives self.new) };
 }
 
-/// How a stream ended.
+/// Why the visits of a stream's documents ended.
 #[derive(Clone, Copy, Debug, Drop, PartialEq, Eq)]
 pub enum How<S> {
-    /// It was consumed to its end.
+    /// The stream was read to its end, and each document was visited.
     Whole,
-    /// The visitor wanted no more.
+    /// The visitor wanted no more documents.
     Enough,
-    /// It could not be read further.
+    /// The stream could not be read further, for this reason.
     ReadFailed(ReadFailure),
-    /// The visitor returned an error.
+    /// The visitor returned this error.
     Stopped(S),
-    /// It took more turns than can be counted.
+    /// The stream took more turns of the loop than 64 bits can count.
     Endless,
 }
 
-/// The result of `visit_documents`: the number of matches, and why it stopped.
+/// The result of `visit_documents`: the number of matches, and why the visits ended.
 #[derive(Drop)]
 pub struct Ended<S> {
-    /// How many matches its documents have, as far as can be counted.
+    /// How many matches the visited documents have together, or the greatest `usize` if there are more.
     pub count: usize,
-    /// How it ended.
+    /// Why the visits of the stream's documents ended.
     pub how: How<S>,
 }
 
 /// Visits the documents of a stream, one after another, each as soon as its bytes are read, until the stream ends, a
-/// read fails, or the visitor wants no more or returns an error. Where a byte comes that no document goes on with, the
-/// bytes up to it are visited at once; if the visitor goes on, the stream does behind the line on which they begin.
-/// Returns how many matches the visited documents have together, and how the stream ended. The visitor's output for
-/// each is in their order. A byte order mark at the beginning is skipped.
+/// read fails, or the visitor wants no more or returns an error. If a byte comes with which no document goes on, the
+/// bytes up to and with it are visited at once, as a piece that is no document; if the visitor goes on, the next piece
+/// begins after the line on which that one begins. Returns how many matches the visited documents have together, and
+/// why the visits ended. The visitor's outputs are in the order of the documents. A byte order mark at the beginning is
+/// skipped.
 pub fn visit_documents<R: Input, V: Visitor>(
     alloc: Global,
     reader: &mut R,

@@ -6,7 +6,7 @@ ghost use Rattle.json_recognizer.specs.Lines.{line_ends, place_behind};
 
 use crate::buffer::piece::LineColumn;
 
-/// How many blanks are in front.
+/// How many blanks (spaces, tabs, line ends) are at the front of the bytes.
 pub fn count_blanks(bytes: &[u8]) -> usize
     ensures blanks { result ≡ blanks_len bytes.now }
     ensures within { result ≤ length bytes.now }
@@ -55,7 +55,7 @@ fn count_behind_line_end(bytes: &[u8]) -> Option<usize>
     bytes.iter().rev().position(|byte| *byte == b'\n')
 }
 
-/// The position behind these bytes, which begin at this one.
+/// The line and column after these bytes, which begin at the line and column `place`.
 pub fn place_after(place: LineColumn, bytes: &[u8]) -> LineColumn
     ensures { (passed : List ℕ) → place ≡ place_behind passed → result ≡ place_behind (passed ++ bytes.now) }
 {

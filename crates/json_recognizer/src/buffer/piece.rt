@@ -1,17 +1,18 @@
 //! The pieces of a stream, and positions in it.
 
-/// What a piece of a stream is.
+/// What a piece of a stream of JSON documents is: a document, wrong bytes in place of one, or blanks.
 #[derive(Clone, Copy, Debug, Drop, PartialEq, Eq)]
 pub enum Kind {
-    /// A document.
+    /// A JSON document, perhaps with blanks before it.
     Document,
-    /// The bytes up to and with the first that no document goes on with, or a document that the stream's end cuts short.
+    /// The bytes up to and with the first with which no document goes on, or a document that the stream's end cuts
+    /// short.
     Refused,
-    /// Blanks alone, after the last document.
+    /// Blanks alone, after the last document of the stream.
     Blanks,
 }
 
-/// A position in a stream, line and column from 1; the column counts bytes.
+/// A position in a stream: its line and its column, both from 1; the column counts bytes.
 #[derive(Clone, Copy, Debug, Drop, PartialEq, Eq)]
 pub struct LineColumn {
     pub line: usize,

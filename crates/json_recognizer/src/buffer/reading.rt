@@ -12,12 +12,12 @@ use std::alloc::AllocError;
 // How many bytes are asked for at a time.
 const CHUNK: usize = 131072;
 
-/// Why a stream could not be read further.
+/// Why a stream of documents could not be read further.
 #[derive(Clone, Copy, Debug, Drop, PartialEq, Eq)]
 pub enum ReadFailure {
-    /// A read failed.
+    /// A read of the stream failed.
     Failed,
-    /// Out of memory.
+    /// Memory ran out.
     OutOfMemory,
 }
 
@@ -32,7 +32,8 @@ impl From<AllocError> for ReadFailure {
 }
 
 impl StreamBuffer {
-    /// Reads until the next piece is found, and returns what it is. An error where a read fails or there is no memory.
+    /// Reads the stream until its next piece (mostly a document) is found, and returns what the piece is. An error if a
+    /// read fails or memory runs out.
     pub fn read_next_piece<R: Input>(&mut self, reader: &mut R) -> Result<Kind, ReadFailure>
         requires { IsReady self.old }
         ensures sound { IsSound self.new }
@@ -54,8 +55,8 @@ impl StreamBuffer {
         }
     }
 
-    /// Reads more bytes of the stream into the buffer, or notes that the stream has ended. An error where the read fails
-    /// or there is no memory.
+    /// Reads more bytes of the stream into the buffer, or records that the stream has ended. An error if the read fails
+    /// or memory runs out.
     pub fn read_more<R: Input>(&mut self, reader: &mut R) -> Result<(), ReadFailure>
         requires ready { IsReady self.old }
         requires open { self.old.is_whole ≡ false }

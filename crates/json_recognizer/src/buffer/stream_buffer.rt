@@ -15,10 +15,11 @@ use crate::state::{State, start};
 use crate::stream::{Found, find_end, is_final};
 use std::alloc::Global;
 
-/// A byte order mark.
+/// The bytes of a byte order mark in UTF-8.
 pub const MARK: [u8; 3] = [0xef, 0xbb, 0xbf];
 
-/// The bytes of a stream that are not yet done with: the piece at hand and what was read beyond it.
+/// The bytes of a stream of documents that were read and not yet passed: those of the current piece (a document, or
+/// wrong bytes in place of one), and what was read after it.
 #[derive(Drop)]
 pub struct StreamBuffer {
     pub(super) bytes: Vec<u8>,
@@ -35,7 +36,7 @@ pub struct StreamBuffer {
 }
 
 impl StreamBuffer {
-    /// The buffer of a stream of which nothing is read.
+    /// The buffer of a stream of which nothing is read yet.
     pub fn new(alloc: Global) -> StreamBuffer
         ensures ready { IsReady result }
         ensures empty { left result ≡ [] }
@@ -54,7 +55,8 @@ impl StreamBuffer {
         }
     }
 
-    /// The bytes of the piece that was found last, with the blanks before it.
+    /// The bytes of the stream's current piece, the document or the wrong bytes that were found last, with the blanks
+    /// before.
     pub fn current_piece(&self) -> &[u8]
         requires { IsSound self.now }
         ensures { result.now ≡ piece_of self.now }
@@ -62,14 +64,15 @@ impl StreamBuffer {
         &self.bytes[self.start..self.end]
     }
 
-    /// The line and column in the stream where the piece at hand begins.
+    /// The line and column in the stream where the current piece, a document or wrong bytes in place of one, begins.
     pub fn line_and_column(&self) -> LineColumn
         ensures { result ≡ self.now.place }
     {
         self.place
     }
 
-    /// Whether the stream ends within the piece at hand, where that is no document.
+    /// Whether the stream ends within the current piece, which is no document: it is cut short, and not wrong at a
+    /// byte.
     pub fn is_cut_short(&self) -> bool
         ensures cut { result ≡ true → wrong_in self.now ≡ Found.GoesOn }
         ensures byte { result ≡ false → wrong_in self.now ≡ Found.Refused (self.now.seen - self.now.start) }
@@ -77,8 +80,8 @@ impl StreamBuffer {
         self.end <= self.seen
     }
 
-    /// The line and column of the first wrong byte of the piece at hand, which is no document; where the stream ends within
-    /// it, of its last byte, with column 0 if that is a line end.
+    /// The line and column in the stream of the first wrong byte of the current piece, which is no document. If the
+    /// stream ends within the piece, those of its last byte, with column 0 if that is a line end.
     pub fn place_of_refusal(&self) -> LineColumn
         requires { IsSound self.now }
         ensures { (passed stream : List ℕ) → StandsBehind self.now passed → (wrong_in self.now ≡ Found.GoesOn → piece_of self.now ≡ stream) → ((more : List ℕ) × (stream ≡ left self.now ++ more)) → result ≡ place_of (wrong_in self.now) passed stream }
@@ -93,7 +96,7 @@ impl StreamBuffer {
         }
     }
 
-    /// The line and column behind all that was read.
+    /// The line and column after all bytes of the stream that were read so far.
     pub fn place_behind_all(&self) -> LineColumn
         requires { self.now.start ≤ length self.now.bytes.items }
         ensures { (passed : List ℕ) → StandsBehind self.now passed → result ≡ place_behind (passed ++ left self.now) }
@@ -101,7 +104,8 @@ impl StreamBuffer {
         place_after(self.place, &self.bytes[self.start..])
     }
 
-    /// Passes over a byte order mark, and returns whether there is one; None where more bytes are needed to know.
+    /// Skips a byte order mark at the front of the stream, and returns whether there is one; None if more bytes have to
+    /// be read to know.
     pub fn pass_byte_order_mark(&mut self) -> Option<bool>
         requires { IsReady self.old }
         ensures ready { IsReady self.new }
@@ -124,8 +128,8 @@ impl StreamBuffer {
         }
     }
 
-    /// Looks through the bytes for the end of the next document, or its first wrong byte, and returns what the piece is
-    /// up to there; None where more bytes are needed to know.
+    /// Looks in the bytes that were read for the end of the next document, or for its first wrong byte, and returns
+    /// what the piece up to there is; None if more bytes have to be read to know.
     pub fn find_next_piece(&mut self) -> Option<Kind>
         requires { IsReady self.old }
         ensures sound { IsSound self.new }
@@ -175,7 +179,8 @@ impl StreamBuffer {
         }
     }
 
-    /// Begins the search for the next piece anew, at the place where it begins.
+    /// Forgets how far the stream's current piece was searched for its end, and begins the search anew, at the piece's
+    /// first byte.
     pub fn begin_piece(&mut self)
         requires { self.old.start ≤ length self.old.bytes.items }
         ensures ready { IsReady self.new }
@@ -188,7 +193,7 @@ impl StreamBuffer {
         self.state = start();
     }
 
-    /// Passes over the piece at hand. The next begins behind it.
+    /// Skips the bytes of the stream's current piece, a document or wrong bytes. The next piece begins after them.
     pub fn pass_piece(&mut self)
         requires { IsSound self.old }
         ensures ready { IsReady self.new }
@@ -200,7 +205,7 @@ impl StreamBuffer {
         self.begin_piece_at(end);
     }
 
-    /// Passes over the blanks at the front of the piece at hand.
+    /// Skips the blanks at the front of the stream's current piece, which is a document or wrong bytes in place of one.
     pub fn pass_blanks(&mut self)
         requires { IsSound self.old }
         ensures ready { IsReady self.new }
@@ -211,8 +216,8 @@ impl StreamBuffer {
         self.begin_piece_at(behind);
     }
 
-    /// Passes over the bytes up to and with the first line end, or over all, where there is none. Returns whether the
-    /// line was passed: there is a line end, or the stream was read to its end.
+    /// Skips the bytes of the stream up to and with the first line end, or all that were read if there is none. Returns
+    /// whether the line was skipped to its end: there is a line end, or the stream has ended.
     pub fn pass_line(&mut self) -> bool
         requires { IsReady self.old }
         ensures ready { IsReady self.new }

@@ -41,7 +41,7 @@ impl<P: AnyPath> AnyPath for KeptPath<P> {
 }
 
 impl<P: AnyPath> KeptPath<P> {
-    /// The values that the path selects in the document, in the path's order, with duplicates. They borrow the
+    /// The values that this path selects in the document, in the path's order, with duplicates. They borrow the
     /// document alone. The only error is `OutOfMemory`.
     ///
     /// ```text
@@ -61,8 +61,8 @@ impl<P: AnyPath> KeptPath<P> {
         self.path.select(alloc, value)
     }
 
-    /// The document with null in place of each selected value below the root that lies in no other selected one. The
-    /// only error is `OutOfMemory`; the document is then dropped.
+    /// The document with null in place of each value below the root that this path selects and that lies in no other
+    /// selected one. The only error is `OutOfMemory`; the document is then dropped.
     ///
     /// ```text
     /// let document = read_document(alloc, b"[1, 2, 3]")?;
@@ -81,7 +81,7 @@ impl<P: AnyPath> KeptPath<P> {
 
     /// Calls the closure once for each selected location below the root, in document order, with the value that the
     /// earlier updates left there, and returns the document with the results: `Some` replaces the value, `None` removes
-    /// it. A location that no longer exists is skipped. Errors are those of `delete`; the closure is then not called.
+    /// it. A location that no longer exists is skipped. The only error is `OutOfMemory`, before any call.
     ///
     /// ```text
     /// let document = read_document(alloc, b"[1, 2, 3]")?;

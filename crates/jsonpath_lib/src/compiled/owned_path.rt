@@ -37,7 +37,7 @@ impl Compiled {
     }
 }
 
-/// A copy has the same path. The only error is out of memory.
+/// A copy of a compiled path has the same text, tree and token list. The only error is out of memory.
 impl Clone for Compiled {
     ghost is_clone = { λ it copy. copy ≡ it };
 

@@ -10,7 +10,7 @@ use jsonpath_select::{JsonPathError, ParseFault, error_of_parse_fault};
 use serde_json::Value;
 use std::alloc::Global;
 
-/// What compiling a path text gave: a path that owns its text, or the error, which each `select` then returns.
+/// The result of compiling a path text: a path that owns its text, or the error, which each `select` then returns.
 ///
 /// ```text
 /// let path = compile(alloc, "$[0]");
@@ -23,7 +23,7 @@ pub struct CompiledPath {
     outcome: Result<Compiled, ParseFault>,
 }
 
-/// Compiles a path text. An error is kept, and each `select` returns it.
+/// Compiles a path text. The call itself does not fail: an error is stored, and each `select` returns it.
 ///
 /// ```text
 /// let document = read_document(alloc, b"[1, 2, 3]")?;

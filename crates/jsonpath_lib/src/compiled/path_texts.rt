@@ -10,7 +10,7 @@ use std::alloc::Global;
 use std::error::Error;
 use std::fmt;
 
-/// The error of a list of path texts.
+/// The error of compiling a list of path texts.
 ///
 /// ```text
 /// let Err(refused) = compile_paths(alloc, &["$[0]", "$["]) else {
@@ -21,9 +21,9 @@ use std::fmt;
 /// ```
 #[derive(Drop)]
 pub struct PathsFault {
-    /// The index, from 0, of the first text that is no path; `None` for out of memory.
+    /// The index, from 0, of the first text of the list that is no path; `None` if memory ran out.
     pub index: Option<usize>,
-    /// `Path` with that text's message, or `OutOfMemory`.
+    /// The error of the first text that is no path, `Path` with a message, or `OutOfMemory`.
     pub fault: JsonPathError,
 }
 
@@ -46,7 +46,7 @@ impl fmt::Debug for PathsFault {
 
 impl Error for PathsFault {}
 
-/// The error alone, without the index of the text.
+/// Keeps the error of compiling the path text; the index of that text is lost.
 impl From<PathsFault> for JsonPathError {
     ghost from_gives = { λ refused error. error ≡ refused.fault };
 
@@ -69,8 +69,8 @@ pub(crate) fn write_paths_fault<W: fmt::Write>(
     }
 }
 
-/// Compiles the path texts, in order. The error has the index of the first text that is no path; if memory ran out, it
-/// has none.
+/// Compiles each of the path texts, in order. The error has the index of the first text that is no path; if memory ran
+/// out, it has none.
 ///
 /// ```text
 /// match compile_paths(alloc, &["$[0]", "$["]) {

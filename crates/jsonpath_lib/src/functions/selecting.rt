@@ -35,7 +35,7 @@ pub fn select<'a>(
 
 /// Reads a JSON text, then the path, and returns the selected values as a JSON text: `[`, their compact texts joined by
 /// `,`, and `]`. Errors: `Serde` if the JSON text is no document, or if the answer contains a number that is neither an
-/// `i64` nor a `u64`, as any fraction; `Path` if the path text is no path; or `OutOfMemory`.
+/// `i64` nor a `u64`, such as 1.5; `Path` if the path text is no path; or `OutOfMemory`.
 ///
 /// ```text
 /// let text = select_as_str(alloc, "[1, 2, 3]", "$[-2:]")?;
@@ -51,8 +51,8 @@ pub fn select_as_str(alloc: Global, json: &str, path: &str) -> Result<String, Js
     compiled.select_as_str(alloc, &document)
 }
 
-/// Reads a JSON text, then the path, and deserializes each selected value to a `T`, in the path's order. Errors: those
-/// of `select_as_str`, and `Serde` if `serde_json` can't make a `T` of a value.
+/// Reads a JSON text, then a path, and deserializes each selected value to a `T`, in order. Errors: `Serde` if the JSON
+/// text is no document, a value has a number that is no `i64` or `u64`, or is no `T`; `Path`; or `OutOfMemory`.
 ///
 /// ```text
 /// let numbers = select_as::<u8>(alloc, "[[1, 2], [3]]", "$[*][0]")?;

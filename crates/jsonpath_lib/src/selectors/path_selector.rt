@@ -25,7 +25,7 @@ pub struct PathSelector<'a> {
     pub(crate) json: &'a Value,
 }
 
-/// A selector in this document. It takes no memory.
+/// A selector for this document, to be used with any number of path texts. It takes no memory.
 ///
 /// ```text
 /// let document = read_document(alloc, b"[1, 2, 3]")?;
@@ -57,7 +57,7 @@ impl<'a> PathSelector<'a> {
     }
 }
 
-/// A document in which path texts select values of a type.
+/// A borrowed document in which one path text after another selects values, which are deserialized to a `T`.
 ///
 /// ```text
 /// let document = read_document(alloc, b"[[1], [2, 3]]")?;
@@ -70,7 +70,7 @@ pub struct PathSelectorAs<'a, T> {
     typed: PhantomData<T>,
 }
 
-/// A selector of typed values in this document. It takes no memory.
+/// A selector for this document that deserializes what path texts select to a `T`. It takes no memory.
 ///
 /// ```text
 /// let document = read_document(alloc, b"[1, 2, 3]")?;
@@ -91,7 +91,7 @@ pub fn selector_as<'a, T: DeserializeOwned>(json: &'a Value) -> PathSelectorAs<'
 impl<'a, T: DeserializeOwned> PathSelectorAs<'a, T> {
     /// Deserializes each value that the path selects in the document to a `T`, in the path's order, with duplicates.
     /// Errors: `Path` exactly if the text is no path; `Serde` if a value contains a number that is neither an `i64` nor
-    /// a `u64`, as any fraction, even if `T` is `f64`, or if `serde_json` can't make a `T` of it; or `OutOfMemory`.
+    /// a `u64`, such as 1.5, even if `T` is `f64`, or if `serde_json` can't make a `T` of it; or `OutOfMemory`.
     ///
     /// ```text
     /// let document = read_document(alloc, b"[1, 2, 3]")?;

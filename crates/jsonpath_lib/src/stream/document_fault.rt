@@ -15,7 +15,7 @@ use std::alloc::{AllocError, Global};
 use std::error::Error;
 use std::fmt;
 
-/// Why there is no next document.
+/// Why the next document of a stream of JSON texts can't be returned.
 ///
 /// ```text
 /// let fault = Documents::new(alloc, b"[1").next().and_then(|item| item.err());
@@ -23,21 +23,21 @@ use std::fmt;
 /// ```
 #[derive(Clone, Copy, Debug, Drop, PartialEq, Eq)]
 pub enum FaultKind {
-    /// No document goes on with a byte. The position is that byte's.
+    /// A byte with which no document goes on. The error's position is that of this byte.
     WrongByte,
-    /// The text ends within a document. The position is that of its last byte, with column 0 behind a line end.
+    /// The stream ends within a document. The error is at its last byte, in column 0 if that is a line end.
     CutShort,
-    /// `serde_json` doesn't read the document, as where a number is too large. The position is the one that it names.
+    /// `serde_json` rejects the document, for example if a number is too large. The error's position is `serde_json`'s.
     Unread,
-    /// A read of the input failed. The position is that behind all that was read.
+    /// A read of the input failed. The error's position is that after all bytes that were read.
     ReadFailed,
-    /// Out of memory.
+    /// Memory ran out.
     OutOfMemory,
-    /// With the document more bytes are read than 64 bits can count. The position is that behind the one before.
+    /// The stream has more bytes than 64 bits can count. The error's position is that after the document before.
     TooLong,
 }
 
-/// The error of a document of a stream, with its position in the whole stream.
+/// The error of reading the next document of a stream, with its position in the whole stream.
 ///
 /// ```text
 /// let mut documents = Documents::new(alloc, b"[1]\n[2,}");
@@ -50,17 +50,17 @@ pub enum FaultKind {
 /// ```
 #[derive(Drop)]
 pub struct DocumentFault {
-    /// Why there is no document.
+    /// Why the next document of the stream can't be returned.
     pub kind: FaultKind,
-    /// The line, from 1.
+    /// The line of the error in the whole stream, counted from 1.
     pub line: usize,
-    /// The byte in that line, from 1, as `serde_json` counts it.
+    /// The column of the error: a byte of that line, counted from 1, as `serde_json` does; 0 after a line end.
     pub column: usize,
-    /// `Serde` with a message that ends with this line and column, as `serde_json`'s does, or `OutOfMemory`.
+    /// `Serde`, with a message that ends with the error's line and column, as `serde_json`'s do, or `OutOfMemory`.
     pub error: JsonPathError,
 }
 
-/// The text of the error.
+/// Prints the text of the field `error`, which has the line and column.
 impl fmt::Display for DocumentFault {
     ghost output = { λ fault. Some (error_text fault.error) };
 
@@ -80,7 +80,7 @@ impl fmt::Debug for DocumentFault {
 
 impl Error for DocumentFault {}
 
-/// The error; the position is in its message alone.
+/// Keeps the field `error`; line and column are then in its message alone.
 impl From<DocumentFault> for JsonPathError {
     ghost from_gives = { λ fault error. error ≡ fault.error };
 

@@ -14,7 +14,7 @@ use std::alloc::Global;
 /// closing bracket, a quote or a word. One is read at a time, so a log takes the memory of one record.
 ///
 /// A number ends before a blank, a bracket or a quote; any other document ends with its last byte. The first error is
-/// the last item. It comes at the first byte that no document goes on with.
+/// the last item of the iterator. It comes at the first byte with which no document goes on.
 ///
 /// ```text
 /// let log = b"{\"ms\": 7}\n{\"ms\": 900}\n[1][2]";
@@ -41,7 +41,7 @@ pub struct Documents<R> {
 impl<'a> Documents<Bytes<'a>> {
     ghost use Rattle.jsonpath_lib.specs.stream.Documents.{IsNew};
 
-    /// The documents of this text. It takes no memory.
+    /// An iterator over the documents of this text. It takes no memory.
     ///
     /// ```text
     /// let mut documents = Documents::new(alloc, b"[1]");
@@ -61,7 +61,7 @@ impl<R: Input> Documents<R> {
     ghost use Rattle.jsonpath_lib.specs.stream.Documents.{IsNew, IsPassed};
     ghost use Rattle.jsonpath_lib.specs.stream.Faults.{place_of_fault, Says, IsUnread};
 
-    /// The documents of what is left of this input. It takes no memory, and reads nothing.
+    /// An iterator over the documents of what is left to read of this input. It takes no memory, and reads nothing yet.
     ///
     /// ```text
     /// let input = Checked::new("[1] [2]".as_bytes());
@@ -106,7 +106,7 @@ impl<R: Input> Documents<R> {
     }
 }
 
-/// The next document, or its error, with line and column.
+/// Returns the next document of the stream, or the error with its line and column.
 impl<R: Input + Drop> Iterator for Documents<R> {
     ghost use Rattle.std.specs.Iterator.{at_most};
     ghost use Rattle.jsonpath_lib.specs.stream.Documents.{Gives, most_left};

@@ -12,10 +12,10 @@ use std::alloc::Global;
 
 /// The document without the values below the root that any of the paths selects, removed all at once: the other items
 /// of an array keep their order. All paths are applied to the original document, so their order does not matter; with
-/// no path at all it comes back as it is.
+/// no path at all it is returned as it is.
 ///
 /// The paths are compiled in order before anything else. The error has the index of the first path that is outside the
-/// grammar, or, if memory ran out, none. It has the document, unchanged.
+/// grammar, or, if memory ran out, none. The error also has the original document, unchanged.
 ///
 /// ```text
 /// let document = read_document(alloc, b"[1, [2, 3], 4]")?;

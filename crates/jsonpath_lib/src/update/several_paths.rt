@@ -34,9 +34,9 @@ use std::fmt;
 pub struct MaskFault {
     /// The index, from 0, of the first path text that is no path; `None` for out of memory.
     pub index: Option<usize>,
-    /// `Path` with the path's message, or `OutOfMemory`.
+    /// The error of the first path text that is no path, `Path` with a message, or `OutOfMemory`.
     pub fault: JsonPathError,
-    /// The original document, unchanged.
+    /// The document that was to be changed, as it was before the call.
     pub value: Value,
 }
 
@@ -59,7 +59,7 @@ impl fmt::Debug for MaskFault {
 
 impl Error for MaskFault {}
 
-/// The error alone, without the path's index. The document is dropped.
+/// Keeps the error of compiling the path text; the index of that text is lost, and the document is dropped.
 impl From<MaskFault> for JsonPathError {
     ghost from_gives = { λ refused error. error ≡ refused.fault };
 

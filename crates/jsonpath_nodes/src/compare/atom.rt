@@ -9,31 +9,31 @@ ghost use Rattle.jsonpath_nodes.specs.compare.Atoms.{seen_by};
 use jsonpath_paths::Decimal;
 use serde_json::{Number, Value};
 
-/// What a comparison sees of a value, or of a literal of a path: its kind, and the content of a boolean, a number or
-/// a text.
+/// What a comparison in a filter uses of a JSON value or of a literal of the path: its kind, and the content of a
+/// boolean, a number or a text.
 ///
 /// ```text
 /// assert!(rt; matches!(Atom::of(&Value::Bool(true)), Atom::Bool(true)));
 /// ```
 #[derive(Clone, Copy, Debug)]
 pub enum Atom<'a> {
-    /// `null`.
+    /// The JSON value `null`.
     Null,
-    /// A boolean.
+    /// The boolean `true` or `false`.
     Bool(bool),
-    /// A number, exact to 18 places.
+    /// A number that is an `i64`, a `u64` or a literal of a path, exact to 18 decimal places.
     Number(Decimal),
-    /// A text, without quotes or backslashes.
+    /// The content of a text, without its quotes and with its escapes resolved.
     Text(&'a str),
-    /// A number that is neither an `i64` nor a `u64`, as any fraction.
+    /// A number that is neither an `i64` nor a `u64`, such as 1.5. Its value is not kept: it satisfies `!=` alone.
     Unread,
-    /// An array, whatever is in it.
+    /// An array. Its items are not kept: comparisons don't use them.
     List,
-    /// An object, whatever is in it.
+    /// An object. Its members are not kept: comparisons don't use them.
     Object,
 }
 
-/// Converts the number to a decimal; `None` if it is neither an `i64` nor a `u64`, as any fraction.
+/// Converts the number to a decimal; `None` if it is neither an `i64` nor a `u64`, such as 1.5.
 ///
 /// ```text
 /// let seven = to_num(&Number::from(7u64));

@@ -11,8 +11,8 @@ use jsonpath_paths::{Decimal, FilterToken};
 use serde_json::Value;
 use std::cmp::Ordering;
 
-/// One of the six comparisons, with a method for each kind of value. It is for callers, as in the Rust crate:
-/// conditions of paths are decided by `holds_atoms`.
+/// One of the six comparisons, such as `<`, with a method for each kind of value. It is for users of the Rust crate
+/// `jsonpath_lib`; conditions of paths are decided by `holds_atoms` instead.
 ///
 /// ```text
 /// assert!(rt; CmpLt.cmp_bool(false, true));
@@ -21,20 +21,20 @@ use std::cmp::Ordering;
 pub trait Cmp {
     ghost comparison: { Comparison };
 
-    /// Whether the comparison holds between two booleans; false comes before true.
+    /// Whether this comparison, such as `<`, holds between two booleans; false comes before true.
     fn cmp_bool(&self, left: bool, right: bool) -> bool
         ensures { result ≡ pair comparison (truth left) (truth right) };
 
-    /// Whether the comparison holds between two numbers, which are compared exactly.
+    /// Whether this comparison, such as `<`, holds between two numbers, which are compared exactly.
     fn cmp_num(&self, left: Decimal, right: Decimal) -> bool
         ensures { result ≡ pair comparison (decimal (decimal_units left)) (decimal (decimal_units right)) };
 
-    /// Whether the comparison holds between two texts, by their bytes.
+    /// Whether this comparison, such as `<`, holds between two texts, which are compared by their bytes.
     fn cmp_string(&self, left: &str, right: &str) -> bool
         ensures { result ≡ pair comparison (text left.now) (text right.now) };
 
-    /// Whether the comparison holds between two values of different kinds: true for `!=` alone. The name is that of
-    /// the Rust crate.
+    /// Whether this comparison holds between two values of different kinds, such as a text and a number: true for `!=`
+    /// alone. Named as in the Rust crate `jsonpath_lib`.
     fn default(&self) -> bool
         ensures { result ≡ is_not_equal comparison };
 }
@@ -50,22 +50,18 @@ pub struct CmpEq;
 impl Cmp for CmpEq {
     ghost comparison = { equal };
 
-    // Whether left == right.
     fn cmp_bool(&self, left: bool, right: bool) -> bool {
         left.cmp(&right).is_eq()
     }
 
-    // Whether left == right, exactly.
     fn cmp_num(&self, left: Decimal, right: Decimal) -> bool {
         left.cmp(&right).is_eq()
     }
 
-    // Whether left == right, by their bytes.
     fn cmp_string(&self, left: &str, right: &str) -> bool {
         left.cmp(&right).is_eq()
     }
 
-    // No two values of different kinds satisfy `==`.
     fn default(&self) -> bool {
         false
     }
@@ -82,22 +78,18 @@ pub struct CmpNe;
 impl Cmp for CmpNe {
     ghost comparison = { not_equal };
 
-    // Whether left != right.
     fn cmp_bool(&self, left: bool, right: bool) -> bool {
         left.cmp(&right).is_ne()
     }
 
-    // Whether left != right, exactly.
     fn cmp_num(&self, left: Decimal, right: Decimal) -> bool {
         left.cmp(&right).is_ne()
     }
 
-    // Whether left != right, by their bytes.
     fn cmp_string(&self, left: &str, right: &str) -> bool {
         left.cmp(&right).is_ne()
     }
 
-    // Values of different kinds satisfy `!=`.
     fn default(&self) -> bool {
         true
     }
@@ -114,22 +106,18 @@ pub struct CmpGt;
 impl Cmp for CmpGt {
     ghost comparison = { greater };
 
-    // Whether left > right, where false comes before true.
     fn cmp_bool(&self, left: bool, right: bool) -> bool {
         left.cmp(&right).is_gt()
     }
 
-    // Whether left > right, exactly.
     fn cmp_num(&self, left: Decimal, right: Decimal) -> bool {
         left.cmp(&right).is_gt()
     }
 
-    // Whether left > right, by their bytes.
     fn cmp_string(&self, left: &str, right: &str) -> bool {
         left.cmp(&right).is_gt()
     }
 
-    // No two values of different kinds satisfy `>`.
     fn default(&self) -> bool {
         false
     }
@@ -146,22 +134,18 @@ pub struct CmpGe;
 impl Cmp for CmpGe {
     ghost comparison = { greater_or_equal };
 
-    // Whether left >= right, where false comes before true.
     fn cmp_bool(&self, left: bool, right: bool) -> bool {
         left.cmp(&right).is_ge()
     }
 
-    // Whether left >= right, exactly.
     fn cmp_num(&self, left: Decimal, right: Decimal) -> bool {
         left.cmp(&right).is_ge()
     }
 
-    // Whether left >= right, by their bytes.
     fn cmp_string(&self, left: &str, right: &str) -> bool {
         left.cmp(&right).is_ge()
     }
 
-    // No two values of different kinds satisfy `>=`.
     fn default(&self) -> bool {
         false
     }
@@ -178,22 +162,18 @@ pub struct CmpLt;
 impl Cmp for CmpLt {
     ghost comparison = { less };
 
-    // Whether left < right, where false comes before true.
     fn cmp_bool(&self, left: bool, right: bool) -> bool {
         left.cmp(&right).is_lt()
     }
 
-    // Whether left < right, exactly.
     fn cmp_num(&self, left: Decimal, right: Decimal) -> bool {
         left.cmp(&right).is_lt()
     }
 
-    // Whether left < right, by their bytes.
     fn cmp_string(&self, left: &str, right: &str) -> bool {
         left.cmp(&right).is_lt()
     }
 
-    // No two values of different kinds satisfy `<`.
     fn default(&self) -> bool {
         false
     }
@@ -210,22 +190,18 @@ pub struct CmpLe;
 impl Cmp for CmpLe {
     ghost comparison = { less_or_equal };
 
-    // Whether left <= right, where false comes before true.
     fn cmp_bool(&self, left: bool, right: bool) -> bool {
         left.cmp(&right).is_le()
     }
 
-    // Whether left <= right, exactly.
     fn cmp_num(&self, left: Decimal, right: Decimal) -> bool {
         left.cmp(&right).is_le()
     }
 
-    // Whether left <= right, by their bytes.
     fn cmp_string(&self, left: &str, right: &str) -> bool {
         left.cmp(&right).is_le()
     }
 
-    // No two values of different kinds satisfy `<=`.
     fn default(&self) -> bool {
         false
     }
@@ -247,10 +223,10 @@ fn is_satisfied_by_order(op: FilterToken, order: Ordering) -> bool
     }
 }
 
-/// Whether two atoms satisfy a comparison. The token is one of the six that compare.
+/// Whether two atoms satisfy a comparison. `op` must be one of the six comparisons, so neither `And` nor `Or`.
 ///
-/// Booleans, numbers and texts compare within their kind: false before true, numbers exactly, texts by their bytes.
-/// Two nulls satisfy `==` alone, and every other pair satisfies `!=` alone.
+/// Booleans, numbers and texts compare within their kind: false before true, numbers exactly, texts by their bytes. Two
+/// nulls satisfy `==` alone, and every other pair satisfies `!=` alone.
 ///
 /// ```text
 /// assert!(rt; holds_atoms(FilterToken::Equal, &Atom::Null, &Atom::Null));
@@ -269,8 +245,8 @@ pub fn holds_atoms(op: FilterToken, left: &Atom<'_>, right: &Atom<'_>) -> bool
     }
 }
 
-/// Whether two values satisfy a comparison. The token is one of the six that compare. Two arrays, two objects and
-/// values of different kinds satisfy `!=` alone, and so does a number that is neither an `i64` nor a `u64`.
+/// Whether two values satisfy a comparison; `op` must be neither `And` nor `Or`. Two arrays, two objects and values of
+/// different kinds satisfy `!=` alone, and so does a number that is neither an `i64` nor a `u64`.
 ///
 /// ```text
 /// let (one, two) = (Value::from(1u64), Value::from(2u64));

@@ -22,7 +22,7 @@ use std::alloc::Global;
 use std::cmp::Ordering;
 use std::collections::BTreeSet;
 
-/// The nodes in document order, each location once. The only error is `NoMemory`.
+/// Sorts nodes into document order and keeps one node of each location. The only error is `NoMemory`.
 ///
 /// ```text
 /// let twice = [spots[1].clone()?, spots[0].clone()?, spots[1].clone()?];
@@ -77,7 +77,7 @@ fn clone_spots<'a>(alloc: Global, spots: &[Spot<'a>]) -> Result<Vec<Spot<'a>>, N
     Ok(same)
 }
 
-/// The indexes, from 0, of those nodes of the first list whose location is also that of a node of the second. The only
+/// The indexes, from 0, of those nodes of a first list whose location is also that of a node of a second list. The only
 /// error is `NoMemory`.
 ///
 /// ```text
@@ -127,8 +127,8 @@ fn ordered_spots<'a>(
     Ok(placed)
 }
 
-/// The nodes without those that are at or below the last one kept before them. If the list is in document order,
-/// these are the nodes with no ancestor in it. The only error is `NoMemory`.
+/// A list of nodes without those that are at or below the last one kept before them. If the list is in document order,
+/// those kept are the nodes with no ancestor in it. The only error is `NoMemory`.
 ///
 /// ```text
 /// let below = Spot::root(alloc, &document).below(alloc)?;

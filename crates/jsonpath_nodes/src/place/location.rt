@@ -14,16 +14,16 @@ use std::alloc::AllocError;
 use std::cmp::Ordering;
 use std::marker::Model;
 
-/// One step of an owned location. Steps are ordered: names by their bytes, indexes by number, a name before an index.
+/// One step of a `Location`: a name or an index. Steps are ordered: names by bytes, indexes by number, names first.
 ///
 /// ```text
 /// assert!(rt; LocStep::Index(2) < LocStep::Index(10));
 /// ```
 #[derive(Debug, Drop)]
 pub enum LocStep {
-    /// The name of a member of an object.
+    /// A step to the member of this name, in an object.
     Name(String),
-    /// The index of an item of an array, from 0.
+    /// A step to the item at this index, from 0, in an array.
     Index(usize),
 }
 
@@ -57,7 +57,7 @@ impl Model for Location {
 }
 
 impl Location {
-    /// The location of these steps, from the root down. The root has none.
+    /// Makes a location of its steps, from the root down. The root's location has none.
     ///
     /// ```text
     /// let root = Location::from_steps(Vec::new(alloc));
@@ -69,7 +69,7 @@ impl Location {
         Location { steps }
     }
 
-    /// The steps from the root down.
+    /// The steps of the location, from the document's root down.
     ///
     /// ```text
     /// let item = Location::from_steps(vec![in alloc; LocStep::Index(2)]?);
@@ -97,7 +97,7 @@ impl Location {
     }
 }
 
-/// A clone has the same steps. The only error is out of memory.
+/// A clone of a location has the same steps. The only error is out of memory.
 impl Clone for Location {
     ghost is_clone = { λ location copy. copy ≡ location };
 
@@ -110,7 +110,7 @@ impl Clone for Location {
     }
 }
 
-/// A clone is the same step. It takes memory for a name; the only error is out of memory.
+/// A clone of a step is equal to it. It takes memory for a name; the only error is out of memory.
 impl Clone for LocStep {
     ghost is_clone = { λ step copy. owned_step copy ≡ owned_step step };
 

@@ -19,7 +19,7 @@ use crate::step::plain_step::PlainStep;
 use serde_json::Value;
 use std::alloc::{AllocError, Global};
 
-/// One step of a location: an index, or a name borrowed from the document.
+/// One step of a node's location: an index, or a name borrowed from the document.
 ///
 /// ```text
 /// let children = root.children(alloc)?;
@@ -30,9 +30,9 @@ use std::alloc::{AllocError, Global};
 /// ```
 #[derive(Clone, Copy, Debug)]
 pub enum PathStep<'a> {
-    /// The name of a member of an object.
+    /// A step to the member of this name, in an object.
     Name(&'a str),
-    /// The index of an item of an array, from 0.
+    /// A step to the item at this index, from 0, in an array.
     Index(usize),
 }
 
@@ -71,7 +71,7 @@ pub struct Steps<'b, 'a> {
 const _: () = prove!(size_of::<Spot<'static>>() <= 32);
 
 impl<'a> Spot<'a> {
-    /// The node of the whole document, the root. It takes no memory.
+    /// The root node of a document, with the whole document as its value. It takes no memory.
     ///
     /// ```text
     /// let root = Spot::root(alloc, &document);
@@ -87,7 +87,7 @@ impl<'a> Spot<'a> {
         }
     }
 
-    /// The value of the node.
+    /// The value of the node, borrowed from the document.
     ///
     /// ```text
     /// let root = Spot::root(alloc, &document);
@@ -99,7 +99,7 @@ impl<'a> Spot<'a> {
         self.value
     }
 
-    /// The steps from the root to the node. They take no memory.
+    /// The steps from the document's root to this node. They take no memory.
     ///
     /// ```text
     /// let root = Spot::root(alloc, &document);
@@ -113,7 +113,7 @@ impl<'a> Spot<'a> {
         }
     }
 
-    /// The location of the node, owned. The only error is `NoMemory`.
+    /// The location of the node, as a `Location` of its own. The only error is `NoMemory`.
     ///
     /// ```text
     /// let document = read_document(alloc, br#"{"store": {"book": [{"price": 1995}]}}"#)?;
@@ -131,7 +131,7 @@ impl<'a> Spot<'a> {
         Ok(location)
     }
 
-    /// The children as nodes, in document order. The only error is `NoMemory`.
+    /// The children of this node, as nodes, in document order. The only error is `NoMemory`.
     ///
     /// ```text
     /// let children = Spot::root(alloc, &document).children(alloc)?;
@@ -145,7 +145,7 @@ impl<'a> Spot<'a> {
         Ok(found)
     }
 
-    /// The member of this name as a node, if the value is an object that has one. The only error is `NoMemory`.
+    /// The member of this name, as a node, if this node is an object that has one. The only error is `NoMemory`.
     ///
     /// ```text
     /// let list = Spot::root(alloc, &document).member(alloc, "a")?;
@@ -163,8 +163,7 @@ impl<'a> Spot<'a> {
         }
     }
 
-    /// The item at this index, from 0, as a node, if the value is an array that has one. The only error is
-    /// `NoMemory`.
+    /// The item at this index, from 0, as a node, if this node is an array that has one. The only error is `NoMemory`.
     ///
     /// ```text
     /// let none = Spot::root(alloc, &document).item(alloc, 0)?;
@@ -185,7 +184,7 @@ impl<'a> Spot<'a> {
         }
     }
 
-    /// The node itself and all its descendants, each before its children. The only error is `NoMemory`.
+    /// This node itself and all its descendants, each before its children. The only error is `NoMemory`.
     ///
     /// ```text
     /// let below = Spot::root(alloc, &document).below(alloc)?;
@@ -207,7 +206,7 @@ impl<'a> Spot<'a> {
     }
 }
 
-/// A clone has the same value and location. It fails if the location has too many owners to count one more.
+/// A clone of a node has the same value and location. It fails only if the location is shared too often to be counted.
 impl<'a> Clone for Spot<'a> {
     ghost is_clone = { λ spot copy. sight_of copy ≡ sight_of spot };
 
@@ -220,7 +219,7 @@ impl<'a> Clone for Spot<'a> {
 }
 
 impl<'b, 'a> Steps<'b, 'a> {
-    /// The last step and those before it, or None at the root.
+    /// Splits the steps to a node into the last one and those before it; `None` for the root, to which no step leads.
     ///
     /// ```text
     /// assert!(rt; root.steps().split_last().is_none());
@@ -258,7 +257,7 @@ impl<'b, 'a> Steps<'b, 'a> {
         }
     }
 
-    /// How many steps there are. More than `usize::MAX` count as that.
+    /// The number of steps from the root to the node, at most `usize::MAX`.
     ///
     /// ```text
     /// assert_eq!(rt; root.steps().len(), 0);
@@ -269,7 +268,7 @@ impl<'b, 'a> Steps<'b, 'a> {
         len_of_path_to_value(self.path_to)
     }
 
-    /// Whether there is no step, as at the root.
+    /// Whether there is no step from the root to the node, that is, whether the node is the root.
     ///
     /// ```text
     /// assert!(rt; root.steps().is_empty());
@@ -280,7 +279,7 @@ impl<'b, 'a> Steps<'b, 'a> {
         is_root(self.path_to)
     }
 
-    /// An owned location of the same steps. The only error is `NoMemory`.
+    /// Copies the steps into a `Location`. The only error is `NoMemory`.
     ///
     /// ```text
     /// let location = root.steps().to_location(alloc)?;

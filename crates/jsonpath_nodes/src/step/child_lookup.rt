@@ -38,8 +38,8 @@ pub(crate) fn item_of_value<'a>(value: &'a Value, index: usize) -> Option<&'a Va
     }
 }
 
-/// Converts an index as a path writes it to one from the front, in an array of `len` items. One below zero counts
-/// from the end, and is 0 if it is before the first item; one past the end gives `len`.
+/// Converts an index of a path to one from the front of an array of `len` items. An index below zero counts from the
+/// end, and gives 0 if it is before the first item; one past the end gives `len`.
 ///
 /// ```text
 /// assert_eq!(rt; abs_index(-1, 3), 2);

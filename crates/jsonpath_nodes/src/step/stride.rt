@@ -10,7 +10,7 @@ use crate::step::plain_step::PlainStep;
 use std::alloc::Global;
 use std::borrow::CowStr;
 
-/// What a plain step selects among the children of a value. Its names are taken literally.
+/// What a step without a condition selects among the children of a value. Names in it are taken literally.
 ///
 /// ```text
 /// let both = Stride {
@@ -22,21 +22,21 @@ use std::borrow::CowStr;
 /// ```
 #[derive(Drop)]
 pub enum Selection<'t> {
-    /// All children.
+    /// `*`: all children of an array or object.
     Every,
-    /// The member of this name.
+    /// The member of this name, of an object.
     Named(CowStr<'t, Global>),
-    /// The members of these names, in this order.
+    /// The members of these names, of an object, in the list's order.
     Listed(Vec<CowStr<'t, Global>>),
-    /// The item at this index, as a path writes it.
+    /// The item of an array at this index; below zero it counts from the end.
     Nth(i64),
-    /// The items at these indexes, in this order.
+    /// The items of an array at these indexes, in the list's order; an index below zero counts from the end.
     Union(&'t [i64]),
-    /// The items of a slice, by from, to and step.
+    /// A slice of an array: its from, to and step, each of which may be missing.
     Range(Option<i64>, Option<i64>, Option<u64>),
 }
 
-/// A plain step that owns its names, alone or after `..`.
+/// A step of a path, without a condition, alone or after `..`. It can own its names.
 ///
 /// ```text
 /// let every = Stride {
@@ -48,9 +48,9 @@ pub enum Selection<'t> {
 /// ```
 #[derive(Drop)]
 pub struct Stride<'t> {
-    /// Whether `..` comes before the step: it is then applied to each value and to all its descendants.
+    /// Whether `..` comes before this step: it is then applied to each value and to all its descendants.
     pub leaves: bool,
-    /// What the step selects among the children of each value.
+    /// What this step selects among the children of each value to which it is applied.
     pub selection: Selection<'t>,
 }
 

@@ -17,7 +17,7 @@ use crate::steps_on_marks::{
 };
 use std::alloc::Global;
 
-/// The steps of a path, each applied to a list of nodes at once.
+/// The steps of a path, each as a function that applies it to a list of nodes at once.
 ///
 /// Every call returns what its step selects from each node, in the order of the nodes, with duplicates, but for
 /// `walk_dedup_all` and `candidates_below`, which return each location once. The only error is `NoMemory`.
@@ -33,7 +33,7 @@ use std::alloc::Global;
 pub struct ValueWalker;
 
 impl ValueWalker {
-    /// `*`: the children of each array and object, in document order.
+    /// `*`: the children of each of the nodes that is an array or object, in document order.
     ///
     /// ```text
     /// let document = Value::from_str(alloc, r#"[{"a": 1, "b": 2}, [3, 4, 5]]"#)?;
@@ -47,7 +47,7 @@ impl ValueWalker {
         plain_step_from_each(alloc, spots, &PlainStep::Every)
     }
 
-    /// A name: the member of that name of each object among the nodes that has one. The name is taken literally.
+    /// A name: the member of that name, from each node that is an object and has one. The name is taken literally.
     ///
     /// ```text
     /// let found = ValueWalker::next_with_str(alloc, items.as_slice(), "b")?;
@@ -63,8 +63,8 @@ impl ValueWalker {
         plain_step_from_each(alloc, spots, &PlainStep::Named(name))
     }
 
-    /// A list of names: from each object its members of these names, in the list's order. It selects children alone.
-    /// Named as in the Rust crate `jsonpath_lib`.
+    /// A list of names: from each node that is an object its members of these names, in the list's order. It selects
+    /// children alone. Named as in the Rust crate `jsonpath_lib`.
     ///
     /// ```text
     /// let found = ValueWalker::all_with_strs(alloc, items.as_slice(), &["b", "a"])?;
@@ -81,7 +81,7 @@ impl ValueWalker {
     }
 
     /// An index as a path writes it: the item there of each array among the nodes that has one. Below zero it counts
-    /// from the end, and one before the front is the first item, as `abs_index` says.
+    /// from the end; an index from the end that lies before the first item means the first.
     ///
     /// ```text
     /// let last = ValueWalker::next_with_num(alloc, items.as_slice(), -1)?;
@@ -98,7 +98,7 @@ impl ValueWalker {
         plain_step_from_each(alloc, spots, &PlainStep::Nth(n))
     }
 
-    /// A list of indexes: from each array the items at these indexes, in the list's order.
+    /// A list of indexes: from each node that is an array the items at these indexes, in the list's order.
     ///
     /// ```text
     /// let found = ValueWalker::next_with_nums(alloc, items.as_slice(), &[2, 0])?;
@@ -114,8 +114,8 @@ impl ValueWalker {
         plain_step_from_each(alloc, spots, &PlainStep::Union(ns))
     }
 
-    /// A slice: from each array the items at `from`, `from + step`, `from + 2 * step` and so on, below `to`. A
-    /// missing `from` is 0, a missing `to` the length, a missing `step` 1. A `step` of 0 selects nothing.
+    /// A slice: from each node that is an array the items at `from`, `from + step` and so on, below `to`; below zero,
+    /// both count from the end. A missing `from` is 0, `to` the length, `step` 1. A `step` of 0 selects nothing.
     ///
     /// ```text
     /// let found = ValueWalker::next_with_range(alloc, items.as_slice(), Some(1), None, None)?;
@@ -133,7 +133,7 @@ impl ValueWalker {
         plain_step_from_each(alloc, spots, &PlainStep::Range(from, to, step))
     }
 
-    /// `..*`: the children of each array and object at or below each node.
+    /// `..*`: the children of each array and object at or below each of the nodes.
     ///
     /// ```text
     /// let found = ValueWalker::all(alloc, &root)?;
@@ -145,7 +145,7 @@ impl ValueWalker {
         plain_step_from_all_below(alloc, spots, &PlainStep::Every)
     }
 
-    /// `..name`: the member of that name, if there is one, of each object at or below each node.
+    /// `..name`: from each node and all its descendants, the member of that name of each object that has one.
     ///
     /// ```text
     /// let found = ValueWalker::all_with_str(alloc, &root, "b")?;
@@ -161,7 +161,7 @@ impl ValueWalker {
         plain_step_from_all_below(alloc, spots, &PlainStep::Named(name))
     }
 
-    /// `..[num]`: the item at that index, if there is one, of each array at or below each node.
+    /// `..[num]`: from each node and all its descendants, the item at that index of each array that has one.
     ///
     /// ```text
     /// let found = ValueWalker::all_with_num(alloc, &root, 0)?;
@@ -177,7 +177,7 @@ impl ValueWalker {
         plain_step_from_all_below(alloc, spots, &PlainStep::Nth(n))
     }
 
-    /// Each node and all its descendants, each before its children.
+    /// Each of the nodes and all its descendants, each value before its children.
     ///
     /// ```text
     /// let found = ValueWalker::below(alloc, &root)?;

@@ -9,8 +9,8 @@ use crate::place::location::Location;
 use crate::update::single::update_at;
 use serde_json::Value;
 
-/// Calls `update_at` at each of the locations, one after another, each on what the earlier updates left. The closure
-/// gets the value there; `Some` replaces it, `None` removes the member or item. It is not called at the root, nor at a
+/// Updates the values at the locations one after another, each in what the earlier updates left. The closure gets the
+/// value there; `Some` replaces it, `None` removes the member or item. The closure is not called at the root, nor at a
 /// location that doesn't exist.
 ///
 /// ```text
@@ -33,8 +33,8 @@ pub fn replace_at<F: FnMut(Value) -> Option<Value>>(
     }
 }
 
-/// Puts null at the locations below the root that have no ancestor in the list. The root and locations that don't
-/// exist are skipped. The locations may come in any order and repeat.
+/// Puts null at each location of a list that is below the root and has no ancestor in the list. The root and locations
+/// that don't exist are skipped. The locations may come in any order and repeat.
 ///
 /// ```text
 /// let mut document = read_document(alloc, b"[1, [2, 3]]")?;

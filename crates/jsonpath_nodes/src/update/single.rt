@@ -15,7 +15,7 @@ use serde_json::{Map, Value};
 ///
 /// The closure gets the value there; `Some` replaces it, `None` removes the member or item, and later items of the
 /// array move down by one. Returns whether the closure was called. At the root, and if the location doesn't exist, it
-/// is not called and nothing changes. A name selects in objects alone, an index in arrays alone.
+/// isn't called and nothing changes. A name selects in objects alone, an index in arrays alone.
 ///
 /// The update takes no memory, so the error that the type allows never comes.
 ///

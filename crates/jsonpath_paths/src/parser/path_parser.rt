@@ -114,9 +114,9 @@ impl<'a> PathParser<'a> {
         }
     }
 
-    /// Passes the token list of the syntax tree, in order, to the receiver, unless that fails, with a reader that
-    /// returns the part of the text at a span. It is `Ok` in either case. Nothing is parsed: the name is the Rust
-    /// crate's.
+    /// Passes the tokens of this path's syntax tree, in order, to `handler`, until that has failed, with a function
+    /// that returns the part of the path text at a span. It is `Ok` also if the handler failed. Nothing is parsed;
+    /// named as in the Rust crate `jsonpath_lib`.
     ///
     /// ```text
     /// let path = PathParser::compile(alloc, "$..a")?;
@@ -135,7 +135,7 @@ impl<'a> PathParser<'a> {
         Ok(())
     }
 
-    /// The path text, as it was compiled.
+    /// The text of this path, as it was compiled.
     ///
     /// ```text
     /// let path = PathParser::compile(alloc, "$.a")?;
@@ -147,7 +147,7 @@ impl<'a> PathParser<'a> {
         self.text
     }
 
-    /// The syntax tree of the text.
+    /// The syntax tree of this path.
     ///
     /// ```text
     /// let path = PathParser::compile(alloc, "$[?(@.a)].b")?;
@@ -160,7 +160,7 @@ impl<'a> PathParser<'a> {
         &self.tree
     }
 
-    /// The token list of the syntax tree. The call takes no memory.
+    /// The token list of this path's syntax tree. The call takes no memory.
     ///
     /// ```text
     /// let path = PathParser::compile(alloc, "$..a")?;
@@ -208,7 +208,7 @@ impl<'a> PathParser<'a> {
 
 impl<'a> ParserNodeVisitor for PathParser<'a> {}
 
-/// A copy has the same text, tree and token list. The only error is `OutOfMemory`.
+/// A copy of a compiled path has the same text, tree and token list. The only error is `OutOfMemory`.
 impl<'a> Clone for PathParser<'a> {
     ghost is_clone = { λ parser copy. copy ≡ parser };
 

@@ -14,7 +14,7 @@ use std::error::Error;
 use std::fmt;
 use std::marker::Model;
 
-/// The error of reading a character: there is none left. `Display` prints `Eof`.
+/// The error of reading a character at the end of a text. `Display` prints `Eof`.
 ///
 /// ```text
 /// let mut reader = StrReader::new("");
@@ -22,7 +22,7 @@ use std::marker::Model;
 /// ```
 #[derive(Clone, Copy, Debug, PartialEq, Eq)]
 pub enum ReaderError {
-    /// The text is read to its end.
+    /// No character is left: the text is read to its end.
     Eof,
 }
 
@@ -67,7 +67,7 @@ impl StrRange {
     }
 }
 
-/// Reads a text character by character. It has a position in the text.
+/// Reads a text character by character, from its beginning on.
 ///
 /// ```text
 /// let mut reader = StrReader::new("a가b");
@@ -112,7 +112,7 @@ impl<'a> StrReader<'a> {
         }
     }
 
-    /// The next character, which is not taken, or `Eof` at the end of the text.
+    /// Returns the next character, but does not take it; `Eof` at the end of the text.
     ///
     /// ```text
     /// let mut reader = StrReader::new("가b");
@@ -165,7 +165,7 @@ impl<'a> StrReader<'a> {
         Ok(StrRange::new(start, self.current_pos() - start))
     }
 
-    /// Takes the next character and returns its span, or `Eof` at the end of the text, where nothing changes.
+    /// Takes the next character and returns it with its span; `Eof` at the end of the text, where nothing changes.
     ///
     /// ```text
     /// let mut reader = StrReader::new("가b");
@@ -201,7 +201,7 @@ impl<'a> StrReader<'a> {
         }
     }
 
-    /// The position: how many bytes of the text are read.
+    /// The reader's position: how many bytes of the text it has taken.
     ///
     /// ```text
     /// let mut reader = StrReader::new("가b");
@@ -216,7 +216,7 @@ impl<'a> StrReader<'a> {
         self.pos
     }
 
-    /// The whole text.
+    /// The whole text that is read, from its beginning.
     ///
     /// ```text
     /// let mut reader = StrReader::new("가b");
@@ -229,7 +229,7 @@ impl<'a> StrReader<'a> {
         self.text
     }
 
-    /// The part of the whole text at the span, which lies in it and cuts no character. The reader stays where it is.
+    /// The part of the whole text at the span, which lies in it and cuts no character. The reader's position stays.
     /// Named as in the Rust crate `jsonpath_lib`.
     ///
     /// ```text
@@ -245,7 +245,7 @@ impl<'a> StrReader<'a> {
     }
 }
 
-/// A copy is at the same position of the same text. It takes no memory.
+/// A copy of a reader has the same text and the same position in it. It takes no memory.
 impl<'a> Clone for StrReader<'a> {
     ghost use Rattle.std.specs.Prelude.{⊤};
 

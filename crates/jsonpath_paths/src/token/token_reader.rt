@@ -15,7 +15,7 @@ use crate::token::tokens::{Token, TokenError};
 use std::alloc::AllocError;
 use std::marker::Model;
 
-/// Reads a path text token by token, and keeps the position up to which the text was read or looked at.
+/// Reads a path text token by token, and records the position up to which the text was read or looked at.
 ///
 /// ```text
 /// let mut reader = TokenReader::new("[0]");
@@ -54,8 +54,8 @@ impl<'a> TokenReader<'a> {
         }
     }
 
-    /// Returns the next token without taking it; `next_token` then returns the same. If no token begins there, the
-    /// error is that of `next_token`, and no character counts as read.
+    /// Returns the next token without taking it; `next_token` then returns the same. If no token begins at the reader's
+    /// position, the error is that of `next_token`, and no character counts as looked at.
     ///
     /// ```text
     /// let mut reader = TokenReader::new("==1");
@@ -74,8 +74,8 @@ impl<'a> TokenReader<'a> {
         found
     }
 
-    /// Takes the next token. If no token begins there, the position stays, and each later call returns the same
-    /// error: `Eof` at the end of the text, in a quoted text that is not closed, or if a single character is left,
+    /// Takes the next token. If no token begins at the reader's position, that stays, and each later call returns the
+    /// same error: `Eof` at the end of the text, in a quoted text that is not closed, or if a single character is left,
     /// else `Position` with the character's first byte.
     ///
     /// ```text
@@ -95,8 +95,8 @@ impl<'a> TokenReader<'a> {
         found
     }
 
-    /// The error for the position up to which the text was read or looked at: `Eof` if that is the text's end, else
-    /// `Position` with it.
+    /// The syntax error for the position up to which the text was read or looked at: `Eof` if that is the text's end,
+    /// else `Position` with it.
     ///
     /// ```text
     /// let mut reader = TokenReader::new("$[a]");
@@ -113,8 +113,8 @@ impl<'a> TokenReader<'a> {
         }
     }
 
-    /// The part of the text at the span, which lies in it and cuts no character. No token is taken. The name is the
-    /// Rust crate's.
+    /// The part of the path text at the span, which lies in it and cuts no character. No token is taken. Named as in
+    /// the Rust crate `jsonpath_lib`.
     ///
     /// ```text
     /// let mut reader = TokenReader::new("store.book");
@@ -130,7 +130,7 @@ impl<'a> TokenReader<'a> {
     }
 }
 
-/// A copy is at the same position of the same text. It takes no memory.
+/// A copy of a reader has the same text and the same position in it. It takes no memory.
 impl<'a> Clone for TokenReader<'a> {
     ghost use Rattle.std.specs.Prelude.{⊤};
 

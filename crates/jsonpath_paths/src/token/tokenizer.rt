@@ -234,7 +234,7 @@ fn error_at_refused_character_start(reader: &StrReader<'_>) -> TokenError
     }
 }
 
-/// A path text that is read token by token.
+/// Reads a path text token by token.
 ///
 /// ```text
 /// let mut tokenizer = Tokenizer::new("$.a");
@@ -367,9 +367,9 @@ impl<'a> Tokenizer<'a> {
         self.reader.copy_of_place().peek_char().is_err()
     }
 
-    /// Takes the next token. If no token begins there, the position stays, and each later call returns the same
-    /// error: `Eof` at the end of the text, in a quoted text that is not closed, or if a single character is left,
-    /// else `Position` with the character's first byte.
+    /// Takes the next token. If no token begins at the tokenizer's position, that stays, and each later call returns
+    /// the same error: `Eof` at the end of the text, in a quoted text that is not closed, or if a single character is
+    /// left, else `Position` with the character's first byte.
     ///
     /// ```text
     /// let mut tokenizer = Tokenizer::new("=1");
@@ -387,7 +387,7 @@ impl<'a> Tokenizer<'a> {
     }
 }
 
-/// A copy is at the same position of the same text. It takes no memory.
+/// A copy of a tokenizer has the same text and the same position in it. It takes no memory.
 impl<'a> Clone for Tokenizer<'a> {
     ghost use Rattle.std.specs.Prelude.{⊤};
 

@@ -24,13 +24,13 @@ use std::fmt;
 /// ```
 #[derive(Clone, Copy, Debug, PartialEq, Eq)]
 pub enum TokenError {
-    /// The text ends too early, or the error is at its very end.
+    /// The path text ends too early, or the error is at its very end.
     Eof,
     /// A byte position in the text, at most its length: from `Tokenizer` that where the wrong character begins, from
     /// `PathParser` that where the wrong token or character ends, from `TokenReader::to_error` that up to which the
     /// text was read or looked at.
     Position(usize),
-    /// Out of memory.
+    /// Memory ran out.
     OutOfMemory,
 }
 
@@ -58,7 +58,7 @@ impl From<AllocError> for TokenError {
     }
 }
 
-/// The kind of a token, without its span.
+/// The kind of a token of a path text, such as a word or `[`, without its position and length.
 #[derive(Clone, Copy, PartialEq, Eq)]
 pub enum Kind {
     Absolute,
@@ -86,7 +86,7 @@ pub enum Kind {
     Whitespace,
 }
 
-/// A token by its kind and its span.
+/// A token of a path text: its kind, and its span (position and length in the text).
 #[derive(Clone, Copy)]
 pub struct Lexeme {
     pub kind: Kind,
@@ -101,51 +101,51 @@ pub struct Lexeme {
 /// ```
 #[derive(Clone, Copy, Debug, PartialEq, Eq)]
 pub enum Token {
-    /// `$` outside words and quoted texts.
+    /// The token `$`, outside words and quoted texts, with its span.
     Absolute(StrRange),
-    /// `.`.
+    /// The token `.`, with its span.
     Dot(StrRange),
-    /// `@`.
+    /// The token `@`, with its span.
     At(StrRange),
-    /// `[`.
+    /// The token `[`, with its span.
     OpenArray(StrRange),
-    /// `]`.
+    /// The token `]`, with its span.
     CloseArray(StrRange),
-    /// `*`.
+    /// The token `*`, with its span.
     Asterisk(StrRange),
-    /// `?`.
+    /// The token `?`, with its span.
     Question(StrRange),
-    /// `,`.
+    /// The token `,`, with its span.
     Comma(StrRange),
-    /// `:`.
+    /// The token `:`, with its span.
     Split(StrRange),
-    /// `(`.
+    /// The token `(`, with its span.
     OpenParenthesis(StrRange),
-    /// `)`.
+    /// The token `)`, with its span.
     CloseParenthesis(StrRange),
-    /// A word.
+    /// A word, such as a name or a number without quotes, with its span.
     Key(StrRange),
-    /// `"..."`.
+    /// A text in double quotes, with its span, quotes included.
     DoubleQuoted(StrRange),
-    /// `'...'`.
+    /// A text in single quotes, with its span, quotes included.
     SingleQuoted(StrRange),
-    /// `==`.
+    /// The token `==`, with its span.
     Equal(StrRange),
-    /// `>=`.
+    /// The token `>=`, with its span.
     GreaterOrEqual(StrRange),
-    /// `>`.
+    /// The token `>`, with its span.
     Greater(StrRange),
-    /// `<`.
+    /// The token `<`, with its span.
     Little(StrRange),
-    /// `<=`.
+    /// The token `<=`, with its span.
     LittleOrEqual(StrRange),
-    /// `!=`.
+    /// The token `!=`, with its span.
     NotEqual(StrRange),
-    /// `&&`.
+    /// The token `&&`, with its span.
     And(StrRange),
-    /// `||`.
+    /// The token `||`, with its span.
     Or(StrRange),
-    /// A run of blanks, as long as possible.
+    /// A run of blanks between tokens, as long as possible, with its span.
     Whitespace(StrRange),
 }
 
@@ -214,7 +214,7 @@ impl Token {
         }
     }
 
-    /// The part of the path text that the token takes, quotes included.
+    /// The span of this token in the path text, quotes included.
     ///
     /// ```text
     /// let text = Token::SingleQuoted(StrRange::new(2, 3));
@@ -250,7 +250,7 @@ impl Token {
         }
     }
 
-    /// Whether the two tokens are of one kind, whatever their spans.
+    /// Whether the two tokens are of one kind, such as two words, whatever their spans.
     ///
     /// ```text
     /// let dot = Token::Dot(StrRange::new(1, 1));
@@ -262,8 +262,8 @@ impl Token {
         self.kind() == other.kind()
     }
 
-    /// A token of the same kind at another span. The token itself stays as it is, whatever the name says, which is
-    /// that of the Rust crate `jsonpath_lib`.
+    /// Returns a token of the same kind with another span. This token itself stays as it is, in spite of the name,
+    /// which is that of the Rust crate `jsonpath_lib`.
     ///
     /// ```text
     /// let mut dot = Token::Dot(StrRange::new(1, 1));
@@ -278,7 +278,7 @@ impl Token {
     }
 }
 
-/// What joins the two sides of a condition: six comparisons, and the two connectives.
+/// The operator of a filter between two sides: one of six comparisons, or of the two connectives.
 ///
 /// ```text
 /// let path = PathParser::compile(alloc, "$[?(@.a || @.b)]")?;
@@ -290,26 +290,26 @@ impl Token {
 /// ```
 #[derive(Clone, Copy, Debug, PartialEq, Eq)]
 pub enum FilterToken {
-    /// `==`.
+    /// The comparison `==`.
     Equal,
-    /// `!=`.
+    /// The comparison `!=`.
     NotEqual,
-    /// `<`.
+    /// The comparison `<`.
     Little,
-    /// `<=`.
+    /// The comparison `<=`.
     LittleOrEqual,
-    /// `>`.
+    /// The comparison `>`.
     Greater,
-    /// `>=`.
+    /// The comparison `>=`.
     GreaterOrEqual,
-    /// `&&`.
+    /// The connective `&&`.
     And,
-    /// `||`.
+    /// The connective `||`.
     Or,
 }
 
 impl FilterToken {
-    /// Whether it compares two values, which all do but `And` and `Or`.
+    /// Whether this operator compares two values: true for all but the connectives `And` and `Or`.
     ///
     /// ```text
     /// assert!(rt; FilterToken::Equal.is_comparison());
@@ -325,8 +325,8 @@ impl FilterToken {
     }
 }
 
-/// One token of a path's token list, which says in one row what the syntax tree says. The span of a name covers it as
-/// it is in the path text, with its quotes and backslashes.
+/// One token of a path's token list, which is the path's syntax tree written out as a list. The span of a name covers
+/// it as it is in the path text, with its quotes and backslashes.
 ///
 /// ```text
 /// let path = PathParser::compile(alloc, "$.*")?;
@@ -335,34 +335,34 @@ impl FilterToken {
 /// ```
 #[derive(Debug, PartialEq, Eq, Drop)]
 pub enum ParseToken {
-    /// A path from the document's root.
+    /// Begins a path from the document's root, `$`.
     Absolute,
-    /// A path from the candidate of a filter.
+    /// Begins a path from the candidate of a filter, `@`.
     Relative,
-    /// The step selects among the children of each node.
+    /// Begins a step after a single dot: it selects among the children of each node.
     In,
-    /// The step selects among the children of each node and of all its descendants.
+    /// Begins a step after `..`: it selects among the children of each node and of all its descendants.
     Leaves,
-    /// All children.
+    /// `*`: the step selects all children.
     All,
-    /// One name, or a text as a side of a comparison.
+    /// The span of one name that a step selects, or of a quoted text that is a side of a comparison.
     Key(StrRange),
-    /// A list of two names or more.
+    /// The spans of the names that a step selects, two or more.
     Keys(Items<StrRange>),
-    /// A bracket opens.
+    /// The opening bracket of a step.
     Array,
-    /// A bracket closes.
+    /// The closing bracket of a step.
     ArrayEof,
-    /// A comparison or a connective, after its two sides.
+    /// A comparison or a connective of a filter, which follows the tokens of its two sides.
     Filter(FilterToken),
-    /// From, to and step of a slice, each of which may be missing.
+    /// A slice that a step selects: its from, to and step, each of which may be missing.
     Range(Option<i64>, Option<i64>, Option<u64>),
-    /// A list of two indexes or more.
+    /// The indexes that a step selects, two or more.
     Union(Items<i64>),
-    /// One index, or a number as a side of a comparison.
+    /// One index that a step selects, or a number that is a side of a comparison.
     Number(Decimal),
-    /// A boolean as a side of a comparison.
+    /// A boolean that is a side of a comparison.
     Bool(bool),
-    /// Never occurs in a compiled path.
+    /// Never occurs in a compiled path; it is there as in the Rust crate.
     Eof,
 }

@@ -6,7 +6,7 @@ ghost use Rattle.jsonpath_paths.specs.tree.Tree.{path};
 
 use crate::token::tokens::{FilterToken, ParseToken};
 
-/// The syntax tree of a path: from the document's root if it is absolute, else from the candidate of a filter.
+/// The syntax tree of a path. The path begins at the document's root, or, in a filter, at the candidate.
 ///
 /// ```text
 /// let path = PathParser::compile(alloc, "$.a[0]")?;
@@ -16,13 +16,13 @@ use crate::token::tokens::{FilterToken, ParseToken};
 #[cycle(tree)]
 #[derive(Drop)]
 pub struct ParserNode {
-    /// Whether the path begins with `$`.
+    /// Whether the path begins with `$`, the document's root; else it begins with `@`, the candidate of a filter.
     pub absolute: bool,
-    /// The steps of the path, in the order of the text.
+    /// The steps of the path, in the order of the path text.
     pub steps: Vec<ParserStep>,
 }
 
-/// One step of a path.
+/// One step of a path in its syntax tree, such as `.a`, `[0]`, `..*` or `[?(@.a)]`.
 ///
 /// ```text
 /// let path = PathParser::compile(alloc, "$..[0]")?;
@@ -32,15 +32,15 @@ pub struct ParserNode {
 #[cycle(tree)]
 #[derive(Drop)]
 pub struct ParserStep {
-    /// Whether two dots begin the step, so that it selects among the children of each node and of all its descendants.
+    /// Whether `..` begins the step, so that it selects among the children of each node and of all its descendants.
     pub leaves: bool,
     /// Whether the step is written in brackets.
     pub bracket: bool,
-    /// What the step selects.
+    /// What the step selects: names, indexes, a slice, all children, or what meets a filter's condition.
     pub inner: Inner,
 }
 
-/// What a step selects.
+/// What a step of a path selects: by a token without a condition, or by a filter.
 ///
 /// ```text
 /// let path = PathParser::compile(alloc, "$.*")?;
@@ -50,13 +50,13 @@ pub struct ParserStep {
 #[cycle(tree)]
 #[derive(Drop)]
 pub enum Inner {
-    /// Names, indexes, a slice or all children.
+    /// A step without a condition: one token for its names, its indexes, its slice, or all children.
     Token(ParseToken),
-    /// The candidates that meet the condition.
+    /// A filter: the step selects the candidates that meet this condition.
     Filter(Condition),
 }
 
-/// The condition of a filter. Parentheses leave no trace.
+/// The condition of a filter, as a tree. It does not record the parentheses of the text.
 ///
 /// ```text
 /// let path = PathParser::compile(alloc, "$[?(@.isbn)]")?;
@@ -66,11 +66,11 @@ pub enum Inner {
 #[cycle(tree)]
 #[derive(Drop)]
 pub enum Condition {
-    /// A path alone: it has to select something.
+    /// A path alone, as in `[?(@.a)]`: it has to select something.
     Lone(ParserNode),
-    /// Two sides and the comparison between them.
+    /// A comparison: the left side, the operator and the right side.
     Compare(Term, FilterToken, Term),
-    /// Two conditions and the connective between them, which groups to the right.
+    /// Two conditions joined by a connective; one without parentheses groups to the right.
     Join(FilterToken, Box<Condition>, Box<Condition>),
 }
 
@@ -87,9 +87,9 @@ pub enum Condition {
 #[cycle(tree)]
 #[derive(Drop)]
 pub enum Term {
-    /// The values that the path selects.
+    /// A path: the comparison uses the values that it selects.
     Path(ParserNode),
-    /// A quoted text as a `Key`, a `Number` or a `Bool`.
+    /// A literal, as a token: a quoted text as a `Key`, a number as a `Number`, or a boolean as a `Bool`.
     Literal(ParseToken),
 }
 

@@ -21,9 +21,9 @@ use crate::tree::token_list::root_token;
 /// impl ParserNodeVisitor for Walker {}
 /// ```
 pub trait ParserNodeVisitor {
-    /// Passes the token list of the tree, in order, to the receiver `handler`, unless that fails. `reader` turns a
-    /// span of the tree into a `V` (mostly `&str`); the receiver may call it, and its result has to be what the
-    /// receiver `takes` there.
+    /// Passes the token list of the tree, in order, to the receiver `handler`, until that has failed. `reader` turns a
+    /// span of the path text into a `V` (mostly `&str`); the receiver may call it, and what it returns has to satisfy
+    /// the receiver's `takes`.
     fn visit<V, H: ParserTokenHandler<V>, R: Fn(&StrRange) -> V>(
         &self,
         node: &ParserNode,

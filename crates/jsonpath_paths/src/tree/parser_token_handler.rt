@@ -36,17 +36,17 @@ pub trait ParserTokenHandler<V> {
     ghost use Rattle.jsonpath_paths.specs.tree.Visit.{MayRead};
     ghost use denote.Ref.{Bor};
 
-    /// The tokens that it received, in their order.
+    /// For proofs: the tokens that this receiver has received, in their order.
     ghost tokens: { Self → List ParseToken };
 
-    /// Whether it has failed; from then on `tokens` means nothing.
+    /// For proofs: whether this receiver has failed; from then on its `tokens` mean nothing.
     ghost has_failed: { Self → Bool };
 
-    /// What it accepts as the reading of a span, as the part of the text there. By default anything.
+    /// For proofs: which values of a reader this receiver accepts for a span of the path text. By default any.
     ghost takes: { Self → StrRange → V → Type 0 } = { λ _ _ _. Unit {0} };
 
-    /// Receives the next token, or fails, as when memory runs out. It may call `reader` on the spans of the token;
-    /// what the reader returns for a span has to satisfy this receiver's `takes` for that span.
+    /// Receives the next token of a path, or fails, as when memory runs out. It may call `reader` on the spans of the
+    /// token; what the reader returns for a span has to satisfy this receiver's `takes` for that span.
     fn handle<R: Fn(&StrRange) -> V>(&mut self, token: &ParseToken, reader: &R)
         requires may { MayRead (R.pre reader.now) token.now }
         requires reads { (s : Bor StrRange) (v : V) → R.post reader.now s v → takes self.old s.now v }
@@ -54,7 +54,7 @@ pub trait ParserTokenHandler<V> {
         ensures given { has_failed self.new ≡ false → tokens self.new ≡ tokens self.old ++ token.now ∷ [] }
         ensures still_takes { (s : StrRange) (v : V) → takes self.old s v → takes self.new s v };
 
-    /// Whether this receiver has failed.
+    /// Whether this receiver has failed to receive some token.
     fn failed(&self) -> bool
         ensures { result ≡ has_failed self.now };
 }

@@ -26,8 +26,8 @@ pub fn read_document(alloc: Global, bytes: &[u8]) -> Result<Value, JsonPathError
     }
 }
 
-/// The compact JSON text of a document. Errors: `Serde` exactly if it contains, at any depth, a number that is neither
-/// an `i64` nor a `u64`, as any fraction; or `OutOfMemory`.
+/// The compact JSON text of a document. Errors: `Serde` exactly if the document contains, at any depth, a number that
+/// is neither an `i64` nor a `u64`, such as 1.5; or `OutOfMemory`.
 ///
 /// ```text
 /// let document = read_document(alloc, b"{ \"a\": [1, null] }")?;

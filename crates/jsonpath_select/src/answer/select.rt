@@ -80,8 +80,8 @@ pub fn select_tokens<'a>(
 }
 
 /// The nodes that the path selects in the value, as a set: those of `select_path`, in any order, possibly without
-/// duplicates. The time is bounded by path times document times its depth, with `..` in conditions times the square
-/// of its depth, in however many ways several `..` reach a node. The only error is `OutOfMemory`.
+/// duplicates. The time is at most the path's length times the document's size times its depth (its depth squared, if a
+/// condition has `..`), even if several `..` reach a node in many ways. The only error is `OutOfMemory`.
 ///
 /// ```text
 /// let document = read_document(alloc, b"[[[1]]]")?;

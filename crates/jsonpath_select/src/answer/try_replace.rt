@@ -13,7 +13,7 @@ use std::alloc::Global;
 use std::error::Error;
 use std::fmt;
 
-/// Why updates by a closure that may return an error ended before the last one.
+/// The error of updating a document by a closure that may return an error: the closure's or the library's.
 ///
 /// ```text
 /// let refuse = &mut |_old: &Value| Err::<Option<Value>, u8>(7);
@@ -24,13 +24,13 @@ use std::fmt;
 /// ```
 #[derive(Drop)]
 pub enum TryFault<E> {
-    /// The error came before the closure was called. Nothing has changed.
+    /// An error of the library, which came before the closure was first called. The document is unchanged.
     Unasked(JsonPathError),
-    /// The closure's first error. The updates before it remain.
+    /// The first error that the closure returned, which ended the updates. The updates before it remain.
     Refused(E),
 }
 
-/// The text of the error before the first call, or of the closure's error.
+/// Prints the error that it contains: the library's, before the first call of the closure, or the closure's.
 impl<E: fmt::Display> fmt::Display for TryFault<E> {
     ghost output = { try_fault_text E.output };
 
@@ -52,7 +52,7 @@ impl<E: fmt::Display> fmt::Debug for TryFault<E> {
 
 impl<E: Error> Error for TryFault<E> {}
 
-/// The error before the first call, or the closure's error; which of them it was is lost.
+/// Becomes the error that it contains, the library's or the closure's; which of them it was is lost.
 impl From<TryFault<JsonPathError>> for JsonPathError {
     ghost from_gives = { λ fault error. error ≡ error_behind fault };
 

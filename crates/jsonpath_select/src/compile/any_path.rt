@@ -34,11 +34,11 @@ use std::rc::Rc;
 /// ```
 #[derive(Clone, Copy)]
 pub struct PathParts<'p> {
-    /// The path text, as it was compiled.
+    /// The text of a compiled path.
     pub text: &'p str,
-    /// The syntax tree of the path text.
+    /// The syntax tree of a compiled path.
     pub tree: &'p ParserNode,
-    /// The token list of the path.
+    /// The token list of a compiled path's syntax tree.
     pub tokens: &'p [ParseToken],
 }
 
@@ -57,7 +57,7 @@ pub trait AnyPath {
     // The text of the path.
     ghost spelling: { Self → List ℕ };
 
-    /// The path's text, syntax tree and token list. It takes no memory.
+    /// The text, syntax tree and token list of this path, borrowed. The call takes no memory.
     ///
     /// ```text
     /// let path = compile_path(alloc, "$.*")?;
@@ -122,9 +122,9 @@ pub trait AnyPath {
         locations_of_selected_spots(alloc, spots.as_slice())
     }
 
-    /// The selected values as a JSON text: `[`, their compact texts joined by `,`, and `]`. Errors: those of `select`,
-    /// and `Serde` exactly if one of the values contains, at any depth, a number that is neither an `i64` nor a `u64`,
-    /// as any fraction.
+    /// The values that the path selects as a JSON text: `[`, their compact texts joined by `,`, and `]`. Errors:
+    /// `OutOfMemory`, and `Serde` exactly if one of the values contains, at any depth, a number that is neither an
+    /// `i64` nor a `u64`, such as 1.5.
     ///
     /// ```text
     /// let document = read_document(alloc, b"[1, 2, 3]")?;
@@ -139,9 +139,9 @@ pub trait AnyPath {
         list_to_text(alloc, found.as_slice())
     }
 
-    /// Deserializes each selected value to a `T`, in the path's order, with duplicates. Errors: those of `select`, and
-    /// `Serde` if a value contains a number that is neither an `i64` nor a `u64`, as any fraction, even if `T` is
-    /// `f64`, or if `serde_json` can't make a `T` of it.
+    /// Deserializes each selected value to a `T`, in the path's order, with duplicates. Errors: `OutOfMemory`, and
+    /// `Serde` if a value contains a number that is neither an `i64` nor a `u64`, such as 1.5, even if `T` is `f64`, or
+    /// if `serde_json` can't make a `T` of it.
     ///
     /// ```text
     /// let document = read_document(alloc, b"[1, 2, 3]")?;
@@ -162,8 +162,8 @@ pub trait AnyPath {
         list_to_typed(alloc, found.as_slice())
     }
 
-    /// The number of values that the path selects in the document, duplicates included. Their list is made to be
-    /// counted. The only error is `OutOfMemory`.
+    /// The number of values that the path selects in the document, duplicates included. The call builds their list and
+    /// counts it. The only error is `OutOfMemory`.
     ///
     /// ```text
     /// let document = read_document(alloc, b"[1, 2, 3]")?;
@@ -194,7 +194,7 @@ pub trait AnyPath {
         first_by_parts(alloc, value, self.parts())
     }
 
-    /// Whether the path selects a value in the document. The only error is `OutOfMemory`.
+    /// Whether the path selects any value in the document. The only error is `OutOfMemory`.
     ///
     /// ```text
     /// let document = read_document(alloc, b"[1, 2, 3]")?;

@@ -44,7 +44,7 @@ impl Node {
         Node { text, tree, tokens }
     }
 
-    /// The path text, as it was compiled.
+    /// The text of this compiled path, as it was compiled.
     ///
     /// ```text
     /// let node = Parser::compile(alloc, "$.a")?;
@@ -71,7 +71,7 @@ impl Node {
     }
 }
 
-/// A copy has the same text, tree and token list. The only error is out of memory.
+/// A copy of a compiled path has the same text, tree and token list. The only error is out of memory.
 impl Clone for Node {
     ghost is_clone = { λ node copy. copy ≡ node };
 

@@ -47,28 +47,28 @@ pub trait NodeVisitor {
     ghost use Rattle.jsonpath_paths.specs.tree.Tree.{Path};
     ghost use Rattle.jsonpath_paths.specs.tree.Visit.{path_tokens};
 
-    /// The tokens that it received, in their order.
+    /// For proofs: the tokens that this receiver has received, in their order.
     ghost tokens: { Self → List ParseToken };
 
-    /// Whether it has failed; from then on `tokens` means nothing.
+    /// For proofs: whether this receiver has failed; from then on its `tokens` mean nothing.
     ghost has_failed: { Self → Bool };
 
-    /// Receives the next token, or fails, as when memory runs out.
+    /// Receives the next token of a compiled path, or fails, as when memory runs out.
     fn visit_token(&mut self, token: &ParseToken)
         ensures stays_failed { has_failed self.old ≡ true → has_failed self.new ≡ true }
         ensures given { has_failed self.new ≡ false → tokens self.new ≡ tokens self.old ++ token.now ∷ [] };
 
-    /// Called when one side of a comparison has ended. It receives no token and does not fail.
+    /// Called after the tokens of one side of a comparison. It receives no token and does not fail.
     fn end_term(&mut self)
         ensures failed { has_failed self.new ≡ has_failed self.old }
         ensures tokens { tokens self.new ≡ tokens self.old }
     {}
 
-    /// Whether this receiver has failed.
+    /// Whether this receiver has failed to receive some token.
     fn failed(&self) -> bool
         ensures { result ≡ has_failed self.now };
 
-    /// Receives the token list of the path's syntax tree, in order, unless it fails.
+    /// Passes the token list of the compiled path `node` to this receiver, token by token, until it has failed.
     final fn visit(&mut self, node: &Node)
         ensures stays_failed { has_failed self.old ≡ true → has_failed self.new ≡ true }
         ensures given { has_failed self.new ≡ false → (p : Path) → Spells node.now p → tokens self.new ≡ tokens self.old ++ path_tokens p }

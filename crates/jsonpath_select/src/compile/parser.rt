@@ -10,7 +10,7 @@ use std::alloc::{AllocError, Global};
 use std::error::Error;
 use std::fmt;
 
-/// The error of `Parser`. `Display` and `Debug` print the same text.
+/// The error of compiling a path text by `Parser`. `Display` and `Debug` print the same text.
 ///
 /// ```text
 /// let refused = match Parser::compile(alloc, "$[a]") {
@@ -21,16 +21,16 @@ use std::fmt;
 /// ```
 #[derive(Drop)]
 pub enum ParseFault {
-    /// The text is no path. It prints the text, a line end and a row of `^` that ends below the last byte of the
-    /// wrong token, or below the last byte of the text if that ends too early.
+    /// The text that was to be compiled is no path. The message is that text, a line end and a row of `^` that ends
+    /// below the last byte of the wrong token, or below the last byte of the text if that ends too early.
     Text(String),
-    /// Out of memory. It prints `out of memory`.
+    /// Memory ran out. It prints `out of memory`.
     OutOfMemory,
 }
 
 impl ParseFault {
-    /// The byte position at which the row of `^` ends: that after the wrong token or character, or after the text's
-    /// last byte if that ends too early. `None` for out of memory.
+    /// The byte position of the syntax error, below which the message's row of `^` ends: after the wrong token or
+    /// character, or after the text's last byte if the text ends too early. `None` for out of memory.
     ///
     /// ```text
     /// match Parser::compile(alloc, "$.a[b]") {

@@ -13,11 +13,11 @@ use serde_json::Value;
 use std::alloc::Global;
 
 impl<P: AnyPath> HeldPair<P, Value> {
-    /// Replaces by null each selected value below the root that lies in no other selected one. All else stays as it
-    /// is.
+    /// Replaces by null, in the selector's document, each value below the root that its path selects and that lies in
+    /// no other selected one. All else stays as it is.
     ///
-    /// Errors: `EmptyPath` exactly if there is no path, `EmptyValue` exactly if there is a path and no document,
-    /// else `OutOfMemory` alone; nothing has changed then.
+    /// Errors: `EmptyPath` exactly if there is no path, `EmptyValue` exactly if there is a path and no document, else
+    /// `OutOfMemory` alone; nothing has changed then.
     ///
     /// ```text
     /// let mut held = SelectorMut::new();
@@ -39,8 +39,8 @@ impl<P: AnyPath> HeldPair<P, Value> {
         }
     }
 
-    /// Removes the selected values below the root, all at once: the other items of an array keep their order. Errors
-    /// are those of `delete`.
+    /// Removes the selected values below the root; the other items of an array keep their order. Errors: `EmptyPath` if
+    /// there is no path, else `EmptyValue` if there is no document, else `OutOfMemory`; nothing has changed then.
     ///
     /// ```text
     /// let mut held = SelectorMut::new();
@@ -62,8 +62,8 @@ impl<P: AnyPath> HeldPair<P, Value> {
         }
     }
 
-    /// Replaces by a copy of `new` each selected value below the root that lies in no other selected one, all at
-    /// once. All else stays as it is. Errors are those of `delete`; nothing has changed then.
+    /// Replaces by a copy of `new` each selected value below the root that lies in no other selected one. Errors:
+    /// `EmptyPath` (no path), `EmptyValue` (a path, no document), else `OutOfMemory`; nothing has changed then.
     ///
     /// ```text
     /// let mut held = SelectorMut::new();
@@ -85,9 +85,9 @@ impl<P: AnyPath> HeldPair<P, Value> {
         }
     }
 
-    /// Calls the closure once for each selected location, in document order, with the value that the earlier updates
-    /// left there: `Some` replaces the value, `None` removes it. A location that no longer exists is skipped, and so is
-    /// the root. Errors are those of `delete`; the closure was not called then.
+    /// Calls the closure once for each selected location below the root, in document order, with the value that earlier
+    /// updates left there, unless it is gone: `Some` replaces the value, `None` removes it. Errors, before any call:
+    /// `EmptyPath` if there is no path, else `EmptyValue` if there is no document, else `OutOfMemory`.
     ///
     /// ```text
     /// let mut held = SelectorMut::new();

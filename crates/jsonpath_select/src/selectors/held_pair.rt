@@ -13,7 +13,7 @@ use serde_json::Value;
 use std::alloc::Global;
 use std::marker::Model;
 
-/// What a selector or an update type has as its value: a `Value` of its own, or a reference to one.
+/// What a selector stores as the value to search: an owned `Value`, which it can change, or a reference to one.
 ///
 /// ```text
 /// let document = read_document(alloc, b"7")?;
@@ -24,7 +24,7 @@ pub trait HeldValue {
     // The value.
     ghost held: { Self → Value };
 
-    /// A reference to the value.
+    /// Borrows the value that a selector stores, be it owned or itself borrowed.
     ///
     /// ```text
     /// let document = read_document(alloc, b"7")?;
@@ -77,7 +77,7 @@ impl<P: AnyPath, V: HeldValue> Model for HeldPair<P, V> {
     ghost view = { λ s. record { path = option_map P.spelling s.path; value = option_map V.held s.value } };
 }
 
-/// A pair with no path and no value. It takes no memory.
+/// A selector, such as a `Selector` or a `SelectorMut`, with no path and no value. It takes no memory.
 impl<P: AnyPath, V: HeldValue> Default for HeldPair<P, V> {
     ghost is_default = { λ held. held ≡ record { path = None; value = None } };
 
@@ -102,8 +102,8 @@ impl<P: AnyPath, V: HeldValue> HeldPair<P, V> {
         Ok((path, value.lent()))
     }
 
-    /// The locations that the path selects in the value, in the path's order, with duplicates. Errors: `EmptyPath`
-    /// exactly if there is no path, `EmptyValue` exactly if there is a path and no value, or `OutOfMemory`.
+    /// The locations that the selector's path selects in its value, in the path's order, with duplicates. Errors:
+    /// `EmptyPath` exactly if there is no path, `EmptyValue` exactly if there is a path and no value, or `OutOfMemory`.
     ///
     /// ```text
     /// let document = read_document(alloc, b"[1, 2, 3]")?;
@@ -121,9 +121,9 @@ impl<P: AnyPath, V: HeldValue> HeldPair<P, V> {
         path.select_locations(alloc, value)
     }
 
-    /// The selected values as a JSON text: `[`, their compact texts joined by `,`, and `]`. Errors: those of
-    /// `select_locations`, and `Serde` exactly if one of the values contains, at any depth, a number that is neither an
-    /// `i64` nor a `u64`, as any fraction.
+    /// The selected values as a JSON text: `[`, their compact texts joined by `,`, and `]`. Errors: `EmptyPath` without
+    /// a path, else `EmptyValue` without a value, `OutOfMemory`, or `Serde` exactly if one of the values contains, at
+    /// any depth, a number that is neither an `i64` nor a `u64`, such as 1.5.
     ///
     /// ```text
     /// let mut held = SelectorMut::new();
@@ -139,9 +139,9 @@ impl<P: AnyPath, V: HeldValue> HeldPair<P, V> {
         path.select_as_str(alloc, value)
     }
 
-    /// Deserializes each selected value to a `T`, in the path's order, with duplicates. Errors: those of
-    /// `select_locations`, and `Serde` if a value contains a number that is neither an `i64` nor a `u64`, as any
-    /// fraction, even if `T` is `f64`, or if `serde_json` can't make a `T` of it.
+    /// Deserializes each selected value to a `T`, in the path's order, with duplicates. Errors: `EmptyPath` without a
+    /// path, else `EmptyValue` without a value, `OutOfMemory`, or `Serde` if a selected value contains a number that is
+    /// neither an `i64` nor a `u64`, such as 1.5, even if `T` is `f64`, or if `serde_json` can't make a `T` of it.
     ///
     /// ```text
     /// let document = read_document(alloc, b"[1, 2, 3]")?;
@@ -159,8 +159,8 @@ impl<P: AnyPath, V: HeldValue> HeldPair<P, V> {
         path.select_as(alloc, value)
     }
 
-    /// The number of values that the path selects in the pair's value, duplicates included. Errors are those of
-    /// `select_locations`.
+    /// The number of values that the selector's path selects in its value, duplicates included. Errors: `EmptyPath` if
+    /// there is no path, else `EmptyValue` if there is no value, else `OutOfMemory`.
     ///
     /// ```text
     /// let document = read_document(alloc, b"[1, 2, 3]")?;
@@ -176,7 +176,7 @@ impl<P: AnyPath, V: HeldValue> HeldPair<P, V> {
         path.count(alloc, value)
     }
 
-    /// Whether the path selects anything in the pair's value. Errors are those of `select_locations`.
+    /// Whether the path selects anything. Errors: `EmptyPath` (no path), `EmptyValue` (no value), `OutOfMemory`.
     ///
     /// ```text
     /// let mut held = SelectorMut::new();

@@ -34,8 +34,8 @@ pub type JsonSelector<'a> = HeldPair<Rc<PathParser<'a>>, &'a Value>;
 pub type JsonSelectorMut<'a> = HeldPair<Rc<PathParser<'a>>, Value>;
 
 impl<'p, V: HeldValue> HeldPair<Rc<PathParser<'p>>, V> {
-    /// A selector or update type with this path and no value. The only error is `OutOfMemory`; the parser is then
-    /// dropped.
+    /// Makes a `JsonSelector` or a `JsonSelectorMut` with this path and no value. The only error is `OutOfMemory`; the
+    /// path is then dropped.
     ///
     /// ```text
     /// let held = JsonSelector::new(alloc, compile_path(alloc, "$[0]")?)?;
@@ -55,8 +55,8 @@ impl<'p, V: HeldValue> HeldPair<Rc<PathParser<'p>>, V> {
         })
     }
 
-    /// A selector or update type with this shared path and no value. It takes no memory. Named as in the Rust crate
-    /// `jsonpath_lib`.
+    /// Makes a `JsonSelector` or a `JsonSelectorMut` with this shared path and no value. It takes no memory. Named as
+    /// in the Rust crate `jsonpath_lib`.
     ///
     /// ```text
     /// let document = read_document(alloc, b"[1, 2, 3]")?;
@@ -73,8 +73,8 @@ impl<'p, V: HeldValue> HeldPair<Rc<PathParser<'p>>, V> {
         }
     }
 
-    /// Replaces the path; the value stays. The only error is `OutOfMemory`; nothing has changed then, and the parser
-    /// is dropped. Named as in the Rust crate `jsonpath_lib`.
+    /// Replaces the selector's path by the given one; its value stays. The only error is `OutOfMemory`; nothing has
+    /// changed then, and the given path is dropped. Named as in the Rust crate `jsonpath_lib`.
     ///
     /// ```text
     /// let document = read_document(alloc, b"[1, 2, 3]")?;
@@ -99,8 +99,8 @@ impl<'p, V: HeldValue> HeldPair<Rc<PathParser<'p>>, V> {
         }
     }
 
-    /// Replaces the path, as `reset_parser` does, but returns no `&mut Self`: a caller's proof can read its clauses
-    /// after an error, too. The only error is `OutOfMemory`; nothing has changed then.
+    /// Replaces the selector's path, as `reset_parser` does, but returns no `&mut Self`, so that a caller's proof can
+    /// also use the contract after an error. The only error is `OutOfMemory`; nothing has changed then.
     ///
     /// ```text
     /// let mut held = JsonSelectorMut::new(alloc, compile_path(alloc, "$[1:]")?)?;
@@ -117,7 +117,7 @@ impl<'p, V: HeldValue> HeldPair<Rc<PathParser<'p>>, V> {
         Ok(())
     }
 
-    /// Replaces the path by this shared one; the value stays. It takes no memory. Named as in the Rust crate
+    /// Replaces the selector's path by this shared one; its value stays. It takes no memory. Named as in the Rust crate
     /// `jsonpath_lib`.
     ///
     /// ```text

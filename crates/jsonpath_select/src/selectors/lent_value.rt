@@ -12,8 +12,8 @@ use serde_json::Value;
 use std::alloc::Global;
 
 impl<'a, P: AnyPath> HeldPair<P, &'a Value> {
-    /// Sets the value to search, in place of the one before. It takes no memory. Named as in the Rust crate
-    /// `jsonpath_lib`.
+    /// Sets the value that the selector searches, in place of the one before. It takes no memory. Named as in the Rust
+    /// crate `jsonpath_lib`.
     ///
     /// ```text
     /// let document = read_document(alloc, b"[1, 2, 3]")?;
@@ -29,7 +29,7 @@ impl<'a, P: AnyPath> HeldPair<P, &'a Value> {
         self
     }
 
-    /// Does nothing, since no answer is cached. It is here for users of the Rust crate.
+    /// Does nothing, since a selector caches no answer. It is here for users of the Rust crate `jsonpath_lib`.
     ///
     /// ```text
     /// let document = read_document(alloc, b"[1, 2, 3]")?;
@@ -55,9 +55,9 @@ impl<'a, P: AnyPath> HeldPair<P, &'a Value> {
         Ok((path, value))
     }
 
-    /// The selected values, in the path's order, with duplicates. They borrow only the searched value. Errors:
-    /// `EmptyPath` exactly if there is no path, `EmptyValue` exactly if there is a path and no value, else
-    /// `OutOfMemory` alone.
+    /// The values that the selector's path selects, in the path's order, with duplicates. They borrow only the searched
+    /// value. Errors: `EmptyPath` exactly if there is no path, `EmptyValue` exactly if there is a path and no value,
+    /// else `OutOfMemory` alone.
     ///
     /// ```text
     /// let document = read_document(alloc, b"[1, 2, 3]")?;
@@ -74,8 +74,8 @@ impl<'a, P: AnyPath> HeldPair<P, &'a Value> {
         path.select(alloc, value)
     }
 
-    /// The selected nodes, each a value with its location, in the path's order, with duplicates. They borrow only the
-    /// searched value. Errors are those of `select`.
+    /// The selected nodes (values with locations), in the path's order, with duplicates. They borrow only the searched
+    /// value. Errors: `EmptyPath` if there is no path, else `EmptyValue` if there is no value, else `OutOfMemory`.
     ///
     /// ```text
     /// let document = read_document(alloc, b"[1, 2, 3]")?;
@@ -93,8 +93,8 @@ impl<'a, P: AnyPath> HeldPair<P, &'a Value> {
         path.select_spots(alloc, value)
     }
 
-    /// The first of the selected values, in the path's order, or `None`. It borrows only the searched value. Errors are
-    /// those of `select`.
+    /// The first of the selected values, in the path's order, or `None`. It borrows only the searched value. Errors:
+    /// `EmptyPath` if there is no path, else `EmptyValue` if there is no value, else `OutOfMemory`.
     ///
     /// ```text
     /// let document = read_document(alloc, b"[1, 2, 3]")?;

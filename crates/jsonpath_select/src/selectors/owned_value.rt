@@ -12,7 +12,7 @@ use serde_json::Value;
 use std::alloc::Global;
 
 impl<P: AnyPath> HeldPair<P, Value> {
-    /// Replaces the document; the old one is dropped. It takes no memory. Named as in the Rust crate `jsonpath_lib`.
+    /// Sets the document to change; the old one is dropped. It takes no memory. Named as in the crate `jsonpath_lib`.
     ///
     /// ```text
     /// let mut held = SelectorMut::new();
@@ -28,7 +28,7 @@ impl<P: AnyPath> HeldPair<P, Value> {
         self
     }
 
-    /// Takes the document out, with all changes made so far. There is none afterwards. It takes no memory.
+    /// Moves the document out of the selector, with all changes made so far; it then has none. It takes no memory.
     ///
     /// ```text
     /// let mut held = SelectorMut::default();
@@ -61,8 +61,8 @@ impl<P: AnyPath> HeldPair<P, Value> {
         path.select(alloc, value)
     }
 
-    /// The nodes that the path selects in the document, each a value with its location, in the path's order, with
-    /// duplicates. Errors are those of `select`.
+    /// The nodes (values with locations) that the path selects in the document, in its order, with duplicates. Errors:
+    /// `EmptyPath` if there is no path, else `EmptyValue` if there is no document, else `OutOfMemory`.
     ///
     /// ```text
     /// let mut held = SelectorMut::new();
@@ -80,7 +80,7 @@ impl<P: AnyPath> HeldPair<P, Value> {
         path.select_spots(alloc, value)
     }
 
-    /// The first of the values that the path selects, in the path's order, or `None`. Errors are those of `select`.
+    /// The first selected value, if any. Errors: `EmptyPath` (no path), `EmptyValue` (no document), `OutOfMemory`.
     ///
     /// ```text
     /// let mut held = SelectorMut::new();

@@ -40,8 +40,8 @@ pub type Selector<'a, 'b> = HeldPair<WalkedPath<'b>, &'a Value>;
 pub type SelectorMut = HeldPair<Node, Value>;
 
 impl<P: OfNode + Drop, V: HeldValue> HeldPair<P, V> {
-    /// Compiles the text and replaces the path. Errors: `Path`, with the message of `Parser`, exactly if the text is
-    /// outside the grammar, or `OutOfMemory`; nothing has changed then. Named as in the Rust crate `jsonpath_lib`.
+    /// Compiles a path text and replaces the selector's path. Errors: `Path`, with `Parser`'s message, exactly if the
+    /// text is outside the grammar, or `OutOfMemory`; nothing has changed then. Named as in the crate `jsonpath_lib`.
     ///
     /// ```text
     /// let document = read_document(alloc, b"[1, 2, 3]")?;
@@ -63,9 +63,9 @@ impl<P: OfNode + Drop, V: HeldValue> HeldPair<P, V> {
         }
     }
 
-    /// Compiles the text and replaces the path, as `str_path` does, but returns no `&mut Self`: a caller's proof can
-    /// read its clauses after an error, too. Errors: `Path` exactly if the text is outside the grammar, or
-    /// `OutOfMemory`; nothing has changed then.
+    /// Compiles a path text and replaces the selector's path, as `str_path` does, but returns no `&mut Self`, so that a
+    /// caller's proof can also use the contract after an error. Errors: `Path` exactly if the text is outside the
+    /// grammar, or `OutOfMemory`; nothing has changed then.
     ///
     /// ```text
     /// let mut held = SelectorMut::new();
@@ -102,7 +102,7 @@ impl<'a, 'b> Selector<'a, 'b> {
         }
     }
 
-    /// The path, a `Node`, or `None`. It takes no memory. Named as in the Rust crate `jsonpath_lib`.
+    /// The selector's compiled path, or `None`. It takes no memory. Named as in the Rust crate `jsonpath_lib`.
     ///
     /// ```text
     /// let mut held = Selector::new();
@@ -119,7 +119,7 @@ impl<'a, 'b> Selector<'a, 'b> {
         }
     }
 
-    /// Replaces the path by this compiled one, borrowed. It takes no memory. Named as in the Rust crate
+    /// Sets the selector's path to this compiled one, borrowed. It takes no memory. Named as in the Rust crate
     /// `jsonpath_lib`.
     ///
     /// ```text
@@ -139,7 +139,7 @@ impl<'a, 'b> Selector<'a, 'b> {
 }
 
 impl SelectorMut {
-    /// An update type with no path and no document. It takes no memory.
+    /// Makes a `SelectorMut` with no path and no document. It takes no memory.
     ///
     /// ```text
     /// let mut held = SelectorMut::new();
@@ -154,7 +154,7 @@ impl SelectorMut {
         }
     }
 
-    /// Replaces the path by this compiled one. It takes no memory. Named as in the Rust crate `jsonpath_lib`.
+    /// Sets the selector's path to this compiled one. It takes no memory. Named as in the Rust crate `jsonpath_lib`.
     ///
     /// ```text
     /// let mut held = SelectorMut::new();

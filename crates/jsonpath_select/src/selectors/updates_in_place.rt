@@ -12,8 +12,8 @@ use serde_json::Value;
 use std::alloc::Global;
 
 impl<P: AnyPath> HeldPair<P, Value> {
-    /// Replaces by null each selected value below the root that lies in no other selected one. Errors are those of
-    /// `delete`, which chains; here a caller's proof knows the state after an error, too: nothing has changed.
+    /// Replaces by null each selected value below the root that lies in no other selected one, as `delete` does.
+    /// Errors: `EmptyPath` (no path), `EmptyValue` (a path, no document), else `OutOfMemory`; nothing has changed then.
     ///
     /// ```text
     /// let mut held = SelectorMut::new();
@@ -35,8 +35,8 @@ impl<P: AnyPath> HeldPair<P, Value> {
         path.delete_in(alloc, value)
     }
 
-    /// Removes the selected values below the root, all at once. Errors are those of `remove`, which chains; here a
-    /// caller's proof knows the state after an error, too: nothing has changed.
+    /// Removes the selected values below the root, all at once, as `remove` does. Errors: `EmptyPath` if there is no
+    /// path, else `EmptyValue` if there is no document, else `OutOfMemory`; nothing has changed then.
     ///
     /// ```text
     /// let mut held = SelectorMut::new();
@@ -58,9 +58,9 @@ impl<P: AnyPath> HeldPair<P, Value> {
         path.remove_in(alloc, value)
     }
 
-    /// Replaces by a copy of `new` each selected value below the root that lies in no other selected one, all at
-    /// once. Errors are those of `set`, which chains; here a caller's proof knows the state after an error, too:
-    /// nothing has changed.
+    /// Replaces by a copy of `new` each selected value below the root that lies in no other selected one, all at once,
+    /// as `set` does, but returns no `&mut Self`. Errors: `EmptyPath` if there is no path, else `EmptyValue` if there
+    /// is no document, else `OutOfMemory`; nothing has changed then.
     ///
     /// ```text
     /// let mut held = SelectorMut::new();
@@ -82,8 +82,8 @@ impl<P: AnyPath> HeldPair<P, Value> {
         path.set_in(alloc, value, new)
     }
 
-    /// Calls the closure once for each selected location, as `replace_with` does, which chains: `Some` replaces the
-    /// value, `None` removes it. Here a caller's proof knows the state after an error, too: nothing has changed.
+    /// Calls the closure once for each selected location, as `replace_with` does, but returns no `&mut Self`: `Some`
+    /// replaces the value, `None` removes it. Errors, before any call: `EmptyPath`, `EmptyValue` or `OutOfMemory`.
     ///
     /// ```text
     /// let mut held = SelectorMut::new();
@@ -113,10 +113,10 @@ impl<P: AnyPath> HeldPair<P, Value> {
         path.replace_in(alloc, value, fun)
     }
 
-    /// Calls the closure once for each selected location, in document order, with a reference to the value that the
-    /// earlier updates left there: `Some` replaces the value, `None` removes it. A location that no longer exists is
-    /// skipped, and so is the root. The closure's first error ends the updates, as `Refused`; the updates before it
-    /// remain. `Unasked` has the errors of `delete`.
+    /// Calls the closure once for each selected location below the root, in document order, with a reference to the
+    /// value that earlier updates left there, unless it is gone: `Some` replaces the value, `None` removes it. The
+    /// closure's first error ends the updates, as `Refused`; those before it remain. Errors before any call are
+    /// `Unasked`: `EmptyPath` without a path, else `EmptyValue` without a document, else `OutOfMemory`.
     ///
     /// ```text
     /// let mut held = SelectorMut::new();

@@ -10,7 +10,7 @@ use jsonpath_nodes::Spot;
 use serde_json::Value;
 use std::alloc::Global;
 
-/// A compiled path that a selector owns or borrows. What it selects, with locations, is found by a walk over its
+/// The compiled path of a selector, owned or borrowed. What it selects, with locations, is found by a walk over its
 /// syntax tree.
 ///
 /// ```text
@@ -20,9 +20,9 @@ use std::alloc::Global;
 /// ```
 #[derive(Drop)]
 pub enum WalkedPath<'b> {
-    /// Owned.
+    /// A compiled path that the selector owns.
     Own(Node),
-    /// Borrowed.
+    /// A compiled path that the selector borrows.
     Lent(&'b Node),
 }
 
@@ -55,14 +55,14 @@ impl<'b> AnyPath for WalkedPath<'b> {
     }
 }
 
-/// A path type that can be made of a `Node`, so that a text can be compiled in its place.
+/// A type of compiled path that can be made of a `Node`: then a selector with such a path can compile a path text.
 ///
 /// ```text
 /// let path: WalkedPath<'_> = OfNode::of_node(Parser::compile(alloc, "$.a")?);
 /// assert!(rt; path.parts().text == "$.a");
 /// ```
 pub trait OfNode: AnyPath {
-    /// Makes a path of this `Node`.
+    /// Makes a path of this type from a `Node`, a compiled path that owns its text.
     ///
     /// ```text
     /// let node: Node = OfNode::of_node(Parser::compile(alloc, "$.a")?);

@@ -80,8 +80,8 @@ fn inside_quotes(text: &str) -> Option<&str>
     }
 }
 
-/// The name or text at a span of a path text, borrowed if it is there as it is; `None` if a backslash has to be
-/// dropped from it, as in `'a\'b'`. A span that cuts a character or passes the end means the empty name.
+/// The name or quoted text at a span of a path text, without its quotes, borrowed; `None` if a backslash has to be
+/// dropped, as in `'a\'b'`. A span that cuts a character or passes the end means the empty name.
 ///
 /// ```text
 /// let name = borrowed_name_at("$['a']", StrRange::new(2, 3));

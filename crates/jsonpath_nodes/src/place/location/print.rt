@@ -32,7 +32,7 @@ fn write_guarded<W: fmt::Write>(name: &str, f: &mut fmt::Formatter<W>) -> fmt::R
     Ok(())
 }
 
-/// A step as a path has it in brackets: a name between single quotes, or an index.
+/// Prints a step as a path writes it between brackets: a name between single quotes, or an index.
 impl fmt::Display for LocStep {
     ghost output = { λ step. Some (encode_utf8_all (step_chars (owned_step step))) };
 
