@@ -50,18 +50,22 @@ pub struct CmpEq;
 impl Cmp for CmpEq {
     ghost comparison = { equal };
 
+    // Whether left == right.
     fn cmp_bool(&self, left: bool, right: bool) -> bool {
         left.cmp(&right).is_eq()
     }
 
+    // Whether left == right, exactly.
     fn cmp_num(&self, left: Decimal, right: Decimal) -> bool {
         left.cmp(&right).is_eq()
     }
 
+    // Whether left == right, by their bytes.
     fn cmp_string(&self, left: &str, right: &str) -> bool {
         left.cmp(&right).is_eq()
     }
 
+    // No two values of different kinds satisfy `==`.
     fn default(&self) -> bool {
         false
     }
@@ -78,18 +82,22 @@ pub struct CmpNe;
 impl Cmp for CmpNe {
     ghost comparison = { not_equal };
 
+    // Whether left != right.
     fn cmp_bool(&self, left: bool, right: bool) -> bool {
         left.cmp(&right).is_ne()
     }
 
+    // Whether left != right, exactly.
     fn cmp_num(&self, left: Decimal, right: Decimal) -> bool {
         left.cmp(&right).is_ne()
     }
 
+    // Whether left != right, by their bytes.
     fn cmp_string(&self, left: &str, right: &str) -> bool {
         left.cmp(&right).is_ne()
     }
 
+    // Values of different kinds satisfy `!=`.
     fn default(&self) -> bool {
         true
     }
@@ -106,18 +114,22 @@ pub struct CmpGt;
 impl Cmp for CmpGt {
     ghost comparison = { greater };
 
+    // Whether left > right, where false comes before true.
     fn cmp_bool(&self, left: bool, right: bool) -> bool {
         left.cmp(&right).is_gt()
     }
 
+    // Whether left > right, exactly.
     fn cmp_num(&self, left: Decimal, right: Decimal) -> bool {
         left.cmp(&right).is_gt()
     }
 
+    // Whether left > right, by their bytes.
     fn cmp_string(&self, left: &str, right: &str) -> bool {
         left.cmp(&right).is_gt()
     }
 
+    // No two values of different kinds satisfy `>`.
     fn default(&self) -> bool {
         false
     }
@@ -134,18 +146,22 @@ pub struct CmpGe;
 impl Cmp for CmpGe {
     ghost comparison = { greater_or_equal };
 
+    // Whether left >= right, where false comes before true.
     fn cmp_bool(&self, left: bool, right: bool) -> bool {
         left.cmp(&right).is_ge()
     }
 
+    // Whether left >= right, exactly.
     fn cmp_num(&self, left: Decimal, right: Decimal) -> bool {
         left.cmp(&right).is_ge()
     }
 
+    // Whether left >= right, by their bytes.
     fn cmp_string(&self, left: &str, right: &str) -> bool {
         left.cmp(&right).is_ge()
     }
 
+    // No two values of different kinds satisfy `>=`.
     fn default(&self) -> bool {
         false
     }
@@ -162,18 +178,22 @@ pub struct CmpLt;
 impl Cmp for CmpLt {
     ghost comparison = { less };
 
+    // Whether left < right, where false comes before true.
     fn cmp_bool(&self, left: bool, right: bool) -> bool {
         left.cmp(&right).is_lt()
     }
 
+    // Whether left < right, exactly.
     fn cmp_num(&self, left: Decimal, right: Decimal) -> bool {
         left.cmp(&right).is_lt()
     }
 
+    // Whether left < right, by their bytes.
     fn cmp_string(&self, left: &str, right: &str) -> bool {
         left.cmp(&right).is_lt()
     }
 
+    // No two values of different kinds satisfy `<`.
     fn default(&self) -> bool {
         false
     }
@@ -190,18 +210,22 @@ pub struct CmpLe;
 impl Cmp for CmpLe {
     ghost comparison = { less_or_equal };
 
+    // Whether left <= right, where false comes before true.
     fn cmp_bool(&self, left: bool, right: bool) -> bool {
         left.cmp(&right).is_le()
     }
 
+    // Whether left <= right, exactly.
     fn cmp_num(&self, left: Decimal, right: Decimal) -> bool {
         left.cmp(&right).is_le()
     }
 
+    // Whether left <= right, by their bytes.
     fn cmp_string(&self, left: &str, right: &str) -> bool {
         left.cmp(&right).is_le()
     }
 
+    // No two values of different kinds satisfy `<=`.
     fn default(&self) -> bool {
         false
     }

@@ -103,21 +103,25 @@ impl<'a> Mark<'a> for &'a Value {
 
     ghost members_stand = { λ here. [] };
 
+    // The reference itself.
     #[inline(always)]
     fn value(&self) -> &'a Value {
         *self
     }
 
+    // Nothing, since a reference keeps no location.
     #[inline(always)]
     fn shared_by_items(&self, _alloc: Global) -> Result<(), NoMemory> {
         Ok(())
     }
 
+    // Nothing, since a reference keeps no location.
     #[inline(always)]
     fn shared_by_members(&self, _alloc: Global) -> Result<(), NoMemory> {
         Ok(())
     }
 
+    // Adds the reference to an item to a list; its index is not kept.
     #[inline(always)]
     fn push_item(
         _here: &(),
@@ -129,6 +133,7 @@ impl<'a> Mark<'a> for &'a Value {
         Ok(())
     }
 
+    // Adds the reference to a member to a list; its name is not kept.
     #[inline(always)]
     fn push_member(
         _here: &(),
@@ -140,6 +145,7 @@ impl<'a> Mark<'a> for &'a Value {
         Ok(())
     }
 
+    // Adds the reference to one member of the value to a list; its name is not kept.
     #[inline(always)]
     fn push_single_member(
         &self,
@@ -169,19 +175,23 @@ impl<'a> Mark<'a> for Spot<'a> {
 
     ghost members_stand = { held_path_location };
 
+    // The value at the spot.
     #[inline(always)]
     fn value(&self) -> &'a Value {
         self.value
     }
 
+    // The trail to the array, which the spots of its items share.
     fn shared_by_items(&self, alloc: Global) -> Result<Rc<Trail<'a>>, NoMemory> {
         shared_trail_of_path_to_value(alloc, self.lent_path())
     }
 
+    // The path to the object, which the spots of its members share.
     fn shared_by_members(&self, alloc: Global) -> Result<HeldPathToContainer<'a>, NoMemory> {
         held_path_to_container(alloc, self.lent_path())
     }
 
+    // Adds the spot of an item to a list: it shares the trail to the array, and has its index behind it.
     #[inline(always)]
     fn push_item(
         here: &Rc<Trail<'a>>,
@@ -196,6 +206,7 @@ impl<'a> Mark<'a> for Spot<'a> {
         Ok(())
     }
 
+    // Adds the spot of a member to a list: it shares the path to the object, and has its name behind it.
     #[inline(always)]
     fn push_member(
         here: &HeldPathToContainer<'a>,
@@ -210,6 +221,8 @@ impl<'a> Mark<'a> for Spot<'a> {
         Ok(())
     }
 
+    // Adds the spot of one member of the value to a list. The trail to the value is made for this spot alone; where the
+    // value is an item of an array, the trail to the array is shared instead.
     #[inline(always)]
     fn push_single_member(
         &self,

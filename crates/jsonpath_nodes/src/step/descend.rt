@@ -53,6 +53,7 @@ pub trait Descends<'a>: Mark<'a> {
 
 /// A reference has no location: it is the value alone, and its children share nothing.
 impl<'a> Descends<'a> for &'a Value {
+    // Adds, as references, what a step selects in the value and in all below it, each value before its children.
     #[inline]
     fn add_selected_at_or_below(
         &self,
@@ -63,11 +64,13 @@ impl<'a> Descends<'a> for &'a Value {
         references::add_selected_at_or_below(*self, plain, out)
     }
 
+    // Adds, as references, what is no array and is reached from the value through arrays alone.
     #[inline]
     fn add_flattened(&self, _alloc: Global, out: &mut Vec<&'a Value>) -> Result<(), NoMemory> {
         candidates::references::add_flattened(*self, out)
     }
 
+    // Adds, as references, the candidates of a filter behind `..` from the value, each once.
     #[inline]
     fn add_candidates_below(
         &self,
@@ -80,6 +83,7 @@ impl<'a> Descends<'a> for &'a Value {
 
 /// A `Spot` has its whole location. Its children share that.
 impl<'a> Descends<'a> for Spot<'a> {
+    // Adds, as spots, what a step selects in the value and in all below it, each value before its children.
     #[inline]
     fn add_selected_at_or_below(
         &self,
@@ -90,11 +94,13 @@ impl<'a> Descends<'a> for Spot<'a> {
         spots::add_selected_at_or_below(alloc, self.value, self.lent_path(), plain, out)
     }
 
+    // Adds, as spots, what is no array and is reached from the value through arrays alone.
     #[inline]
     fn add_flattened(&self, alloc: Global, out: &mut Vec<Spot<'a>>) -> Result<(), NoMemory> {
         candidates::spots::add_flattened(alloc, self.value, self.lent_path(), out)
     }
 
+    // Adds, as spots, the candidates of a filter behind `..` from the value, each once.
     #[inline]
     fn add_candidates_below(&self, alloc: Global, out: &mut Vec<Spot<'a>>) -> Result<(), NoMemory> {
         candidates::spots::add_candidates_below(alloc, self.value, self.lent_path(), out)

@@ -65,7 +65,7 @@ abbrev pub if_word : Bool → List Want → Reaction
 if_word true ws = takes ws
 if_word false ws = refuses
 
--- an if_level condition, if a level is left
+-- what is wanted one level deeper, if a level is left
 abbrev pub if_level : ℕ → (ℕ → List Want) → Reaction
 if_level zero f = refuses
 if_level (suc n) f = takes (f n)

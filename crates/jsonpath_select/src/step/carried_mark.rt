@@ -64,6 +64,7 @@ impl<'a> Carried<'a> for &'a Value {
         Ok(*self)
     }
 
+    // The candidates from one mark or none; from more, references can't tell which places are the same.
     fn flattened_once(alloc: Global, marks: &[&'a Value]) -> Result<Vec<&'a Value>, Halt> {
         match marks {
             [] => Ok(Vec::new(alloc)),
@@ -75,6 +76,7 @@ impl<'a> Carried<'a> for &'a Value {
         }
     }
 
+    // The candidates behind `..` from one mark or none; from more, references can't tell which places are the same.
     fn candidates_below_once(alloc: Global, marks: &[&'a Value]) -> Result<Vec<&'a Value>, Halt> {
         match marks {
             [] => Ok(Vec::new(alloc)),
@@ -86,6 +88,7 @@ impl<'a> Carried<'a> for &'a Value {
         }
     }
 
+    // Always `NeedsLocations`: references can't tell which comes first.
     fn marks_in_document_order(
         _alloc: Global,
         _marks: &[&'a Value],
@@ -93,6 +96,7 @@ impl<'a> Carried<'a> for &'a Value {
         Err(Halt::NeedsLocations)
     }
 
+    // Always `NeedsLocations`: references can't tell which stands below which.
     fn topmost_marks(_alloc: Global, _marks: &[&'a Value]) -> Result<Vec<&'a Value>, Halt> {
         Err(Halt::NeedsLocations)
     }
@@ -110,21 +114,25 @@ impl<'a> Carried<'a> for Spot<'a> {
         Ok(copy)
     }
 
+    // The candidates of a filter whose own `@` has a step, found from the spots, each place once.
     fn flattened_once(alloc: Global, marks: &[Spot<'a>]) -> Result<Vec<Spot<'a>>, Halt> {
         let found = ValueWalker::walk_dedup_all(alloc, marks)?;
         Ok(found)
     }
 
+    // The candidates of a filter behind `..` whose own `@` has a step, found from the spots, each place once.
     fn candidates_below_once(alloc: Global, marks: &[Spot<'a>]) -> Result<Vec<Spot<'a>>, Halt> {
         let found = ValueWalker::candidates_below(alloc, marks)?;
         Ok(found)
     }
 
+    // The spots in document order, each location once.
     fn marks_in_document_order(alloc: Global, marks: &[Spot<'a>]) -> Result<Vec<Spot<'a>>, Halt> {
         let found = in_document_order(alloc, marks)?;
         Ok(found)
     }
 
+    // The spots without those at or below the one kept before them; in document order these are the topmost.
     fn topmost_marks(alloc: Global, marks: &[Spot<'a>]) -> Result<Vec<Spot<'a>>, Halt> {
         let found = topmost_spots(alloc, marks)?;
         Ok(found)
