@@ -34,12 +34,10 @@ module _ (text : List ℕ) where
   word_well (g.dot_all h) = search rules
 
   plain_well : {token : ParseToken} {from to : Lexemes} → g.PlainAt text token from to → IsBracketWord token
-  plain_well (g.in_all a h) = tt
   plain_well (g.in_index {n = n} a i) = (n, index_fits (bytes_at text i.0) n i.2, refl)
   plain_well (g.in_union a b c i h j more) = omega arith
-  plain_well (g.in_range a b c low h high by) = tt
-  plain_well (g.in_name a q) = tt
   plain_well (g.in_names a b c q h r more) = omega arith
+  plain_well _ = tt
 
   literal_well : {token : ParseToken} {from to : Lexemes} → g.LiteralAt text token from to → IsTrue (is_literal token)
   literal_well (g.quoted q) = search rules
