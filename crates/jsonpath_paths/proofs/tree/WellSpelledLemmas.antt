@@ -41,8 +41,7 @@ module _ (text : List ℕ) where
 
   literal_well : {token : ParseToken} {from to : Lexemes} → g.LiteralAt text token from to → IsTrue (is_literal token)
   literal_well (g.quoted q) = search rules
-  literal_well (g.number h) = search rules
-  literal_well (g.truth s h _) = search rules
+  literal_well _ = search rules
 
   mutual
     pub steps_well : {n : ℕ} {ss : PathSteps} {from to : Lexemes} → g.StepsAt text n ss from to → AreSteps ss
