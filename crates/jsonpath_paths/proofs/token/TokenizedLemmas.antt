@@ -17,9 +17,8 @@ use Rattle.jsonpath_paths.specs.declared.text.str_reader.StrRange.{StrRange}
 use Rattle.jsonpath_paths.specs.declared.token.tokens.Kind.{Kind}
 use Rattle.jsonpath_paths.specs.declared.token.tokens.Kind.TheVariants as k
 use Rattle.jsonpath_paths.specs.declared.token.tokens.Token.{Token}
-use Rattle.jsonpath_paths.specs.declared.token.tokens.Token.TheVariants as t
 use Rattle.jsonpath_paths.specs.declared.token.tokens.TokenError.{TokenError}
-use Rattle.jsonpath_paths.proofs.token.FoundLemmas.{first_is, first_alone}
+use Rattle.jsonpath_paths.proofs.token.FoundLemmas.{first_is}
 use Rattle.jsonpath_paths.proofs.token.LongestLemmas.{first_has_none}
 use Rattle.jsonpath_paths.proofs.token.ReadingLemmas.{more_at, end_at}
 
@@ -112,16 +111,3 @@ none_taken p q r h = subst (NoneLeft p) h (by_first (first (ahead p)) refl)
 
 pub token_within : (text : List ℕ) (kind : Kind) (s : StrRange) (t : Token) → t ≡ token kind s → IsSpan text s → IsSpan text (span_of t)
 token_within text kind s t e h = subst (IsSpan text) (sym (ap span_of e ∙ (token_back kind s).1)) h
-
--- a token is the one of its kind at its span
-token_is : (x : Token) → token (kind_of x) (span_of x) ≡ x
-token_is (t.Absolute s) = refl
-token_is _ = refl
-
--- one token is taken from a place, with one place behind it
-pub one_taken : (p q r : Place) (x y : Token) → TakesToken p x q → TakesToken p y r → (x ≡ y) × (q ≡ r)
-one_taken p q r x y a b =
-    let same = first_alone (ahead p) (kind_of x) (kind_of y) a.count b.count a.longest b.longest in
-    let place : q ≡ r = a.behind ∙ (ap (λ n. past p (take n (ahead p))) same.1 ∙ sym b.behind) in
-    let span : span_of x ≡ span_of y = a.spanned ∙ (ap (span_to p) place ∙ sym b.spanned) in
-    (sym (token_is x) ∙ (ap (λ kind. token kind (span_of x)) same.0 ∙ (ap (token (kind_of y)) span ∙ token_is y)), place)
