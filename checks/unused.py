@@ -106,7 +106,7 @@ class Module:
     def is_asked(self):
         """Whether the prover asks for it: it answers goals, or its rows are computed."""
         base = os.path.basename(self.path)[:-5]
-        return any(a.endswith(("Goals", "Given")) for a in self.aliases.values()) or base.endswith(("Rows", "Vectors", "Proof", "Answers", "Invariants"))
+        return any(a.endswith(("Goals", "Given")) for a in self.aliases.values()) or base.endswith(("Rows", "Proof", "Answers", "Invariants"))
 
 
 def modules(crates):
@@ -157,7 +157,7 @@ def unused_definitions(crates, known):
         for where, name in module.named(module.asked):
             ask(where, name)
         if module.is_asked():
-            answers = module.bodies if module.path.endswith(("Rows.antt", "Vectors.antt")) else module.public
+            answers = module.bodies if module.path.endswith("Rows.antt") else module.public
             for name in answers:
                 ask(module.name, name)
     while left:

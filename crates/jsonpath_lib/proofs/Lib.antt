@@ -1,4 +1,3 @@
-mod Rows
 pub mod FoundLemmas
 pub mod StreamLemmas
 pub mod PathTextLemmas

@@ -1,4 +1,3 @@
 -- What updates leave.
 pub mod Masked
-pub mod FixedChanges
 pub mod UpdateLaws

@@ -2,8 +2,7 @@
 use Rattle.std.proofs.Common.{◌++◌, refl, codes, arith}
 use Rattle.jsonpath_paths.specs.RefusedAt.{RefusedAt}
 use Rattle.jsonpath_paths.specs.declared.token.tokens.TokenError.TheVariants.{Eof, Position}
-use Rattle.jsonpath_paths.proofs.WrittenLemmas.{computation}
-use Rattle.jsonpath_paths.proofs.RefusedWrittenLemmas.{token_row, character_row, end_row, none_then, no_number}
+use Rattle.jsonpath_paths.proofs.RefusedWrittenLemmas.{computation, token_row, character_row, end_row, none_then, no_number}
 
 row1 : RefusedAt (codes "$['a") Eof
 unfolding computation

@@ -9,8 +9,10 @@ use Rattle.jsonpath_paths.specs.RefusedAt.{end_of, BeginsPath, place_in, Refused
 use Rattle.jsonpath_paths.specs.WholeText.{tree_of_text}
 use Rattle.std.specs.Prelude.{option_map, false}
 use Rattle.std.specs.Str.Parse.{digits_value}
-use Rattle.jsonpath_paths.specs.Numbers.{decimal_of, decimal_from, fraction_of, is_whole, is_negative, without_minus}
-use Rattle.jsonpath_paths.specs.plan.ParsedParts.{Read, ◌>>=◌, choose, eat, rest_of_number, path_at, take_token}
+use Rattle.jsonpath_paths.specs.Numbers.{index_of, range_step_of, decimal_of, decimal_from, fraction_of, is_whole, is_negative, without_minus}
+use Rattle.jsonpath_paths.specs.Literals.{truth_of}
+use Rattle.jsonpath_paths.specs.Spelling.{IsInGrammar}
+use Rattle.jsonpath_paths.specs.plan.ParsedParts.{Read, ◌>>=◌, choose, eat, rest_of_number, take_token, path_at, plain_at, literal_at, inner_at, array_at, step_at, steps_at, term_at, part_at, condition_by, skip}
 use Rattle.jsonpath_paths.specs.text.Characters.{bytes_at, is_quote}
 use Rattle.jsonpath_paths.specs.declared.text.str_reader.StrRange.{StrRange}
 use Rattle.jsonpath_paths.specs.declared.decimal.Decimal.{Decimal}
@@ -21,10 +23,22 @@ use Rattle.jsonpath_paths.specs.tree.Tree.{Path}
 use Rattle.jsonpath_paths.specs.declared.token.tokens.Lexeme.{Lexeme}
 use Rattle.jsonpath_paths.specs.declared.token.tokens.TokenError.{TokenError}
 use Rattle.jsonpath_paths.specs.declared.token.tokens.TokenError.TheVariants.{Eof}
-use Rattle.jsonpath_paths.proofs.WrittenLemmas.{is_no_path}
 use Rattle.jsonpath_paths.proofs.parser.DerivationLemmas.{complete_path}
-use Rattle.jsonpath_paths.proofs.parser.WholeTextLemmas.{spelled_found}
+use Rattle.jsonpath_paths.proofs.parser.WholeTextLemmas.{spelled_found, spelled_only}
 use Rattle.jsonpath_paths.proofs.token.TokenizedLemmas.{reads, found_spelled}
+
+-- what rows are computed with
+unfoldable pub computation : Unit {0}
+unfolding path_at plain_at literal_at inner_at array_at step_at steps_at term_at part_at condition_by skip index_of range_step_of decimal_of fraction_of truth_of chars
+computation = tt
+
+-- the text is no path
+is_no_path : (text : List ℕ) → is_none (tree_of_text text) ≡ true → ¬ IsInGrammar text
+is_no_path text h spelled = by_tree (tree_of_text text) h (spelled_only text spelled.0 spelled.1)
+  where
+    by_tree : (o : Option Path) → is_none o ≡ true → o ≡ Some spelled.0 → ⊥
+    by_tree None h e = cc
+    by_tree (Some p) h e = cc
 
 abbrev pub tokens : List ℕ → Lexemes
 tokens text = (reading_from 0 0 (chars text)).lexemes

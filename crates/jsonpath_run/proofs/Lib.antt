@@ -1,4 +1,3 @@
 pub mod OneOutputLemmas
 pub mod RefusalLemmas
 pub mod UnreadLemmas
-mod OutputRows

@@ -1,3 +1,1 @@
-mod SelectedRows
-mod TextRows
 mod LawRows

@@ -3,7 +3,6 @@ pub mod answer
 pub mod selectors
 pub mod Parts
 pub mod Meaning
-pub mod FixedTexts
 pub mod ErrorCases
 pub mod JsonPathErrors
 pub mod SelectionLaws

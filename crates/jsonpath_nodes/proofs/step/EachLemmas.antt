@@ -45,9 +45,5 @@ item_there (item d ds) zero below = refl
 item_there (item d ds) (suc i) below = item_there ds i (omega arith)
 
 pub present-within : (d : Data) (i : ℕ) → i < length_of d → present d (index i) ≡ index i ∷ []
-present-within null i below = absurd (omega arith)
-present-within (boolean b) i below = absurd (omega arith)
-present-within (number n) i below = absurd (omega arith)
-present-within (string s) i below = absurd (omega arith)
 present-within (array ds) i below = ap (λ b. cond b (index i ∷ []) []) (item_there ds i below)
-present-within (object ms) i below = absurd (omega arith)
+present-within _ i below = absurd (omega arith)

@@ -135,12 +135,9 @@ same_piece a ls ms d root deep = by (has_root ls) (has_root ms) root deep
 
 mutual
   pub topmost_same : (a : Option Data) (ls ms : List Location) (d : Data) → SameCover ls ms → with_answer_at_topmost a ls d ≡ with_answer_at_topmost a ms d
-  topmost_same a ls ms null h = refl
-  topmost_same a ls ms (boolean b) h = refl
-  topmost_same a ls ms (number n) h = refl
-  topmost_same a ls ms (string s) h = refl
   topmost_same a ls ms (array ds) h = ap array (items_same a ls ms 0 ds h)
   topmost_same a ls ms (object es) h = ap object (members_same a ls ms es h)
+  topmost_same a ls ms _ h = refl
 
   items_same : (a : Option Data) (ls ms : List Location) (n : ℕ) (ds : Items) → SameCover ls ms → items_with_answer a ls n ds ≡ items_with_answer a ms n ds
   items_same a ls ms n no_items h = refl

@@ -72,13 +72,12 @@ pub snoc_same : {X : Type 0} (l m : List X) (s t : X) → l ++ s ∷ [] ≡ m ++
 snoc_same [] [] s t e = (refl, cc)
 snoc_same [] (x ∷ []) s t e = cc
 snoc_same [] (x ∷ y ∷ m) s t e = cc
-snoc_same (x ∷ []) [] s t e = cc
-snoc_same (x ∷ y ∷ l) [] s t e = cc
 snoc_same (x ∷ l) (y ∷ m) s t e =
     let head : x ≡ y = cc in
     let rest : l ++ s ∷ [] ≡ m ++ t ∷ [] = cc in
     let later = snoc_same l m s t rest in
     (ap₂ (λ a b. a ∷ b) head later.0, later.1)
+snoc_same _ [] s t e = cc
 
 abbrev extended : Location → List Step → List Location
 extended l ss = map (λ m. l ++ m) (map (λ s. s ∷ []) ss)
@@ -206,10 +205,9 @@ once_selected : (p : Plain) (d : Data) → IsSingle p → IsDocument d → IsOnc
 once_selected every d s h = once_children d h
 once_selected (named k) d s h = once_present d (name k)
 once_selected (listed []) d s h = tt
-once_selected (listed (k ∷ ks)) d s h = absurd s
 once_selected (nth n) d s h = once_present d (index (abs_index n (length_of d)))
-once_selected (union ns) d s h = absurd s
 once_selected (range from to by) d s h = once_map index _ (λ a b e. cc) (once_filter _ (count_up 0 (length_of d)) (once_count_up 0 (length_of d)))
+once_selected _ d s h = absurd s
 
 single_index : (i : Option ℤ) → IsSingle (at_index i)
 single_index (Some n) = tt

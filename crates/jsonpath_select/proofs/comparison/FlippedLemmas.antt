@@ -67,8 +67,7 @@ pair_flipped op.Little x y = pair_turned less x y
 pair_flipped op.LittleOrEqual x y = pair_turned less_or_equal x y
 pair_flipped op.Greater x y = pair_turned greater x y
 pair_flipped op.GreaterOrEqual x y = pair_turned greater_or_equal x y
-pair_flipped op.And x y = refl
-pair_flipped op.Or x y = refl
+pair_flipped _ x y = refl
 
 -- ---- two lists
 

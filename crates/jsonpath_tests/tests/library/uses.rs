@@ -58,6 +58,8 @@ fn values_are_masked(rt: HostRuntime) {
     let masked = document(&rt, "{\"a\":{\"b\":null},\"c\":[null,2]}");
     let again = mask(rt.alloc(), masked, &["$.a.b", "$", "$.a", "$.c[0]"]);
     becomes(&rt, again, "{\"a\":null,\"c\":[null,2]}");
+    let kept = mask(rt.alloc(), document(&rt, "{\"a\":1}"), &[]);
+    becomes(&rt, kept, "{\"a\":1}");
 }
 
 #[test]

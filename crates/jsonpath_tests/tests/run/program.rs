@@ -28,6 +28,37 @@ fn answers(rt: HostRuntime) -> Result<(), Fail> {
     Ok(())
 }
 
+#[test]
+fn answers_each_command(rt: HostRuntime) -> Result<(), Fail> {
+    let alloc = rt.alloc();
+    let rows: [(&[&str], &[u8], &[u8]); 4] = [
+        (
+            &["select", "$.foo.bar"],
+            b"{\"foo\":{\"bar\":\"baz\"}}\n",
+            b"[\"baz\"]\n",
+        ),
+        (
+            &["delete", "$.a"],
+            b"{ \"a\": \"x\", \"b\": [true] }",
+            b"{\"a\":null,\"b\":[true]}\n",
+        ),
+        (&["remove", "$[0,2]"], b"[true,null,false]", b"[null]\n"),
+        (
+            &["mask", "$.a.b", "$.c[0]"],
+            b"{\"a\":{\"b\":\"x\"},\"c\":[true,false]}",
+            b"{\"a\":{\"b\":null},\"c\":[null,false]}\n",
+        ),
+    ];
+    for (words, input, output) in rows {
+        let mut reader = Source::new(input, usize::MAX, 1);
+        let mut writer = make_sink(alloc, usize::MAX);
+        let result = run(alloc, words, &mut reader, &mut writer);
+        check!(rt; result.is_ok_and(|status| status == 0));
+        check!(rt; writer.bytes.as_slice() == output);
+    }
+    Ok(())
+}
+
 /// `count` arrays, each but the last with the next one in it.
 fn nested_arrays(alloc: Global, count: usize) -> Result<String, Fail> {
     let mut text = String::new(alloc);

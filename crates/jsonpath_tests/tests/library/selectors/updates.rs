@@ -196,6 +196,10 @@ fn replaces_one_after_another(rt: HostRuntime) {
             "{\"friends\":[{\"age\":30,\"name\":\"친구3\"},{\"name\":\"친구4\"}],\"school\":{\"friends\":[{\"age\":40,\"name\":\"친구1\"},{\"age\":40,\"name\":\"친구2\"}]}}",
         ),
         ("$[0,1]", "[1,2,3]", "[2,6]"),
+        ("$..a", "{\"a\":{\"a\":1},\"b\":2}", "{\"b\":2}"),
+        ("$[0,0]", "[1,2]", "[2]"),
+        ("$[*]", "[1,1,1,1]", "[1,1]"),
+        ("$..[0,1]", "[[1,2],3,1]", "[3]"),
         ("$", "{\"a\":1}", "{\"a\":1}"),
     ] {
         replaces(&rt, path, json, after);
@@ -321,30 +325,69 @@ fn paths_come_as_texts_or_compiled(rt: HostRuntime) {
     refuses(&rt, held.delete(alloc), NO_VALUE);
 }
 
-// An object that has the value alone.
-fn wrapped(alloc: Global, value: Value) -> Result<Value, AllocError> {
+// An object that has the value alone, by a name.
+fn wrapped(alloc: Global, name: &str, value: Value) -> Result<Value, AllocError> {
     let mut members = Map::new(alloc);
-    members.insert(String::from_str(alloc, "0")?, value)?;
+    members.insert(String::from_str(alloc, name)?, value)?;
     Ok(Value::Object(members))
 }
 
-#[test]
-fn closures_change_shapes(rt: HostRuntime) {
+// Wraps each of two values by a name.
+fn wraps(rt: &(impl Abort + AllocGlobal), path: &str, name: &str, json: &str, after: &str) {
     let alloc = rt.alloc();
     let mut calls = 0_u64;
     let mut held = SelectorMut::default();
-    works(&rt, held.str_path(alloc, "$..[0]"));
-    held.value(document(&rt, "[[1,2],[3]]"));
+    works(rt, held.str_path(alloc, path));
+    held.value(document(rt, json));
     let outcome = held.replace_with(
         alloc,
         &mut |old: Value| {
             calls = calls.wrapping_add(1);
-            wrapped(alloc, old).ok()
+            wrapped(alloc, name, old).ok()
         },
     );
-    works(&rt, outcome);
+    works(rt, outcome);
     check!(rt; calls == 2);
-    is_held(&rt, held.take(), "[{\"0\":[1,2]},[{\"0\":3}]]");
+    is_held(rt, held.take(), after);
+}
+
+#[test]
+fn closures_change_shapes(rt: HostRuntime) {
+    wraps(
+        &rt,
+        "$..[0]",
+        "0",
+        "[[1,2],[3]]",
+        "[{\"0\":[1,2]},[{\"0\":3}]]",
+    );
+    wraps(
+        &rt,
+        "$..a",
+        "a",
+        "{\"a\":{\"a\":1}}",
+        "{\"a\":{\"a\":{\"a\":{\"a\":1}}}}",
+    );
+}
+
+#[test]
+fn closures_give_null(rt: HostRuntime) {
+    for (path, json, after) in [
+        (
+            "$..[?(20 == @.age)]",
+            FRIENDS,
+            "{\"friends\":[{\"age\":30,\"name\":\"친구3\"},{\"name\":\"친구4\"}],\"school\":{\"friends\":[null,null]}}",
+        ),
+        (
+            "$..a",
+            "{\"a\":{\"a\":1},\"b\":{\"a\":2}}",
+            "{\"a\":null,\"b\":{\"a\":null}}",
+        ),
+        ("$", "{\"a\":1}", "{\"a\":1}"),
+    ] {
+        let mut held = holder(&rt, path, json);
+        works(&rt, held.replace_with(rt.alloc(), &mut to_null));
+        is_held(&rt, held.take(), after);
+    }
 }
 
 // A value in so many arrays.

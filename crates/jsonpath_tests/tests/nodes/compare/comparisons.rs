@@ -45,6 +45,53 @@ fn six_comparisons(rt: HostRuntime) {
     check!(rt; answers(&CmpLe, false, true, 1, 2, "ab", "b") == [true, true, true, false]);
 }
 
+// Pairs of values, and what `==`, `!=`, `>`, `>=`, `<` and `<=` say of them.
+const PAIRS: [(&str, &str, [bool; 6]); 19] = [
+    ("true", "true", SAME),
+    ("1", "1", SAME),
+    ("\"a\"", "\"a\"", SAME),
+    ("true", "false", GREATER),
+    ("2", "1", GREATER),
+    ("\"b\"", "\"a\"", GREATER),
+    ("\"abd\"", "\"abc\"", GREATER),
+    ("false", "true", LESS),
+    ("1", "2", LESS),
+    ("-1", "0", LESS),
+    ("\"1\"", "\"2\"", LESS),
+    ("\"ab\"", "\"b\"", LESS),
+    ("18446744073709551614", "18446744073709551615", LESS),
+    ("null", "null", [true, false, false, false, false, false]),
+    ("0.5", "0.5", OTHER),
+    ("[]", "[]", OTHER),
+    ("{}", "{}", OTHER),
+    ("1", "\"1\"", OTHER),
+    ("null", "false", OTHER),
+];
+
+const SAME: [bool; 6] = [true, false, false, true, false, true];
+
+const GREATER: [bool; 6] = [false, true, true, true, false, false];
+
+const LESS: [bool; 6] = [false, true, false, false, true, true];
+
+const OTHER: [bool; 6] = [false, true, false, false, false, false];
+
+#[test]
+fn comparisons_of_pairs(rt: HostRuntime) {
+    for (left, right, want) in PAIRS {
+        let (left, right) = (document(&rt, left), document(&rt, right));
+        let found = [
+            holds(FilterToken::Equal, &left, &right),
+            holds(FilterToken::NotEqual, &left, &right),
+            holds(FilterToken::Greater, &left, &right),
+            holds(FilterToken::GreaterOrEqual, &left, &right),
+            holds(FilterToken::Little, &left, &right),
+            holds(FilterToken::LittleOrEqual, &left, &right),
+        ];
+        check!(rt; found == want);
+    }
+}
+
 #[test]
 fn comparison_of_values(rt: HostRuntime) {
     let doc = document(

@@ -86,6 +86,18 @@ fn ordered_locations(rt: HostRuntime) {
 }
 
 #[test]
+fn names_are_before_indexes(rt: HostRuntime) {
+    let mut paths = Vec::new(rt.alloc());
+    for steps in ["2", "b", "a/0", "10", "a"] {
+        paths.push(at(&rt, steps)).expect(&rt, "memory");
+    }
+    paths.sort().expect(&rt, "memory");
+    for (path, want) in paths.iter().zip(["a", "a/0", "b", "2", "10"]) {
+        check!(rt; *path == at(&rt, want));
+    }
+}
+
+#[test]
 fn steps_come_from_the_root_down(rt: HostRuntime) {
     let alloc = rt.alloc();
     let text = "[{\"a\":{\"b\":[0,[1]]}}]";

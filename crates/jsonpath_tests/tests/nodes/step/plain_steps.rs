@@ -31,6 +31,8 @@ fn steps_into_a_list(rt: HostRuntime) {
     let list = ValueWalker::next_with_str(alloc, &root, "b").expect(&rt, "the list");
     let list = list.as_slice();
     shows(&rt, ValueWalker::next_with_num(alloc, list, -1), "3");
+    shows(&rt, ValueWalker::next_with_num(alloc, &root, 0), "");
+    shows(&rt, ValueWalker::next_with_str(alloc, list, "0"), "");
     shows(
         &rt,
         ValueWalker::next_with_nums(alloc, list, &[5, -1, 0]),
@@ -92,4 +94,15 @@ fn candidates(rt: HostRuntime) {
     let twice = ValueWalker::next_with_nums(alloc, &root, &[1, 1, 0]).expect(&rt, "spots");
     let kept = ValueWalker::walk_dedup_all(alloc, twice.as_slice());
     shows(&rt, kept, "{\"a\":[3]} 1 2");
+}
+
+#[test]
+fn candidates_are_distinct(rt: HostRuntime) {
+    let alloc = rt.alloc();
+    let doc = document(&rt, "{\"x\":[{\"a\":1}]}");
+    let root = [Spot::root(alloc, &doc)];
+    let itself = ValueWalker::walk_dedup_all(alloc, &root);
+    shows(&rt, itself, "{\"x\":[{\"a\":1}]}");
+    let below = ValueWalker::candidates_below(alloc, &root);
+    shows(&rt, below, "{\"a\":1} 1");
 }

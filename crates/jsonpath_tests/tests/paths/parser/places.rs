@@ -10,7 +10,7 @@ fn refusal(alloc: Global, text: &str) -> Option<TokenError> {
 }
 
 // Texts that are paths.
-const PATHS: [&str; 33] = [
+const PATHS: [&str; 34] = [
     "$.a\"",
     "$",
     "$ ",
@@ -44,6 +44,7 @@ const PATHS: [&str; 33] = [
     "$[?(@[0] == 1)]",
     "$[?(@)]",
     "$[?((@.a && @.b) || @.c)]",
+    "$[-12:13 ]..[::2] ",
 ];
 
 // Asserts of each text that it is refused so, or that it is a path.
@@ -91,7 +92,7 @@ fn refused_at_the_end(rt: HostRuntime) {
 }
 
 // Texts that are refused behind a token, and the place.
-const BEHIND: [(&str, usize); 32] = [
+const BEHIND: [(&str, usize); 33] = [
     ("@.", 1),
     ("$[a]", 3),
     ("$ .a", 3),
@@ -124,6 +125,7 @@ const BEHIND: [(&str, usize); 32] = [
     ("$[?(@ < 0.1111111111111111111)]", 29),
     ("$..[?(a <= @.a)]", 7),
     ("$[0, >=]", 7),
+    ("$[-12:13 ]..[::2] .a", 19),
 ];
 
 // Asserts of each text that it is refused at its place.

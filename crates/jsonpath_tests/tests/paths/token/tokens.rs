@@ -239,6 +239,15 @@ fn guarded_single_quote(rt: HostRuntime) {
 }
 
 #[test]
+fn quote_that_does_not_end(rt: HostRuntime) {
+    reads(
+        &rt,
+        "$['a\\']",
+        &[Token::Absolute(at(0, 1)), Token::OpenArray(at(1, 1))],
+    );
+}
+
+#[test]
 fn wide_step(rt: HostRuntime) {
     reads(
         &rt,

@@ -52,6 +52,17 @@ fn selector_answers_by_what_it_holds(rt: HostRuntime) {
 }
 
 #[test]
+fn unread_numbers_are_selected(rt: HostRuntime) {
+    let alloc = rt.alloc();
+    let numbers = document(&rt, "[{\"a\":1},{\"b\":2},{\"a\":\"x\"},{\"a\":1.5}]");
+    let path = path(&rt, "$[?(@.a != 1)].a");
+    let found = path.select(alloc, &numbers).expect(&rt, "an answer");
+    assert_eq!(rt; found.len(), 2);
+    check!(rt; found[0].as_str() == Some("x"));
+    check!(rt; found[1].is_f64());
+}
+
+#[test]
 fn selector_answers_by_a_shared_path(rt: HostRuntime) {
     let alloc = rt.alloc();
     let first = document(&rt, DOCUMENT);
