@@ -68,7 +68,8 @@ pub replicate_last : (d : Data) (zs : List Data) (b : Data) (n : ℕ) → zs ++ 
 unfolding head_or tail_of
 replicate_last d [] b zero e = (refl, ap (head_or d) e)
 replicate_last d [] b (suc n) e = absurd (cc)
+replicate_last d (x ∷ []) b zero e = absurd (cc)
+replicate_last d (x ∷ y ∷ zs) b zero e = absurd (cc)
 replicate_last d (x ∷ zs) b (suc n) e =
     let later = replicate_last d zs b n (ap tail_of e) in
     (ap₂ (λ (z : Data) (ws : List Data). z ∷ ws) (ap (head_or d) e) later.0, later.1)
-replicate_last d _ b zero e = absurd (cc)

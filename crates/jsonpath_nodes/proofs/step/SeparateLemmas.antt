@@ -315,7 +315,6 @@ from_front (array ds) n = by (leb_tells n (items_len ds))
   where
     there : Option Data → ℕ → List Step
     there o i = cond (is_some o) (index i ∷ []) []
-from_front _ n = refl
 
     by : ((leb n (items_len ds) ≡ true) × (n ≤ items_len ds)) ⊎ ((leb n (items_len ds) ≡ false) × (items_len ds < n)) → nth_of (array ds) (pos n) ≡ present (array ds) (index n)
     by (inl h) = let is : min n (items_len ds) ≡ n = omega (arith, h.1) in ap (λ (i : ℕ). present (array ds) (index i)) is
@@ -324,6 +323,7 @@ from_front _ n = refl
         let end : get_item (items_len ds) ds ≡ None = past_end (items_len ds) ds (omega arith) in
         let past : get_item n ds ≡ None = past_end n ds (omega (arith, h.1)) in
         ap (λ (i : ℕ). present (array ds) (index i)) is ∙ ap (λ (o : Option Data). there o (items_len ds)) end ∙ sym (ap (λ (o : Option Data). there o n) past)
+from_front _ n = refl
 
 -- an index that counts from the front
 abbrev front : ℤ → ℕ
@@ -585,11 +585,7 @@ no_array (Some (object ms)) = true
 
 no_item : (d : Data) (i : ℕ) (m : Location) → no_array (Some d) ≡ true → no_array (at d (index i ∷ m)) ≡ true → ⊥
 no_item null i m h k = cc
-no_item (boolean b) i m h k = cc
-no_item (number n) i m h k = cc
-no_item (string s) i m h k = cc
-no_item (array ds) i m h k = cc
-no_item (object ms) i m h k = cc
+no_item _ i m h k = cc
 
 pub same_steps_on : (s t : Step) (l m : Location) → same_step s t ≡ true → same_location l m ≡ true → same_location (s ∷ l) (t ∷ m) ≡ true
 same_steps_on s t l m h k = ap₂ (λ (x y : Bool). x && y) h k

@@ -8,7 +8,7 @@ use Rattle.std.specs.List.{list_any}
 use Rattle.std.specs.BTreeSet.{insert_key}
 use Rattle.std.specs.Cmp.{eq_by_cmp_equiv, nat_cmp_is}
 use Rattle.std.specs.Ordering.{match_ordering, ordering_then}
-use Rattle.serde_json.specs.Data.{Data, null, boolean, number, string, array, object, Items, no_items, item, Members, no_members, member}
+use Rattle.serde_json.specs.Data.{Data, array, object, Items, no_items, item, Members, no_members, member}
 use Rattle.jsonpath_nodes.specs.place.Location.{Step, name, index, Location, step_cmp, location_cmp}
 use Rattle.jsonpath_nodes.specs.place.Order.{location_total, once_in_order, step_total}
 use Rattle.jsonpath_nodes.specs.update.Update.{item_if, member_if}
