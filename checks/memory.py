@@ -89,6 +89,7 @@ def crates_of_tests(room, bodies):
     if others:
         subprocess.run([sys.executable, "checks/tests.py", room, *others], check=True)
     for module in (it for it in modules if it in CRATES):
+        write(f"{room}/crates.txt", f"{above.text_of(f'{room}/crates.txt')}{EDITS}: {BELOW_EDITS}\n")
         write(f"{room}/crates/{EDITS}/src/lib.rt", f"//! Tests.\n#![tactic(auto)]\n\n#[cfg(test)]\nmod {module};\n")
         write(f"{room}/crates/{EDITS}/src/{module}.rt", above.text_of(f"checks/memory/{module}.rs"))
     for body, test in named:
@@ -113,7 +114,7 @@ def outcomes(bodies):
             body.apply(room)
         edited = "|".join({it.crate for it in bodies})
         listed = re.sub(rf"^({edited}):(.*)$", r"\1:\2 awake", above.text_of("crates.txt"), flags=re.MULTILINE)
-        write(f"{room}/crates.txt", f"{listed}awake:\n{EDITS}: {BELOW_EDITS}\n")
+        write(f"{room}/crates.txt", listed + "awake:\n")
         write(f"{room}/crates/awake/src/lib.rt", LIBRARY)
         write(f"{room}/crates/awake/c/awake.c", AWAKE)
         said = ""
