@@ -1,9 +1,12 @@
-"""A body that answers out of memory at once meets the contract of each call that can answer it, so tests have to catch it.
+"""A body that answers out of memory at once meets the contract of each call that can answer it, so tests have to catch it;
+so does one that answers at once that a file can't be edited.
 
 Each file of checks/memory names such a body, the line of a source before which it is put, and the tests that must fail
 with it under 'fails:', and others that must pass under 'passes:'. All of them are put into one copy, where each is
 asleep but in copies of the tests that its file names: a few lines of C read off the name of the test that runs which body
-is awake. With none awake each of these tests passes. Prints 'N passed, M failed' last.
+is awake. With none awake each of these tests passes. The tests are those of the crate of tests, and for files edited in
+place checks/memory/in_place.rs, in a crate of its own. Words pick the files whose paths have them. Prints 'N passed, M
+failed' last.
 """
 import glob
 import os
@@ -41,6 +44,11 @@ pub fn is_awake(number: u32) -> bool {
 }
 """
 
+# The crate of tests that has a module, where it isn't `jsonpath_tests`, and what that crate stands on.
+EDITS = "edit_tests"
+CRATES = {"in_place": EDITS}
+BELOW_EDITS = "jpath_files"
+
 
 class Body:
     """A body as its file says it, and its number."""
@@ -69,19 +77,30 @@ def write(path, text):
         it.write(text)
 
 
-def crate_of_tests(room, bodies):
-    """Puts the tests that are named into the crate of tests, each once more for each body that names it."""
+def crate_of(module):
+    return CRATES.get(module, "jsonpath_tests")
+
+
+def crates_of_tests(room, bodies):
+    """Puts the tests that are named into their crates, each once more for each body that names it. Returns the crates."""
     named = [(body, test) for body in bodies for test in body.fails + body.passes]
     modules = sorted({test.rpartition("::")[0] for _, test in named})
-    subprocess.run([sys.executable, "checks/tests.py", room, *modules], check=True)
+    others = [it for it in modules if it not in CRATES]
+    if others:
+        subprocess.run([sys.executable, "checks/tests.py", room, *others], check=True)
+    for module in (it for it in modules if it in CRATES):
+        write(f"{room}/crates.txt", f"{above.text_of(f'{room}/crates.txt')}{EDITS}: {BELOW_EDITS}\n")
+        write(f"{room}/crates/{EDITS}/src/lib.rt", f"//! Tests.\n#![tactic(auto)]\n\n#[cfg(test)]\nmod {module};\n")
+        write(f"{room}/crates/{EDITS}/src/{module}.rt", above.text_of(f"checks/memory/{module}.rs"))
     for body, test in named:
         module, _, name = test.rpartition("::")
-        path = f"{room}/crates/jsonpath_tests/src/{module.replace('::', '/')}.rt"
+        path = f"{room}/crates/{crate_of(module)}/src/{module.replace('::', '/')}.rt"
         text = above.text_of(path)
         found = re.search(rf"^#\[test\]\nfn {name}(\(.*?^}}\n)", text, re.MULTILINE | re.DOTALL)
         if not found:
             raise ValueError(f"memory: {body.name}: there is no test {test}")
         write(path, f"{text}\n#[test]\nfn {body.test(test).rpartition('::')[2]}{found[1]}")
+    return sorted({crate_of(it) for it in modules})
 
 
 def outcomes(bodies):
@@ -98,20 +117,22 @@ def outcomes(bodies):
         write(f"{room}/crates.txt", listed + "awake:\n")
         write(f"{room}/crates/awake/src/lib.rt", LIBRARY)
         write(f"{room}/crates/awake/c/awake.c", AWAKE)
-        crate_of_tests(room, bodies)
-        ran = subprocess.run(
-            ["rt", "try", "--test", "--seconds", "600"],
-            cwd=f"{room}/crates/jsonpath_tests",
-            env={**os.environ, "RT_ALLOW_C": "awake"},
-            stdin=subprocess.DEVNULL,
-            capture_output=True,
-            text=True,
-        )
-    return dict(re.findall(r"^test ([\w:]+) \.\.\. (\w+)", ran.stdout, re.MULTILINE)), ran.stdout + ran.stderr
+        said = ""
+        for crate in crates_of_tests(room, bodies):
+            ran = subprocess.run(
+                ["rt", "try", "--test", "--seconds", "600"],
+                cwd=f"{room}/crates/{crate}",
+                env={**os.environ, "RT_ALLOW_C": "awake"},
+                stdin=subprocess.DEVNULL,
+                capture_output=True,
+                text=True,
+            )
+            said += ran.stdout + ran.stderr
+    return dict(re.findall(r"^test ([\w:]+) \.\.\. (\w+)", said, re.MULTILINE)), said
 
 
 def main():
-    files = sorted(glob.glob("checks/memory/*.edit"))
+    files = [it for it in sorted(glob.glob("checks/memory/*.edit")) if all(word in it for word in sys.argv[1:])]
     bodies = [Body(it, number) for number, it in enumerate(files, 1)]
     ended, said = outcomes(bodies)
     passed = 0

@@ -1,3 +1,4 @@
+pub mod AtDepth
 pub mod Exact
 pub mod Lines
 pub mod NamesOnce

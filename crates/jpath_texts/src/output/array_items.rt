@@ -1,6 +1,12 @@
 //! The one array that `jpath -a` writes for a document: its items, in colours or over lines, and its end.
 
-use crate::output::colored_or_indented_value::{add_comma_and_indent, add_value_at_depth};
+ghost use Rattle.std.specs.Prelude.{◌≡◌, ◌++◌, OnOk};
+ghost use Rattle.json.specs.Value.{value_view};
+ghost use Rattle.jpath_texts.specs.AtDepth.{array_item, array_end, at_depth, comma_and_indent, inner, lines_from};
+
+use crate::output::colored_or_indented_value::{
+    add_closing, add_comma_and_indent, add_value_at_depth,
+};
 use crate::output::names_once::{may_repeat_names, with_names_once};
 use crate::output::value_text::Look;
 use json::Value as Exact;
@@ -15,7 +21,9 @@ pub fn add_array_item(
     has_comma: bool,
     value: &Exact<'_>,
     look: Look,
-) -> Result<(), AllocError> {
+) -> Result<(), AllocError>
+    ensures { OnOk result (out.new.items ≡ out.old.items ++ array_item has_comma look (value_view value.now)) }
+{
     if may_repeat_names(value) {
         let once = with_names_once(alloc, value)?;
         return add_array_item_with_names_kept(alloc, out, has_comma, &once, look);
@@ -31,7 +39,9 @@ fn add_array_item_with_names_kept(
     has_comma: bool,
     value: &Exact<'_>,
     look: Look,
-) -> Result<(), AllocError> {
+) -> Result<(), AllocError>
+    ensures { OnOk result (out.new.items ≡ out.old.items ++ (comma_and_indent has_comma (inner (lines_from look.is_pretty)) ++ at_depth (inner (lines_from look.is_pretty)) look.is_colored (value_view value.now))) }
+{
     let depth = if look.is_pretty { Some(1) } else { None };
     add_comma_and_indent(out, has_comma, depth)?;
     add_value_at_depth(alloc, out, value, depth, look.is_colored)
@@ -39,9 +49,13 @@ fn add_array_item_with_names_kept(
 
 /// Appends the closing bracket of a JSON array to `out`, on a line of its own if the array has items (`has_items`) and
 /// `look` puts them on lines.
-pub fn add_array_end(out: &mut Vec<u8>, has_items: bool, look: Look) -> Result<(), AllocError> {
-    if has_items {
-        add_comma_and_indent(out, false, if look.is_pretty { Some(0) } else { None })?;
-    }
-    out.extend_from_slice(b"]")
+pub fn add_array_end(out: &mut Vec<u8>, has_items: bool, look: Look) -> Result<(), AllocError>
+    ensures { OnOk result (out.new.items ≡ out.old.items ++ array_end has_items look) }
+{
+    add_closing(
+        out,
+        b']',
+        has_items,
+        if look.is_pretty { Some(0) } else { None },
+    )
 }
