@@ -19,5 +19,4 @@ pub use document_copy::copy_with_numbers;
 pub use number_key::NumberKey;
 pub use numbers_in_copy::Numbers;
 pub use query::{Compared, Query};
-pub use unread_numbers::has_unread_number;
 pub use written_number::has_minus;

@@ -2,9 +2,9 @@
 
 use json::Value as Exact;
 
-/// Whether the value contains, at any depth, a number that is not an integer of 64 bits, such as 1.5.
+// Whether the value contains, at any depth, a number that is not an integer of 64 bits, such as 1.5.
 #[cycle(unread)]
-pub fn has_unread_number(value: &Exact<'_>) -> bool {
+pub(crate) fn has_unread_number(value: &Exact<'_>) -> bool {
     match value {
         Exact::Null | Exact::Bool(_) | Exact::String(_) => false,
         Exact::Number(text) => is_unread(text),
