@@ -24,6 +24,5 @@ pub fn books_document(alloc: Global, count: u64) -> Result<Value> {
         text.push('}')?;
     }
     text.push_str("]}}")?;
-    let document = read_document(alloc, text.as_bytes())?;
-    Ok(document)
+    Ok(read_document(alloc, text.as_bytes())?)
 }

@@ -44,10 +44,7 @@ fn main(rt: HostRuntime) -> Result<ExitCode> {
 // nothing, where the count or the action is no such word.
 fn bench(rt: &HostRuntime, path: &str, file: &str, count: &str, action: &str) -> Result<bool> {
     let alloc = rt.alloc();
-    let Ok(count) = count.parse::<u64>() else {
-        return Ok(false);
-    };
-    let Some(action) = Action::of(action) else {
+    let (Ok(count), Some(action)) = (count.parse::<u64>(), Action::of(action)) else {
         return Ok(false);
     };
     if count == 0 {

@@ -15,6 +15,7 @@ pub mod WantsLemmas
 pub mod TidyLemmas
 pub mod EndedLemmas
 pub mod RefusedAtLemmas
+pub mod RefusedWithinLemmas
 pub mod StopLemmas
 pub mod DeeperStopLemmas
 pub mod LiteralStopLemmas

@@ -4,6 +4,7 @@ ghost use Rattle.std.specs.Prelude.{◌≡◌, ◌⊎◌, ℕ, suc, List, ◌∷
 ghost use Rattle.std.specs.Str.{IsUtf8};
 ghost use Rattle.jsonpath_paths.specs.tree.Joined.{filter_text, joined_text, JoinsSides};
 ghost use Rattle.jsonpath_paths.specs.token.Kinds.{IsFirst, HasNone, all_pass, begins_none, ends_word};
+ghost use Rattle.jsonpath_paths.specs.token.Refusals.{MatchPlace};
 ghost use Rattle.jsonpath_paths.specs.token.Tokens.{TakesToken};
 ghost use Rattle.jsonpath_paths.specs.text.TextPlace.{Place};
 ghost use Rattle.jsonpath_paths.specs.Spelling.{Spells, IsInGrammar};
@@ -12,10 +13,12 @@ ghost use Rattle.jsonpath_paths.specs.text.Characters.{goes_on};
 ghost use Rattle.jsonpath_paths.specs.tree.Tree.{Path, is_comparison};
 ghost use Rattle.jsonpath_paths.specs.tree.Visit.{path_tokens};
 ghost use Rattle.jsonpath_paths.specs.tree.WellFormed.{IsPath};
+ghost use Rattle.jsonpath_paths.specs.RefusedAt.{RefusedAt};
 ghost use Rattle.jsonpath_paths.specs.WholeText.{tree_of_text};
 ghost use Rattle.jsonpath_paths.specs.declared.token.tokens.FilterToken.{FilterToken};
 ghost use Rattle.jsonpath_paths.specs.declared.token.tokens.Kind.{Kind};
 ghost use Rattle.jsonpath_paths.specs.declared.token.tokens.Token.{Token};
+ghost use Rattle.jsonpath_paths.specs.declared.token.tokens.TokenError.{TokenError};
 
 /// Lemma: the first token of a text is its longest prefix that is a token of some kind, and it is of that kind
 /// alone; if there is none, no prefix is a token. A text has at most one first token, and so one position after it.
@@ -68,6 +71,15 @@ pub fn one_tree_per_token_list()
 pub fn spelled_tree()
     ensures found { (text : List ℕ) (p : Path) → tree_of_text text ≡ Some p → Spells text p }
     ensures only { (text : List ℕ) (p : Path) → Spells text p → tree_of_text text ≡ Some p }
+{}
+
+/// Lemma: a syntax error is at the text's end or at a position that is at most the text's length.
+///
+/// ```text
+/// laws::refused_within_text();
+/// ```
+pub fn refused_within_text()
+    ensures { (text : List ℕ) (error : TokenError) → IsUtf8 text → RefusedAt text error → MatchPlace error (length text) }
 {}
 
 /// Lemma: if `$[?(a)]` and `$[?(b)]` are paths, the tree of `$[?((a) && (b))]` joins their two conditions, unchanged

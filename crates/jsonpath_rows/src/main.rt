@@ -39,9 +39,7 @@ fn replay(rt: &HostRuntime, file: &str) -> Result<bool> {
         Method::SelectorSpots,
         Method::TokenList,
     ] {
-        if !replay_selecting(rt, file, rows.as_slice(), way)? {
-            holds = false;
-        }
+        holds = replay_selecting(rt, file, rows.as_slice(), way)? && holds;
     }
     Ok(holds)
 }

@@ -68,18 +68,14 @@ impl<'a> Line<'a> {
         let path = self.code(alloc, "Refused")?;
         let message = self.code(alloc, "Where")?;
         let words = words_of(alloc, "check", path)?;
-        let row = refused(alloc, words, String::new(alloc), message.as_str())?;
-        Ok(Some(row))
+        Ok(Some(refused(alloc, words, String::new(alloc), message.as_str())?))
     }
 
     // The words whose answer the line shows. Beside a refused path the cell of a path may be empty.
     fn words(self, alloc: Global) -> Result<Option<Vec<String>>> {
         match self.cell("Path") {
             Some("") if self.cell("Refused").is_some() => self.other_words(alloc),
-            Some(_) => {
-                let path = self.code(alloc, "Path")?;
-                Ok(Some(words_of(alloc, "select", path)?))
-            }
+            Some(_) => Ok(Some(words_of(alloc, "select", self.code(alloc, "Path")?)?)),
             None => self.other_words(alloc),
         }
     }

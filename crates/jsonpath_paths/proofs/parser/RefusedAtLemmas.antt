@@ -128,7 +128,7 @@ last_ends text vs us (p ∷ q ∷ ps) f h = by_fed (feed vs p.kind (bytes_at tex
     by_fed None e h more = cc h
     by_fed (Some ws) e h more = more ws (stays_fed vs ws p.kind (bytes_at text p.span) f e).0 h
 
-reach_end : (front : Lexemes) → reach 0 front ≡ end_of front
+pub reach_end : (front : Lexemes) → reach 0 front ≡ end_of front
 reach_end [] = refl
 reach_end (p ∷ ps) = refl
 

@@ -39,11 +39,11 @@ pub record Kept (pos : ℕ) (cs : List ℕ) (front here : Lexemes) : Type 0 wher
   pub some : 0 < length front → 0 < length characters
   pub again : (w : List ℕ) (later : Lexemes) → LastEnds front w → TokensAt (pos + byte_len characters) w later [] → TokensAt pos (characters ++ w) (front ++ later) []
 
-byte_len_upon : (us vs : List ℕ) → byte_len (us ++ vs) ≡ byte_len us + byte_len vs
+pub byte_len_upon : (us vs : List ℕ) → byte_len (us ++ vs) ≡ byte_len us + byte_len vs
 byte_len_upon [] vs = omega arith
 byte_len_upon (u ∷ us) vs = omega (arith, byte_len_upon us vs)
 
-reach_on : (p : Lexeme) (ps : Lexemes) → end_of (p ∷ ps) ≡ reach (p.span.pos + p.span.offset) ps
+pub reach_on : (p : Lexeme) (ps : Lexemes) → end_of (p ∷ ps) ≡ reach (p.span.pos + p.span.offset) ps
 reach_on p [] = refl
 reach_on p (q ∷ ps) = refl
 

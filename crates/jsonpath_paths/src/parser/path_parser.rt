@@ -1,13 +1,12 @@
 //! `PathParser`, a compiled path: a path text, its syntax tree and the token list of that tree.
 
-ghost use Rattle.std.specs.Prelude.{◌≡◌, ◌≢◌, ◌++◌, true, false, length, ℕ, List, IfOk, IfErr, IsOk};
+ghost use Rattle.std.specs.Prelude.{◌≡◌, ◌≢◌, ◌++◌, true, false, ℕ, List, IfOk, IfErr, IsOk};
 ghost use Rattle.jsonpath_paths.specs.tree.Tree.{Path};
 ghost use Rattle.jsonpath_paths.specs.tree.Visit.{path_tokens, MayReadPath};
 ghost use Rattle.jsonpath_paths.specs.text.Spans.{IsSpan};
 ghost use Rattle.jsonpath_paths.specs.text.Characters.{bytes_at};
 ghost use Rattle.jsonpath_paths.specs.declared.text.str_reader.StrRange.{StrRange};
 ghost use denote.Ref.{Bor};
-ghost use Rattle.jsonpath_paths.specs.token.Refusals.{MatchPlace};
 ghost use Rattle.jsonpath_paths.specs.plan.RefusedPlace.{refused_place};
 ghost use Rattle.jsonpath_paths.specs.RefusedAt.{RefusedAt};
 ghost use Rattle.jsonpath_paths.specs.Spelling.{Spells, IsInGrammar};
@@ -61,7 +60,6 @@ fn error_at_refused_token_or_character(
     requires same { stop.now.text ≡ text.now }
     requires parsed { parser.now.text ≡ text.now }
     ensures exact { result ≡ refused_place text.now parser.now.lexemes stop.now }
-    ensures place { MatchPlace result (length text.now) }
 {
     match parser.next_token_end() {
         Some(n) => {
@@ -90,7 +88,6 @@ impl<'a> PathParser<'a> {
         ensures found { IfOk result (λ p. (p ≡ input.now) × IsInGrammar input.now) }
         ensures only { IfErr result (λ e. e ≢ OutOfMemory → IsInGrammar input.now → ⊥) }
         ensures refused { IfErr result (λ e. e ≢ OutOfMemory → RefusedAt input.now e) }
-        ensures place { IfErr result (λ e. e ≢ OutOfMemory → MatchPlace e (length input.now)) }
     {
         let (found, stop) = lexemes_up_to_refusal(alloc, input)?;
         let mut parser = TreeParser::new(alloc, input, found.as_slice());

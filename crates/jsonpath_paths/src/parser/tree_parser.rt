@@ -119,8 +119,7 @@ impl<'s> TreeParser<'s> {
 
     // The byte position right behind the next token. `None` where no token is left.
     pub(crate) fn next_token_end(&self) -> Option<usize>
-        ensures value { result ≡ next_token_end self.now.lexemes }
-        ensures within { IfSome result (λ n. n ≤ length self.now.text) }
+        ensures { result ≡ next_token_end self.now.lexemes }
     {
         match self.lexemes {
             [first, ..] => Some(first.span.pos + first.span.offset),

@@ -9,7 +9,7 @@ ghost use Rattle.jsonpath_paths.specs.token.Tokens.{TakesToken, span_of};
 ghost use Rattle.jsonpath_paths.specs.plan.NextToken.{ends_at, closes_at, first_at, next_at, reading, nothing_but};
 ghost use Rattle.jsonpath_paths.specs.text.Spans.{IsSpan, AreSpans, Tile};
 ghost use Rattle.jsonpath_paths.specs.token.Reading.{and_then, reading_from, single_character_kind, optional_equals, two_characters, quoted_lexeme, dollar_word, blanks_or_word, operator_blanks_or_word, several_character_lexeme, lexeme_beginning_with};
-ghost use Rattle.jsonpath_paths.specs.token.Refusals.{fault, MatchPlace};
+ghost use Rattle.jsonpath_paths.specs.token.Refusals.{fault};
 ghost use Rattle.jsonpath_paths.specs.plan.RefusedPlace.{behind_character};
 ghost use Rattle.jsonpath_paths.specs.text.TextPlace.{ahead, past};
 ghost use Rattle.jsonpath_paths.specs.text.Characters.{is_stop_character, is_no_stop, goes_on, bytes_at};
@@ -341,7 +341,6 @@ impl<'a> Tokenizer<'a> {
     // is a quote that is not closed, or there is none.
     pub(crate) fn error_at_refused_character_end(&self) -> TokenError
         ensures exact { result ≡ behind_character self.now.text self.now.pos (ahead self.now) }
-        ensures place { MatchPlace result (length self.now.text) }
     {
         let mut ahead = self.reader.copy_of_place();
         match ahead.next_char() {

@@ -6,7 +6,8 @@ ghost use Rattle.jsonpath_select.specs.answer.Counted.{IsFirstOf, TellsIfAny};
 ghost use Rattle.jsonpath_select.specs.AnyPath.{ArePartsOf};
 ghost use Rattle.jsonpath_select.specs.Meaning.{Selects};
 
-use crate::answer::select::{spot_set_by_tree, values_by_tree};
+use crate::answer::of_spots::values_of_selected_spots;
+use crate::answer::select::{spot_set_by_tree, spots_by_tree};
 use crate::compile::any_path::PathParts;
 use crate::error::JsonPathError;
 use crate::error::halt::Halt;
@@ -31,11 +32,11 @@ pub(crate) fn first_by_parts<'a>(
 {
     let text = path.text;
     if (Choice { alloc, text }).needs_tree_walk(path.tree)? {
-        let found = values_by_tree(alloc, json, text, path.tree)?;
+        let spots = spots_by_tree(alloc, json, text, path.tree)?;
+        let found = values_of_selected_spots(alloc, spots.as_slice())?;
         return Ok(found.first().copied());
     }
-    let first = first_by_tokens(alloc, json, text, path.tokens)?;
-    Ok(first)
+    Ok(first_by_tokens(alloc, json, text, path.tokens)?)
 }
 
 // Whether the path selects a value. Where a path is decided by sets, its set is found whole; else the first value is

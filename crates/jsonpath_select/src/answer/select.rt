@@ -1,6 +1,5 @@
 //! What a compiled path or a bare token list selects in a value, as nodes and as values.
-ghost use Rattle.std.specs.Prelude.{◌≡◌, ℕ, List, map, IfOk, IfErr};
-ghost use Rattle.serde_json.specs.Data.{Data};
+ghost use Rattle.std.specs.Prelude.{◌≡◌, map, IfOk, IfErr};
 ghost use Rattle.serde_json.specs.View.{view};
 ghost use Rattle.jsonpath_nodes.specs.place.SpotPlace.{StandAt};
 ghost use Rattle.jsonpath_paths.specs.Listed.{IsListOf, IsListOfText, IsSomePath};
@@ -10,15 +9,15 @@ ghost use Rattle.jsonpath_paths.specs.Spelling.{Spells};
 ghost use Rattle.jsonpath_paths.specs.tree.Tree.{Path};
 ghost use Rattle.jsonpath_paths.specs.tree.View.{path_of};
 
-use crate::answer::of_spots::values_at_spots;
+use crate::answer::of_spots::values_of_selected_spots;
 use crate::compile::any_path::{AnyPath, PathParts};
 use crate::error::JsonPathError;
 use crate::error::halt::Halt;
 use crate::machine::machine::Machine;
 use crate::walk::choice_of_walk::Choice;
 use crate::walk::tree_walk::Walk;
+use jsonpath_nodes::Spot;
 use jsonpath_nodes::laws::spots_show_their_locations;
-use jsonpath_nodes::{NoMemory, Spot};
 use jsonpath_paths::{ParseToken, ParserNode, PathParser};
 use serde_json::Value;
 use std::alloc::Global;
@@ -130,7 +129,8 @@ pub(crate) fn values_by_parts<'a>(
 {
     let text = path.text;
     if (Choice { alloc, text }).needs_tree_walk(path.tree)? {
-        return values_by_tree(alloc, json, path.text, path.tree);
+        let spots = spots_by_tree(alloc, json, text, path.tree)?;
+        return values_of_selected_spots(alloc, spots.as_slice());
     }
     values_by_tokens(alloc, json, path.text, path.tokens)
 }
@@ -150,8 +150,7 @@ pub(crate) fn spot_set_by_parts<'a>(
         return spot_set_by_tree(alloc, json, path.text, path.tree);
     }
     spots_show_their_locations();
-    let found = spots_by_parts(alloc, json, path)?;
-    Ok(found)
+    Ok(spots_by_parts(alloc, json, path)?)
 }
 
 // Spots at what the path with this text and tree selects in the value, in the path's order, by the walk along the tree.
@@ -170,25 +169,7 @@ pub(crate) fn spots_by_tree<'a>(
         root: json,
         text,
     };
-    let found = walk.select_spots(tree)?;
-    Ok(found)
-}
-
-// The values that the path with this text and tree selects in the value, in the path's order, by the walk along the
-// tree.
-pub(crate) fn values_by_tree<'a>(
-    alloc: Global,
-    json: &'a Value,
-    text: &str,
-    tree: &ParserNode,
-) -> Result<Vec<&'a Value>, JsonPathError>
-    requires { Spells text.now (path_of tree.now) }
-    ensures ok { IfOk result (λ found. Selects text.now (view json.now) (map (λ v. view v.now) found.items)) }
-    ensures refused { IfErr result (λ e. e ≡ JsonPathError.OutOfMemory) }
-{
-    let spots = spots_by_tree(alloc, json, text, tree)?;
-    let found = values_at_selected_spots(alloc, spots.as_slice())?;
-    Ok(found)
+    Ok(walk.select_spots(tree)?)
 }
 
 // Spots at what the path with this text and tree selects in the value, each location once, by the walk over sets.
@@ -207,8 +188,7 @@ pub(crate) fn spot_set_by_tree<'a>(
         root: json,
         text,
     };
-    let found = walk.select_spot_set(tree)?;
-    Ok(found)
+    Ok(walk.select_spot_set(tree)?)
 }
 
 // Spots at what the path with this text and token list selects in the value, in the path's order, by the machine.
@@ -247,18 +227,7 @@ pub(crate) fn values_by_tokens<'a>(
         Err(Halt::OutOfMemory) => Err(JsonPathError::OutOfMemory),
         Err(Halt::NeedsLocations) => {
             let spots = spots_by_tokens(alloc, json, text, tokens)?;
-            let found = values_at_selected_spots(alloc, spots.as_slice())?;
-            Ok(found)
+            values_of_selected_spots(alloc, spots.as_slice())
         }
     }
-}
-
-// The values at the spots that a path has selected, in their order.
-fn values_at_selected_spots<'a>(
-    alloc: Global,
-    spots: &[Spot<'a>],
-) -> Result<Vec<&'a Value>, NoMemory>
-    ensures { IfOk result (λ found. (text : List ℕ) (doc : Data) → SelectsSpots text doc spots.now → Selects text doc (map (λ v. view v.now) found.items)) }
-{
-    values_at_spots(alloc, spots)
 }

@@ -167,21 +167,12 @@ fn accept_open_bracket(entries: &mut Vec<Entry>) -> Result<bool, NoMemory>
 fn accept_close_bracket(entries: &mut Vec<Entry>) -> Result<bool, NoMemory>
     ensures { IfOk result (λ ok. Took ok entries.new.items (ended (entries_of entries.old.items))) }
 {
-    match entries.pop() {
-        Some(inner) => {
-            if may_stand_in_brackets(inner) {
-                match entries.pop() {
-                    Some(Entry::Opened { absolute, .. }) => {
-                        entries.push(Entry::Ready { absolute })?;
-                        Ok(true)
-                    }
-                    _ => Ok(false),
-                }
-            } else {
-                Ok(false)
-            }
+    match (entries.pop(), entries.pop()) {
+        (Some(inner), Some(Entry::Opened { absolute, .. })) if may_stand_in_brackets(inner) => {
+            entries.push(Entry::Ready { absolute })?;
+            Ok(true)
         }
-        None => Ok(false),
+        _ => Ok(false),
     }
 }
 
@@ -190,19 +181,12 @@ fn accept_close_bracket(entries: &mut Vec<Entry>) -> Result<bool, NoMemory>
 fn accept_operator(op: FilterToken, entries: &mut Vec<Entry>) -> Result<bool, NoMemory>
     ensures { IfOk result (λ ok. Took ok entries.new.items (operated op (entries_of entries.old.items))) }
 {
-    match entries.pop() {
-        Some(right) => match entries.pop() {
-            Some(left) => {
-                if may_stand_beside_operator(op, left, right) {
-                    entries.push(Entry::Logical)?;
-                    Ok(true)
-                } else {
-                    Ok(false)
-                }
-            }
-            None => Ok(false),
-        },
-        None => Ok(false),
+    match (entries.pop(), entries.pop()) {
+        (Some(right), Some(left)) if may_stand_beside_operator(op, left, right) => {
+            entries.push(Entry::Logical)?;
+            Ok(true)
+        }
+        _ => Ok(false),
     }
 }
 
@@ -234,15 +218,10 @@ fn accept_plain_step_or_literal(
                 Ok(false)
             }
         }
-        Some(other) => {
-            entries.push(other)?;
-            entries.push(Entry::StepOrLiteral {
-                alone: may_stand_alone_in_brackets(token),
-                term: is_literal(token),
-            })?;
-            Ok(true)
-        }
-        None => {
+        below => {
+            if let Some(entry) = below {
+                entries.push(entry)?;
+            }
             entries.push(Entry::StepOrLiteral {
                 alone: may_stand_alone_in_brackets(token),
                 term: is_literal(token),
@@ -293,10 +272,7 @@ fn is_token_list_of_path(alloc: Global, tokens: &[ParseToken]) -> Result<bool, N
 fn is_one_path_from_root(entries: &[Entry]) -> bool
     ensures { result ≡ is_one_path_from_root (Some (entries_of entries.now)) }
 {
-    match entries {
-        [Entry::Ready { absolute }] => *absolute,
-        _ => false,
-    }
+    matches!(entries, [Entry::Ready { absolute: true }])
 }
 
 // Whether an entry of the stack may stand between brackets, as a plain step or as the condition of a filter.
@@ -337,10 +313,7 @@ fn is_condition_entry(entry: Entry) -> bool
 fn may_stand_behind_dots(token: &ParseToken) -> bool
     ensures { result ≡ is_dot_word token.now }
 {
-    match token {
-        ParseToken::All | ParseToken::Key(_) => true,
-        _ => false,
-    }
+    matches!(token, ParseToken::All | ParseToken::Key(_))
 }
 
 // Whether the token may stand alone between brackets, as a plain step.
@@ -362,10 +335,8 @@ fn may_stand_alone_in_brackets(token: &ParseToken) -> bool
 fn is_literal(token: &ParseToken) -> bool
     ensures { result ≡ is_literal token.now }
 {
-    match token {
-        ParseToken::Key(_) => true,
-        ParseToken::Number(_) => true,
-        ParseToken::Bool(_) => true,
-        _ => false,
-    }
+    matches!(
+        token,
+        ParseToken::Key(_) | ParseToken::Number(_) | ParseToken::Bool(_)
+    )
 }

@@ -174,7 +174,7 @@ impl<'a, 't> Machine<'a, 't> {
             → AreStanding M.located M.stand M.content (view self.now.root.now) (filter (λ l. holds self.now.text.now (view self.now.root.now) f l) cs) found) }
         ensures refused { IfErr result (λ e. M.located ≡ true → e ≡ OutOfMemory) }
     {
-        let standing = candidates.standing.after_filter();
+        let standing = candidates.standing.after_filter_or_indexes();
         let all = marks_shared_by_candidates(self.alloc, candidates.marks)?;
         let kept = self.keep_passing_candidates(condition, all)?;
         Ok(StandingMarks {

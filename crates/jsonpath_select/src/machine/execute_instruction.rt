@@ -40,29 +40,15 @@ impl<'a, 't> Machine<'a, 't> {
         ensures refused { IfErr result (λ e. M.located ≡ true → e ≡ OutOfMemory) }
     {
         match instruction {
-            Instruction::Start { absolute } => {
-                self.start_path(absolute, stacks)?;
-                Ok(())
-            }
-            Instruction::Step { leaves, token } => self.take_plain_step(leaves, token, stacks),
-            Instruction::Enter { leaves, deep } => self.begin_filter(leaves, deep, stacks),
-            Instruction::Leave => {
-                self.end_filter(stacks)?;
-                Ok(())
-            }
-            Instruction::Constant(token) => {
-                stacks.operands.push(Operand::Literal(token))?;
-                Ok(())
-            }
-            Instruction::Compares(op) => {
-                self.compare_two_operands(op, stacks)?;
-                Ok(())
-            }
-            Instruction::Joins(op) => {
-                self.join_two_conditions(op, stacks)?;
-                Ok(())
-            }
+            Instruction::Start { absolute } => self.start_path(absolute, stacks)?,
+            Instruction::Step { leaves, token } => self.take_plain_step(leaves, token, stacks)?,
+            Instruction::Enter { leaves, deep } => self.begin_filter(leaves, deep, stacks)?,
+            Instruction::Leave => self.end_filter(stacks)?,
+            Instruction::Constant(token) => stacks.operands.push(Operand::Literal(token))?,
+            Instruction::Compares(op) => self.compare_two_operands(op, stacks)?,
+            Instruction::Joins(op) => self.join_two_conditions(op, stacks)?,
         }
+        Ok(())
     }
 
     // Puts on the operands where a path begins: at the root, or at each candidate of the innermost filter.

@@ -2,7 +2,6 @@
 
 ghost use Rattle.std.specs.Prelude.{◌≡◌, ◌<◌, length, drop, true, IfOk, IfErr, IfSome, OnOk, List, filter};
 ghost use Rattle.serde_json.specs.View.{view};
-ghost use Rattle.jsonpath_paths.specs.declared.token.tokens.ParseToken.TheVariants.{Key};
 ghost use Rattle.jsonpath_select.specs.plan.Machine.{at_first};
 ghost use Rattle.jsonpath_select.specs.plan.Stack.{ShowsStacks, ExecutesAll, CanGoOn, Advances, IsStepByName, BeginsWithName, ShowsFound};
 ghost use Rattle.jsonpath_select.specs.declared.error.halt.Halt.TheVariants.{OutOfMemory};
@@ -126,18 +125,8 @@ fn step_name_span(instruction: &Instruction<'_>) -> Option<StrRange>
     match instruction {
         Instruction::Step {
             leaves: false,
-            token,
-        } => key_span(token),
-        _ => None,
-    }
-}
-
-// The span of the name, if the token is one name; else None.
-fn key_span(token: &ParseToken) -> Option<StrRange>
-    ensures { IfSome result (λ span. token.now ≡ Key span) }
-{
-    match token {
-        ParseToken::Key(span) => Some(*span),
+            token: ParseToken::Key(span),
+        } => Some(*span),
         _ => None,
     }
 }

@@ -132,8 +132,7 @@ impl<'a, 't> Machine<'a, 't> {
         ensures ok { IfOk result (λ found. MarksLeadBy M.located M.stand M.content (λ doc ls. stepped self.now.text.now doc leaves token.now ls) marks.now found.items) }
         ensures refused { IfErr result (λ e. M.located ≡ true → e ≡ OutOfMemory) }
     {
-        let found = marks_after_plain_step(self.alloc, self.text, leaves, token, marks)?;
-        Ok(found)
+        Ok(marks_after_plain_step(self.alloc, self.text, leaves, token, marks)?)
     }
 
     // Where one plain step leads from these marks, and from all below them where `leaves` is set, and how the places
@@ -191,8 +190,7 @@ impl<'a, 't> Machine<'a, 't> {
     {
         if standing.are_apart() {
             apart_locations_meet_candidates_once();
-            let found = flattened_from_each(self.alloc, marks)?;
-            Ok(found)
+            Ok(flattened_from_each(self.alloc, marks)?)
         } else {
             M::flattened_once(self.alloc, marks)
         }

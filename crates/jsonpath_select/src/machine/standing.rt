@@ -66,9 +66,11 @@ impl Standing {
         }
     }
 
-    // How the places that a filter keeps stand to each other: as its candidates do.
-    pub(crate) fn after_filter(self) -> Standing
-        ensures { (ls : List Location) (test : Location → Bool) → IsStanding self ls → IsStanding result (filter test ls) }
+    // How the places that a filter keeps stand to each other, and those to which an index, a range or a union of
+    // different indexes leads: as those before. The clause `indexes` is of each step but `*` that selects no child twice.
+    pub(crate) fn after_filter_or_indexes(self) -> Standing
+        ensures filter { (ls : List Location) (test : Location → Bool) → IsStanding self ls → IsStanding result (filter test ls) }
+        ensures indexes { (doc : Data) (p : Plain) (ls : List Location) → is_every p ≡ false → SelectsNoneTwice p → IsStanding self ls → IsStanding result (step doc p ls) }
     {
         steps_keep_locations_disjoint();
         steps_keep_locations_apart();
@@ -110,22 +112,6 @@ impl Standing {
         }
     }
 
-    // How the places to which an index, a range or a union of different indexes leads stand to each other: as those
-    // that it leads from. The clause is of each step but `*` that selects no child twice.
-    pub(crate) fn after_indexes(self) -> Standing
-        ensures { (doc : Data) (p : Plain) (ls : List Location) → is_every p ≡ false → SelectsNoneTwice p → IsStanding self ls → IsStanding result (step doc p ls) }
-    {
-        steps_keep_locations_disjoint();
-        steps_keep_locations_apart();
-        steps_lead_without_repeats();
-        match self {
-            Standing::Disjoint => Standing::Disjoint,
-            Standing::Apart => Standing::Apart,
-            Standing::Distinct => Standing::Distinct,
-            Standing::Unknown => Standing::Unknown,
-        }
-    }
-
     // How the places to which `*` leads stand to each other, where those that it leads from stand as this says and the
     // names of each object there ascend.
     pub(crate) fn after_wildcard(self) -> Standing
@@ -160,11 +146,11 @@ impl Standing {
                 }
                 Ok(Standing::Unknown)
             }
-            ParseToken::Number(_) => Ok(self.after_indexes()),
-            ParseToken::Range(_, _, _) => Ok(self.after_indexes()),
+            ParseToken::Number(_) => Ok(self.after_filter_or_indexes()),
+            ParseToken::Range(_, _, _) => Ok(self.after_filter_or_indexes()),
             ParseToken::Union(indexes) => {
                 if indexes_select_distinct_items(alloc, indexes.as_slice())? {
-                    return Ok(self.after_indexes());
+                    return Ok(self.after_filter_or_indexes());
                 }
                 Ok(Standing::Unknown)
             }

@@ -92,14 +92,14 @@ impl<P: AnyPath, V: HeldValue> Default for HeldPair<P, V> {
 impl<P: AnyPath, V: HeldValue> HeldPair<P, V> {
     // The path and the value. Refused with `EmptyPath` where no path is held, and with `EmptyValue` where a path and no
     // value is.
-    pub(crate) fn path_and_value(&self) -> Result<(&P, &Value), JsonPathError>
+    pub(crate) fn path_and_value(&self) -> Result<(&P, &V), JsonPathError>
         ensures path { IfOk result (λ held. self.now.path ≡ Some (P.spelling held.0.now)) }
-        ensures value { IfOk result (λ held. document self.now ≡ Some (view held.1.now)) }
+        ensures value { IfOk result (λ held. document self.now ≡ Some (view (V.held held.1.now))) }
         ensures refused { IfErr result (IsSelectRefused self.now.path (document self.now)) }
     {
         let path = self.path.as_ref().ok_or(JsonPathError::EmptyPath)?;
         let value = self.value.as_ref().ok_or(JsonPathError::EmptyValue)?;
-        Ok((path, value.lent()))
+        Ok((path, value))
     }
 
     /// The locations that the selector's path selects in its value, in the path's order, with duplicates. Errors:
@@ -118,7 +118,7 @@ impl<P: AnyPath, V: HeldValue> HeldPair<P, V> {
         ensures refused { IfErr result (IsSelectRefused self.now.path (document self.now)) }
     {
         let (path, value) = self.path_and_value()?;
-        path.select_locations(alloc, value)
+        path.select_locations(alloc, value.lent())
     }
 
     /// The selected values as a JSON text: `[`, their compact texts joined by `,`, and `]`. Errors: `EmptyPath` without
@@ -136,7 +136,7 @@ impl<P: AnyPath, V: HeldValue> HeldPair<P, V> {
         ensures refused { IfErr result (IsTextRefusedFor self.now.path (document self.now)) }
     {
         let (path, value) = self.path_and_value()?;
-        path.select_as_str(alloc, value)
+        path.select_as_str(alloc, value.lent())
     }
 
     /// Deserializes each selected value to a `T`, in the path's order, with duplicates. Errors: `EmptyPath` without a
@@ -156,7 +156,7 @@ impl<P: AnyPath, V: HeldValue> HeldPair<P, V> {
         ensures refused { IfErr result (IsTypedRefusedFor self.now.path (document self.now)) }
     {
         let (path, value) = self.path_and_value()?;
-        path.select_as(alloc, value)
+        path.select_as(alloc, value.lent())
     }
 
     /// The number of values that the selector's path selects in its value, duplicates included. Errors: `EmptyPath` if
@@ -173,7 +173,7 @@ impl<P: AnyPath, V: HeldValue> HeldPair<P, V> {
         ensures refused { IfErr result (IsSelectRefused self.now.path (document self.now)) }
     {
         let (path, value) = self.path_and_value()?;
-        path.count(alloc, value)
+        path.count(alloc, value.lent())
     }
 
     /// Whether the path selects anything. Errors: `EmptyPath` (no path), `EmptyValue` (no value), `OutOfMemory`.
@@ -189,6 +189,6 @@ impl<P: AnyPath, V: HeldValue> HeldPair<P, V> {
         ensures refused { IfErr result (IsSelectRefused self.now.path (document self.now)) }
     {
         let (path, value) = self.path_and_value()?;
-        path.exists(alloc, value)
+        path.exists(alloc, value.lent())
     }
 }

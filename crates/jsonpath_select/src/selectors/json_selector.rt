@@ -48,11 +48,7 @@ impl<'p, V: HeldValue> HeldPair<Rc<PathParser<'p>>, V> {
         ensures ok { IfOk result (λ s. s ≡ record { path = Some parser.entry; value = None }) }
         ensures refused { IfErr result (λ e. e ≡ JsonPathError.OutOfMemory) }
     {
-        let path = Rc::new(alloc, parser)?;
-        Ok(HeldPair {
-            path: Some(path),
-            value: None,
-        })
+        Ok(HeldPair::new_ref(Rc::new(alloc, parser)?))
     }
 
     /// Makes a `JsonSelector` or a `JsonSelectorMut` with this shared path and no value. It takes no memory. Named as

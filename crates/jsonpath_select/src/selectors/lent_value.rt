@@ -44,17 +44,6 @@ impl<'a, P: AnyPath> HeldPair<P, &'a Value> {
         self
     }
 
-    // The path and the value, refused as a selection is.
-    fn path_and_lent_value(&self) -> Result<(&P, &'a Value), JsonPathError>
-        ensures path { IfOk result (λ held. self.now.path ≡ Some (P.spelling held.0.now)) }
-        ensures value { IfOk result (λ held. document self.now ≡ Some (view held.1.now)) }
-        ensures refused { IfErr result (IsSelectRefused self.now.path (document self.now)) }
-    {
-        let path = self.path.as_ref().ok_or(JsonPathError::EmptyPath)?;
-        let value = self.value.ok_or(JsonPathError::EmptyValue)?;
-        Ok((path, value))
-    }
-
     /// The values that the selector's path selects, in the path's order, with duplicates. They borrow only the searched
     /// value. Errors: `EmptyPath` exactly if there is no path, `EmptyValue` exactly if there is a path and no value,
     /// else `OutOfMemory` alone.
@@ -70,8 +59,8 @@ impl<'a, P: AnyPath> HeldPair<P, &'a Value> {
         ensures ok { IfOk result (λ found. AreValuesFor self.now.path (document self.now) (map (λ v. view v.now) found.items)) }
         ensures refused { IfErr result (IsSelectRefused self.now.path (document self.now)) }
     {
-        let (path, value) = self.path_and_lent_value()?;
-        path.select(alloc, value)
+        let (path, value) = self.path_and_value()?;
+        path.select(alloc, *value)
     }
 
     /// The selected nodes (values with locations), in the path's order, with duplicates. They borrow only the searched
@@ -89,8 +78,8 @@ impl<'a, P: AnyPath> HeldPair<P, &'a Value> {
         ensures ok { IfOk result (λ found. AreSpotsFor self.now.path (document self.now) found.items) }
         ensures refused { IfErr result (IsSelectRefused self.now.path (document self.now)) }
     {
-        let (path, value) = self.path_and_lent_value()?;
-        path.select_spots(alloc, value)
+        let (path, value) = self.path_and_value()?;
+        path.select_spots(alloc, *value)
     }
 
     /// The first of the selected values, in the path's order, or `None`. It borrows only the searched value. Errors:
@@ -107,7 +96,7 @@ impl<'a, P: AnyPath> HeldPair<P, &'a Value> {
         ensures ok { IfOk result (λ first. IsFirstOf (AreValuesFor self.now.path (document self.now)) (option_map (λ v. view v.now) first)) }
         ensures refused { IfErr result (IsSelectRefused self.now.path (document self.now)) }
     {
-        let (path, value) = self.path_and_lent_value()?;
-        path.first(alloc, value)
+        let (path, value) = self.path_and_value()?;
+        path.first(alloc, *value)
     }
 }

@@ -96,10 +96,7 @@ impl<'a, 'b> Selector<'a, 'b> {
     pub fn new() -> Selector<'a, 'b>
         ensures { result ≡ record { path = None; value = None } }
     {
-        HeldPair {
-            path: None,
-            value: None,
-        }
+        HeldPair::default()
     }
 
     /// The selector's compiled path, or `None`. It takes no memory. Named as in the Rust crate `jsonpath_lib`.
@@ -148,10 +145,7 @@ impl SelectorMut {
     pub fn new() -> SelectorMut
         ensures { result ≡ record { path = None; value = None } }
     {
-        SelectorMut {
-            path: None,
-            value: None,
-        }
+        HeldPair::default()
     }
 
     /// Sets the selector's path to this compiled one. It takes no memory. Named as in the Rust crate `jsonpath_lib`.

@@ -68,10 +68,7 @@ impl<'a> Carried<'a> for &'a Value {
     fn flattened_once(alloc: Global, marks: &[&'a Value]) -> Result<Vec<&'a Value>, Halt> {
         match marks {
             [] => Ok(Vec::new(alloc)),
-            [mark] => {
-                let found = flattened_from_mark(alloc, mark)?;
-                Ok(found)
-            }
+            [mark] => Ok(flattened_from_mark(alloc, mark)?),
             _ => Err(Halt::NeedsLocations),
         }
     }
@@ -80,10 +77,7 @@ impl<'a> Carried<'a> for &'a Value {
     fn candidates_below_once(alloc: Global, marks: &[&'a Value]) -> Result<Vec<&'a Value>, Halt> {
         match marks {
             [] => Ok(Vec::new(alloc)),
-            [mark] => {
-                let found = candidates_below_mark(alloc, mark)?;
-                Ok(found)
-            }
+            [mark] => Ok(candidates_below_mark(alloc, mark)?),
             _ => Err(Halt::NeedsLocations),
         }
     }
@@ -110,31 +104,26 @@ impl<'a> Carried<'a> for Spot<'a> {
 
     #[inline]
     fn copy(&self) -> Result<Spot<'a>, NoMemory> {
-        let copy = self.clone()?;
-        Ok(copy)
+        Ok(self.clone()?)
     }
 
     // The candidates of a filter whose own `@` has a step, found from the spots, each place once.
     fn flattened_once(alloc: Global, marks: &[Spot<'a>]) -> Result<Vec<Spot<'a>>, Halt> {
-        let found = ValueWalker::walk_dedup_all(alloc, marks)?;
-        Ok(found)
+        Ok(ValueWalker::walk_dedup_all(alloc, marks)?)
     }
 
     // The candidates of a filter behind `..` whose own `@` has a step, found from the spots, each place once.
     fn candidates_below_once(alloc: Global, marks: &[Spot<'a>]) -> Result<Vec<Spot<'a>>, Halt> {
-        let found = ValueWalker::candidates_below(alloc, marks)?;
-        Ok(found)
+        Ok(ValueWalker::candidates_below(alloc, marks)?)
     }
 
     // The spots in document order, each location once.
     fn marks_in_document_order(alloc: Global, marks: &[Spot<'a>]) -> Result<Vec<Spot<'a>>, Halt> {
-        let found = in_document_order(alloc, marks)?;
-        Ok(found)
+        Ok(in_document_order(alloc, marks)?)
     }
 
     // The spots without those at or below the one kept before them; in document order these are the topmost.
     fn topmost_marks(alloc: Global, marks: &[Spot<'a>]) -> Result<Vec<Spot<'a>>, Halt> {
-        let found = topmost_spots(alloc, marks)?;
-        Ok(found)
+        Ok(topmost_spots(alloc, marks)?)
     }
 }

@@ -28,8 +28,7 @@ pub(crate) fn marks_after_plain_step<'a, M: Descends<'a>>(
         leaves,
         selection: selection_of_token(alloc, text, token)?,
     };
-    let found = stride_from_each(alloc, marks, &stride)?;
-    Ok(found)
+    Ok(stride_from_each(alloc, marks, &stride)?)
 }
 
 // What the plain step by a token selects of a value, its names read from the path's text. A token that is no step

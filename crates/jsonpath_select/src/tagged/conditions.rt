@@ -47,8 +47,7 @@ pub(crate) fn tags_where_marks_found<M>(
 {
     let tags = pairs.tags.as_slice();
     if is_shared {
-        let all = all_tags_or_none(alloc, !tags.is_empty(), count)?;
-        Ok(all)
+        Ok(all_tags_or_none(alloc, !tags.is_empty(), count)?)
     } else {
         distinct_tags(alloc, count, tags)
     }

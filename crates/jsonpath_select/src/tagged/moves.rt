@@ -174,18 +174,9 @@ fn marks_after_move<'a, M: Carried<'a>>(
             leaves,
             token,
             text,
-        } => {
-            let found = marks_after_plain_step(alloc, text, leaves, token, marks)?;
-            Ok(found)
-        }
-        Move::Member(key) => {
-            let found = named_member_from_each(alloc, marks, key)?;
-            Ok(found)
-        }
-        Move::Lower => {
-            let found = plain_step_from_all_below(alloc, marks, &PlainStep::Every)?;
-            Ok(found)
-        }
+        } => Ok(marks_after_plain_step(alloc, text, leaves, token, marks)?),
+        Move::Member(key) => Ok(named_member_from_each(alloc, marks, key)?),
+        Move::Lower => Ok(plain_step_from_all_below(alloc, marks, &PlainStep::Every)?),
         Move::Flat => M::flattened_once(alloc, marks),
         Move::LowerFlat => M::candidates_below_once(alloc, marks),
         Move::InOrder => M::marks_in_document_order(alloc, marks),

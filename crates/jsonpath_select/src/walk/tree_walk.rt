@@ -45,8 +45,7 @@ impl<'a, 't> Walk<'a, 't> {
             return self.select_keeping_what_leads_on(path);
         }
         let whole = Spot::root(self.alloc, self.root);
-        let found = self.spots_reached_by_path(path, &whole)?;
-        Ok(found)
+        Ok(self.spots_reached_by_path(path, &whole)?)
     }
 
     // What tells which steps and conditions are better followed by sets.

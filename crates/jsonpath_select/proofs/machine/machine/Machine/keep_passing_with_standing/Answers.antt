@@ -18,5 +18,5 @@ returns-clause-ok g c = λ f cs is there.
     let test = λ (l : Location). holds c.args.self.now.text.now doc f l in
     let kept = c.in_ok-kept.ensures.ok f cs is (c.in_ok-all.ensures doc cs there.0) in (
       subst (λ (ks : List Location). MarksStandAt g.M.Mark.located g.M.Mark.stand g.M.Mark.content doc ks c.in_ok-kept.kept.pairs.marks.items) (places_tagged 0 (filter test cs)) kept.1.1,
-      c.after_filter-standing.ensures cs test there.1,
+      c.after_filter_or_indexes-standing.ensures.filter cs test there.1,
     )

@@ -8,4 +8,4 @@ use Rattle.jsonpath_select.proofs.machine.standing.Standing.after_token.Goals as
 pub returns-in-Number : goal.returns-in-Number
 returns-in-Number c = λ doc ls s.
     let n = index_in c.in-Number.field-0 in
-    subst (λ token. IsStanding c.after_indexes.result (step doc (plain_of c.args.text.now token) ls)) (sym c.in-Number.is) (c.after_indexes.ensures doc (at_index n) ls (index_is_no_star n) (index_once n) s)
+    subst (λ token. IsStanding c.after_filter_or_indexes.result (step doc (plain_of c.args.text.now token) ls)) (sym c.in-Number.is) (c.after_filter_or_indexes.ensures.indexes doc (at_index n) ls (index_is_no_star n) (index_once n) s)
