@@ -216,13 +216,8 @@ connective_closes k.Or o h = (record { no_comparison = refl; no_dot = refl; no_a
 connective_closes _ o h = cc
 
 comparison_stops : (kind : Kind) (o : FilterToken) → grammar.comparison kind ≡ Some o → (same_kind kind k.Dot ≡ false) × (same_kind kind k.OpenArray ≡ false)
-comparison_stops k.Equal o h = (refl, refl)
-comparison_stops k.NotEqual o h = (refl, refl)
-comparison_stops k.Little o h = (refl, refl)
-comparison_stops k.LittleOrEqual o h = (refl, refl)
-comparison_stops k.Greater o h = (refl, refl)
-comparison_stops k.GreaterOrEqual o h = (refl, refl)
-comparison_stops _ o h = cc
+comparison_stops k.Equal o h = (cc, cc)
+comparison_stops _ o h = (cc, cc)
 
 -- no step goes on there
 record Stops (ts : Lexemes) : Type 0 where

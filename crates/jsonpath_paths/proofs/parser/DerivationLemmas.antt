@@ -28,18 +28,12 @@ unfolding skip
 takes_full {kind = kind} {s = s} {to = to} h e = subst Full (sym h) (ap (λ b. let p : Lexeme = record { kind = kind; span = s } in cond b to (p ∷ to)) e)
 
 connects_full : (kind : Kind) (o : FilterToken) → connective kind ≡ Some o → same_kind kind k.Whitespace ≡ false
-connects_full k.And o h = refl
-connects_full k.Or o h = refl
-connects_full _ o h = cc h
+connects_full k.And o h = cc
+connects_full _ o h = cc
 
 compares_full : (kind : Kind) (o : FilterToken) → comparison kind ≡ Some o → same_kind kind k.Whitespace ≡ false
-compares_full k.Equal o h = refl
-compares_full k.NotEqual o h = refl
-compares_full k.Little o h = refl
-compares_full k.LittleOrEqual o h = refl
-compares_full k.Greater o h = refl
-compares_full k.GreaterOrEqual o h = refl
-compares_full _ o h = cc h
+compares_full k.Equal o h = cc
+compares_full _ o h = cc
 
 quoted_full : {s : StrRange} {from to : Lexemes} → Quoted s from to → Full from
 quoted_full {s = s} {from = from} {to = to} h = by_double h.0 h.1

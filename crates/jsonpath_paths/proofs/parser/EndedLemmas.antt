@@ -74,7 +74,6 @@ unfolding first
 ender_first dollar_sign es h = ap {B = Option (Kind × ℕ)} (λ n. Some (if n == 0 then (k.Absolute, 1) else (k.Key, 1 + n))) (none_goes_on is_no_stop (characters_of es) (hard_all_end es h).0)
 ender_first name es h = ap {B = Option (Kind × ℕ)} (λ o. option_map (λ n. (k.SingleQuoted, 1 + n)) o) (closes_at_once (characters_of es))
 ender_first naught es h = ap {B = Option (Kind × ℕ)} (λ n. Some (k.Key, 1 + n)) (none_goes_on goes_on (characters_of es) (hard_all_end es h).1)
-ender_first bracket es h = refl
 ender_first _ es h = refl
 
 nothing_there : first [] ≡ None

@@ -170,7 +170,6 @@ module _ (text : List ℕ) where
     where
       by_first : (kind : Kind) → take_token k.Comma (put kind p ps) ≡ None → stop text (more_indexes ∷ ws) (put kind p ps) ≡ stop text ws (skip (put kind p ps))
       by_first k.Comma h = cc
-      by_first k.Whitespace h = refl
       by_first _ h = refl
 
   no_list_of_names : (ws : List Want) (ts : Lexemes) → take_token k.Comma ts ≡ None → stop text (after_name ∷ ws) ts ≡ stop text ws (skip ts)
@@ -180,7 +179,6 @@ module _ (text : List ℕ) where
     where
       by_first : (kind : Kind) → take_token k.Comma (put kind p ps) ≡ None → stop text (after_name ∷ ws) (put kind p ps) ≡ stop text ws (skip (put kind p ps))
       by_first k.Comma h = cc
-      by_first k.Whitespace h = refl
       by_first _ h = refl
 
   index_alone_there : (ws : List Want) (ts : Lexemes) → take_token k.Comma ts ≡ None → take_token k.Split ts ≡ None → stop text (after_first_index ∷ ws) ts ≡ stop text ws ts

@@ -1,15 +1,13 @@
 -- What `parse` reads, in the words of the numbers.
-use Rattle.std.proofs.Common.{◌≡◌, ◌<◌, ◌≤◌, ◌&&◌, ◌^◌, ◌-◌, ◌*◌, ◌+◌, ℕ, zero, suc, Bool, true, false, List, [], ◌∷◌, map, Some, None, Result, Ok, Err, ℤ, refl, sym, ◌∙◌, ap, subst, cond, arith, rules, ltb, leb, length}
-use Rattle.std.specs.Prelude.{slice_index, ◌==◌, option_map, IsTrue, ◌↔◌, ◌≢◌}
+use Rattle.std.proofs.Common.{◌≡◌, ◌<◌, ◌≤◌, ◌&&◌, ◌^◌, ◌-◌, ◌*◌, ◌+◌, ℕ, zero, suc, Bool, true, false, List, [], ◌∷◌, Some, None, Result, Ok, Err, ℤ, refl, sym, ◌∙◌, ap, subst, cond, arith, ltb, leb, length}
+use Rattle.std.specs.Prelude.{slice_index, ◌==◌, option_map, ◌≢◌}
 use Rattle.std.specs.Result.{result_ok}
-use Rattle.std.specs.Cmp.Lexicographic.{bytes_decides}
 use Rattle.std.proofs.lemmas.Bool.{and_parts, and_from, and_left, and_right, cond-true, cond-false, cond_both, lt-ltb, ltb-true, le-leb, lt-leb, leb-true, ne_eqb, eqb-false, false_from_ne_true}
 use Rattle.std.proofs.lemmas.Str.Parse.{IsNumeralModel, numerals_by_value, tells_all_ascii_digits, parse_plain, digits_value_short}
 use Rattle.std.specs.Result.{OkIff}
 use Rattle.std.proofs.lemmas.Nat.{pow-add}
 use Rattle.std.proofs.Math.Nat.{mul-lt-mul_of_pos_right, one-le-pow}
-use Rattle.std.specs.Str.{all_ascii_digits, str_eq_ignore_ascii_case}
-use Rattle.std.specs.Char.{to_ascii_lowercase}
+use Rattle.std.specs.Str.{all_ascii_digits}
 use Rattle.std.specs.Str.Parse.{IsNumeral, digits_value, without_leading_plus, without_leading_sign, ParsesUnsigned, ParsesSigned}
 use mir.Syntax.{w64}
 use mir.Val.{SFits}
@@ -190,7 +188,3 @@ decimal_some w fraction n u h small e =
     let passes : is_whole w ≡ true = and_from (is_digits (without_minus w)) _ is.0 (subst (λ m. leb m (whole_bound (is_negative w)) ≡ true) is.1 small) in
     ap (λ m. Some (decimal_from (is_negative w) m u)) is.1 ∙ (ap (option_map (decimal_from (is_negative w) (digits_value 10 (without_minus w)))) e
     ∙ sym (cond-true (is_whole w) _ None passes))
-
-pub same_case : (r : Bool) (a b : List ℕ) → (IsTrue r ↔ (map to_ascii_lowercase a ≡ map to_ascii_lowercase b)) → r ≡ str_eq_ignore_ascii_case a b
-same_case true a b h = sym ((bytes_decides (map to_ascii_lowercase a) (map to_ascii_lowercase b)).1 (h.0 (search rules)))
-same_case false a b h = sym (false_from_ne_true _ (λ t. cc (h.1 ((bytes_decides (map to_ascii_lowercase a) (map to_ascii_lowercase b)).0 t))))

@@ -193,9 +193,8 @@ never_begins text front here t rest us read ran refused b =
 -- the places
 
 end_last : (front : Lexemes) (t : Lexeme) → end_of (front ++ t ∷ []) ≡ t.span.pos + t.span.offset
-end_last [] t = refl
-end_last (p ∷ []) t = refl
 end_last (p ∷ q ∷ ps) t = end_last (q ∷ ps) t
+end_last _ t = refl
 
 refused_token : (text : List ℕ) (ts later : Lexemes) (t : Lexeme) (rest : List ℕ) → IsUtf8 text → TokensAt 0 (chars text) ts rest → stop text whole_wants ts ≡ Some (t ∷ later)
     → RefusedAt text (place_in text (t.span.pos + t.span.offset))

@@ -209,12 +209,7 @@ module _ (text : List ℕ) (ws : List Want) where
     where
       by_first : (kind : Kind) → by_kind comparison (put kind p ps) ≡ None → stop text (sign ∷ ws) (put kind p ps) ≡ Some (put kind p ps)
       by_first k.Equal h = cc
-      by_first k.NotEqual h = cc
-      by_first k.Little h = cc
-      by_first k.LittleOrEqual h = cc
-      by_first k.Greater h = cc
-      by_first k.GreaterOrEqual h = cc
-      by_first _ h = refl
+      by_first _ h = cc
 
   -- a sign of comparison behind blanks, or none
   pub sign_next : (ts us : Lexemes) (o : FilterToken) → by_kind comparison (skip ts) ≡ Some (o, us) → stop text (blanks ∷ sign ∷ ws) ts ≡ stop text ws us
@@ -252,12 +247,7 @@ module _ (text : List ℕ) (ws : List Want) where
       where
         by_first : (kind : Kind) → by_kind comparison (put kind p ps) ≡ None → stop text (behind_blank n ∷ ws) (put kind p ps) ≡ stop text (tail n ∷ ws) (put kind p ps)
         by_first k.Equal h = cc
-        by_first k.NotEqual h = cc
-        by_first k.Little h = cc
-        by_first k.LittleOrEqual h = cc
-        by_first k.Greater h = cc
-        by_first k.GreaterOrEqual h = cc
-        by_first _ h = refl
+        by_first _ h = cc
 
     -- behind a path from the candidate: a comparison, or what follows a condition
     pub compared_next : (ts us : Lexemes) (o : FilterToken) → by_kind comparison (skip ts) ≡ Some (o, us) → stop text (candidate_tail n ∷ ws) ts ≡ stop text (side_behind_sign n ++ ws) us

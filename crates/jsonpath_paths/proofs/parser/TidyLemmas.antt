@@ -1,12 +1,12 @@
 -- Where a word may be wanted on a stack of wants: first, or behind blanks alone. So no added word touches one of the text.
-use Rattle.std.proofs.Common.{◌≡◌, ℕ, zero, suc, Bool, true, false, not, List, [], ◌∷◌, ◌++◌, Option, Some, None, refl, subst}
+use Rattle.std.proofs.Common.{◌≡◌, ℕ, zero, Bool, true, false, not, List, [], ◌∷◌, ◌++◌, Option, Some, None, refl, subst}
 use Rattle.std.specs.Prelude.{◌&&◌, ◌||◌, is_some, if◌then◌else◌}
 use Rattle.std.proofs.lemmas.Bool.{and_from, and_parts}
 use Rattle.jsonpath_paths.specs.Literals.{truth_of}
 use Rattle.jsonpath_paths.specs.Numbers.{index_of, range_step_of, decimal_of}
 use Rattle.jsonpath_paths.specs.declared.token.tokens.Kind.{Kind}
 use Rattle.jsonpath_paths.specs.declared.token.tokens.Kind.TheVariants as k
-use Rattle.jsonpath_paths.specs.plan.Wants.{Want, Reaction, Sign, dollar, blanks, steps, step, word, after_dot, after_dots, close, inner, plain, indexes_range_or_names, range_or_names, after_first_index, more_indexes, index, range_to, range_by, range_step, after_name, more_names, quoted, open_group, condition, part, candidate_tail, behind_blank, tail, sign, term, literal, fraction, digits, move, moved, feed, run, run_on, takes, passes, refuses, if_word, literal_word, behind_left_side}
+use Rattle.jsonpath_paths.specs.plan.Wants.{Want, Reaction, Sign, dollar, blanks, steps, step, inner, plain, indexes_range_or_names, after_first_index, more_indexes, index, range_to, range_by, range_step, after_name, more_names, condition, part, candidate_tail, behind_blank, tail, term, literal, fraction, digits, move, moved, feed, run, run_on, takes, passes, refuses, if_word, literal_word, behind_left_side}
 use Rattle.jsonpath_paths.proofs.parser.SoundLemmas.{some_same}
 use Rattle.jsonpath_paths.proofs.parser.WantsLemmas.{Ender, dollar_sign, name, naught, ending, endings, real, all_real}
 
@@ -70,84 +70,25 @@ tidy_literal w us f c g = by_word (is_some (truth_of w)) (is_some (decimal_of w 
 
 tidy_move : (v : Want) (kind : Kind) (w : List ℕ) → tidy kind (move v kind w) ≡ true
 tidy_move dollar k.Absolute w = refl
-tidy_move dollar _ w = refl
-tidy_move blanks k.Whitespace w = refl
-tidy_move blanks _ w = refl
-tidy_move (steps n) k.Dot w = refl
-tidy_move (steps n) _ w = refl
-tidy_move (step n) k.Dot w = refl
-tidy_move (step n) _ w = refl
-tidy_move word k.Key w = refl
-tidy_move word _ w = refl
-tidy_move (after_dot n) k.Dot w = refl
-tidy_move (after_dot n) _ w = refl
-tidy_move (after_dots n) k.OpenArray w = refl
-tidy_move (after_dots n) _ w = refl
-tidy_move close k.CloseArray w = refl
-tidy_move close _ w = refl
 tidy_move (inner zero) k.Question w = refl
-tidy_move (inner (suc n)) k.Question w = refl
 tidy_move (inner n) k.Key w = tidy_word (is_some (index_of w)) (blanks ∷ after_first_index ∷ []) refl refl
-tidy_move (inner n) _ w = refl
 tidy_move plain k.Key w = tidy_word (is_some (index_of w)) (blanks ∷ after_first_index ∷ []) refl refl
-tidy_move plain _ w = refl
 tidy_move indexes_range_or_names k.Key w = tidy_word (is_some (index_of w)) (blanks ∷ after_first_index ∷ []) refl refl
-tidy_move indexes_range_or_names _ w = refl
-tidy_move range_or_names k.Split w = refl
-tidy_move range_or_names _ w = refl
-tidy_move after_first_index k.Comma w = refl
-tidy_move after_first_index _ w = refl
-tidy_move more_indexes k.Comma w = refl
-tidy_move more_indexes _ w = refl
 tidy_move index k.Key w = tidy_word (is_some (index_of w)) [] refl refl
-tidy_move index _ w = refl
 tidy_move range_to k.Key w = tidy_word (is_some (index_of w)) (blanks ∷ []) refl refl
-tidy_move range_to _ w = refl
-tidy_move range_by k.Split w = refl
-tidy_move range_by _ w = refl
 tidy_move range_step k.Key w = tidy_word (is_some (range_step_of w)) (blanks ∷ []) refl refl
-tidy_move range_step _ w = refl
-tidy_move after_name k.Comma w = refl
-tidy_move after_name _ w = refl
-tidy_move more_names k.Comma w = refl
-tidy_move more_names _ w = refl
-tidy_move quoted k.DoubleQuoted w = refl
-tidy_move quoted _ w = refl
-tidy_move open_group k.OpenParenthesis w = refl
-tidy_move open_group _ w = refl
 tidy_move (condition zero) k.OpenParenthesis w = refl
-tidy_move (condition (suc n)) k.OpenParenthesis w = refl
 tidy_move (condition n) k.Key w = tidy_literal w (behind_left_side n) refl refl refl
-tidy_move (condition n) _ w = refl
 tidy_move (part zero) k.OpenParenthesis w = refl
-tidy_move (part (suc n)) k.OpenParenthesis w = refl
 tidy_move (part n) k.Key w = tidy_literal w (behind_left_side n) refl refl refl
-tidy_move (part n) _ w = refl
 tidy_move (candidate_tail zero) k.And w = refl
-tidy_move (candidate_tail (suc n)) k.And w = refl
-tidy_move (candidate_tail zero) k.Or w = refl
-tidy_move (candidate_tail (suc n)) k.Or w = refl
-tidy_move (candidate_tail n) _ w = refl
 tidy_move (behind_blank zero) k.And w = refl
-tidy_move (behind_blank (suc n)) k.And w = refl
-tidy_move (behind_blank zero) k.Or w = refl
-tidy_move (behind_blank (suc n)) k.Or w = refl
-tidy_move (behind_blank n) _ w = refl
 tidy_move (tail zero) k.And w = refl
-tidy_move (tail (suc n)) k.And w = refl
-tidy_move (tail zero) k.Or w = refl
-tidy_move (tail (suc n)) k.Or w = refl
-tidy_move (tail n) _ w = refl
-tidy_move sign k.Equal w = refl
-tidy_move sign _ w = refl
 tidy_move (term n) k.Key w = tidy_literal w [] refl refl refl
-tidy_move (term n) _ w = refl
 tidy_move literal k.Key w = tidy_literal w [] refl refl refl
-tidy_move literal _ w = refl
-tidy_move fraction k.Dot w = refl
-tidy_move fraction _ w = refl
 tidy_move digits k.Key w = tidy_word (is_some (decimal_of (48 ∷ []) w)) [] refl refl
-tidy_move digits _ w = refl
+tidy_move _ k.Absolute w = refl
+tidy_move _ _ w = refl
 
 -- wants put upon others
 

@@ -87,88 +87,13 @@ pub data Silent : Want → Type 0 where
 
 pub passing : {w : Want} → Silent w → may_pass w ≡ true
 passing blanks_s = refl
-passing steps_s = refl
-passing first_s = refl
-passing indexes_s = refl
-passing by_s = refl
-passing name_s = refl
-passing names_s = refl
-passing fraction_s = refl
+passing _ = refl
 
 -- it is given up for each of them
 pub given_up : {w : Want} → Silent w → (e : Ender) → move w (kind_of e) (word_of e) ≡ passes
-given_up blanks_s dollar_sign = refl
 given_up blanks_s bracket = refl
-given_up blanks_s parenthesis = refl
-given_up blanks_s opening = refl
-given_up blanks_s name = refl
-given_up blanks_s candidate = refl
-given_up blanks_s not_equal = refl
-given_up blanks_s star = refl
-given_up blanks_s naught = refl
-given_up steps_s dollar_sign = refl
-given_up steps_s bracket = refl
-given_up steps_s parenthesis = refl
-given_up steps_s opening = refl
-given_up steps_s name = refl
-given_up steps_s candidate = refl
-given_up steps_s not_equal = refl
-given_up steps_s star = refl
-given_up steps_s naught = refl
-given_up first_s dollar_sign = refl
-given_up first_s bracket = refl
-given_up first_s parenthesis = refl
-given_up first_s opening = refl
-given_up first_s name = refl
-given_up first_s candidate = refl
-given_up first_s not_equal = refl
-given_up first_s star = refl
-given_up first_s naught = refl
-given_up indexes_s dollar_sign = refl
-given_up indexes_s bracket = refl
-given_up indexes_s parenthesis = refl
-given_up indexes_s opening = refl
-given_up indexes_s name = refl
-given_up indexes_s candidate = refl
-given_up indexes_s not_equal = refl
-given_up indexes_s star = refl
-given_up indexes_s naught = refl
-given_up by_s dollar_sign = refl
-given_up by_s bracket = refl
-given_up by_s parenthesis = refl
-given_up by_s opening = refl
-given_up by_s name = refl
-given_up by_s candidate = refl
-given_up by_s not_equal = refl
-given_up by_s star = refl
-given_up by_s naught = refl
-given_up name_s dollar_sign = refl
-given_up name_s bracket = refl
-given_up name_s parenthesis = refl
-given_up name_s opening = refl
-given_up name_s name = refl
-given_up name_s candidate = refl
-given_up name_s not_equal = refl
-given_up name_s star = refl
-given_up name_s naught = refl
-given_up names_s dollar_sign = refl
-given_up names_s bracket = refl
-given_up names_s parenthesis = refl
-given_up names_s opening = refl
-given_up names_s name = refl
-given_up names_s candidate = refl
-given_up names_s not_equal = refl
-given_up names_s star = refl
-given_up names_s naught = refl
-given_up fraction_s dollar_sign = refl
-given_up fraction_s bracket = refl
-given_up fraction_s parenthesis = refl
-given_up fraction_s opening = refl
-given_up fraction_s name = refl
-given_up fraction_s candidate = refl
-given_up fraction_s not_equal = refl
-given_up fraction_s star = refl
-given_up fraction_s naught = refl
+given_up _ bracket = refl
+given_up _ _ = refl
 
 pub pass_ends : {w : Want} → Silent w → (ws : List Want) (es : List Ender) → Ends ws (signs_of es) → Ends (w ∷ ws) (signs_of es)
 pass_ends {w = w} s ws [] h =
@@ -220,23 +145,10 @@ end_first range_step ws es r h =
     let b = pass_ends blanks_s ws es h in record { left = b.left; ran = by_word (is_some (range_step_of (48 ∷ []))) (blanks ∷ []) ws _ (signs_of es) b.left zero_is_step b.ran; ended = b.ended }
 end_first digits ws es r h = record { left = h.left; ran = by_word (is_some (decimal_of (48 ∷ []) (48 ∷ []))) [] ws _ (signs_of es) h.left zero_is_fraction h.ran; ended = h.ended }
 end_first (step n) ws es r h = cc
-end_first word ws es r h = record { left = h.left; ran = h.ran; ended = h.ended }
 end_first plain ws es r h = let b = pass_ends blanks_s ws es h in record { left = b.left; ran = b.ran; ended = b.ended }
 end_first indexes_range_or_names ws es r h = let b = pass_ends name_s ws es h in record { left = b.left; ran = b.ran; ended = b.ended }
 end_first range_or_names ws es r h = let b = pass_ends name_s ws es h in record { left = b.left; ran = b.ran; ended = b.ended }
-end_first literal ws es r h = record { left = h.left; ran = h.ran; ended = h.ended }
-end_first dollar ws es r h = record { left = h.left; ran = h.ran; ended = h.ended }
-end_first (after_dot n) ws es r h = record { left = h.left; ran = h.ran; ended = h.ended }
-end_first (after_dots n) ws es r h = record { left = h.left; ran = h.ran; ended = h.ended }
-end_first close ws es r h = record { left = h.left; ran = h.ran; ended = h.ended }
-end_first quoted ws es r h = record { left = h.left; ran = h.ran; ended = h.ended }
-end_first open_group ws es r h = record { left = h.left; ran = h.ran; ended = h.ended }
-end_first (condition n) ws es r h = record { left = h.left; ran = h.ran; ended = h.ended }
-end_first (part n) ws es r h = record { left = h.left; ran = h.ran; ended = h.ended }
-end_first (candidate_tail n) ws es r h = record { left = h.left; ran = h.ran; ended = h.ended }
-end_first (behind_blank n) ws es r h = record { left = h.left; ran = h.ran; ended = h.ended }
-end_first (tail n) ws es r h = record { left = h.left; ran = h.ran; ended = h.ended }
-end_first sign ws es r h = record { left = h.left; ran = h.ran; ended = h.ended }
+end_first _ ws es r h = record { left = h.left; ran = h.ran; ended = h.ended }
 
 -- each stack has tokens that lead from it to the end of a path
 abbrev pub endings : (ws : List Want) → List Ender

@@ -1,5 +1,5 @@
 -- What is found at the front is a token of its kind.
-use Rattle.std.proofs.Common.{◌≡◌, ◌<◌, ℕ, zero, suc, ◌+◌, Bool, true, false, not, List, [], ◌∷◌, ◌++◌, length, Option, Some, None, sym, ◌∙◌, ap, subst, refl, take, cond, arith, inl, inr}
+use Rattle.std.proofs.Common.{◌≡◌, ◌<◌, ℕ, zero, suc, ◌+◌, Bool, true, false, not, List, [], ◌∷◌, ◌++◌, length, Option, Some, None, ◌∙◌, ap, subst, refl, take, cond, arith, inl, inr}
 use Rattle.std.specs.Prelude.{option_map, ◌==◌, ◌&&◌, ◌⊎◌, IfSome}
 use Rattle.std.specs.Char.{is_whitespace}
 use Rattle.std.specs.List.{prefix_len}
@@ -139,12 +139,6 @@ first_is (c ∷ cs) kind n e =
     let found = subst (λ o. Found o (c ∷ cs)) e (front_found c cs) in
     let within = subst (λ o. Within o (suc (length cs))) e (front_within c cs) in
     record { token = found; within = within.1; longest = first_longest (c ∷ cs) (kind, n) e }
-
-pub first_alone : (cs : List ℕ) (kind other : Kind) (n m : ℕ) → IsFirst cs kind n → IsFirst cs other m → (kind ≡ other) × (n ≡ m)
-first_alone cs kind other n m a b =
-    let to = a.longest other m b.within b.token in
-    let from = b.longest kind n a.within a.token in
-    let same : m ≡ n = omega (arith, to.0, from.0) in (sym (to.1 same), sym same)
 
 pub first_or_none : (cs : List ℕ) → ((kind : Kind) × (n : ℕ) × IsFirst cs kind n) ⊎ HasNone cs
 first_or_none cs = by_first (first cs) refl

@@ -121,19 +121,15 @@ same_text xs ys h = (bytes_eq-Decides xs ys).0 h
 
 pub covers : (other : Kind) (xs rest : List ℕ) → is_token other xs ≡ true → Covers (first (xs ++ rest)) other (length xs)
 unfolding first
-covers k.Key [] rest h = cc
 covers k.Key (c ∷ t) rest h = by_test (c == dollar) refl h
   where
     by_test : (b : Bool) → (c == dollar) ≡ b → cond b (dollar_goes_on t) (not (begins_none c) && all_pass goes_on t) ≡ true → Covers (lexeme_beginning_with c (t ++ rest)) k.Key (suc (length t))
     by_test true e h = subst (λ d. Covers (lexeme_beginning_with d (t ++ rest)) k.Key (suc (length t))) (sym (eqb-true c dollar e)) (dollar_covers t rest h)
     by_test false e h = let p = and_parts (not (begins_none c)) (all_pass goes_on t) h in word_covers c t rest (not-true (begins_none c) p.0) p.1
-covers k.Whitespace [] rest h = cc
 covers k.Whitespace (c ∷ t) rest h = let p = and_parts (is_whitespace c) (all_pass is_whitespace t) h in blank_covers c t rest p.0 p.1
-covers k.DoubleQuoted [] rest h = cc
 covers k.DoubleQuoted (c ∷ t) rest h =
     let p = and_parts (c == 34) (closed 34 t) h in
     subst (λ d. Covers (lexeme_beginning_with d (t ++ rest)) k.DoubleQuoted (suc (length t))) (sym (eqb-true c 34 p.0)) (quoted_covers k.DoubleQuoted 34 t rest p.1)
-covers k.SingleQuoted [] rest h = cc
 covers k.SingleQuoted (c ∷ t) rest h =
     let p = and_parts (c == 39) (closed 39 t) h in
     subst (λ d. Covers (lexeme_beginning_with d (t ++ rest)) k.SingleQuoted (suc (length t))) (sym (eqb-true c 39 p.0)) (quoted_covers k.SingleQuoted 39 t rest p.1)
@@ -156,6 +152,7 @@ covers k.LittleOrEqual xs rest h = subst (λ ys. Covers (first (ys ++ rest)) k.L
 covers k.NotEqual xs rest h = subst (λ ys. Covers (first (ys ++ rest)) k.NotEqual (length ys)) (sym (same_text xs (codes "!=") h)) ((omega arith, λ _. refl))
 covers k.And xs rest h = subst (λ ys. Covers (first (ys ++ rest)) k.And (length ys)) (sym (same_text xs (codes "&&") h)) ((omega arith, λ _. refl))
 covers k.Or xs rest h = subst (λ ys. Covers (first (ys ++ rest)) k.Or (length ys)) (sym (same_text xs (codes "||") h)) ((omega arith, λ _. refl))
+covers _ [] rest h = cc
 
 covers_front : (other : Kind) (cs : List ℕ) (m : ℕ) → m ≤ length cs → is_token other (take m cs) ≡ true → Covers (first cs) other m
 covers_front other cs m h t =

@@ -122,10 +122,6 @@ pub lexeme_shorter : (p q : Place) (r : Result Lexeme TokenError) → IsUtf8 (dr
 lexeme_shorter p q (Ok x) u h = (next_more p q (Ok x) u h).1
 lexeme_shorter p q (Err e) u h = tt
 
-pub lexeme_text : (p q : Place) (r : Result Lexeme TokenError) → IsUtf8 (drop p.pos p.text) → next_at p ≡ (r, q) → q.text ≡ p.text
-lexeme_text p q (Ok x) u h = (next_more p q (Ok x) u h).3
-lexeme_text p q (Err e) u h = ap (λ z. z.text) (next_end p q (Err e) h).1
-
 -- lexemes put behind those found
 
 abbrev pub behind : List Lexeme → Reading → Reading
@@ -145,13 +141,6 @@ spans_more text ps x h i = All-push (λ p. IsSpan text p.span) ps x h i
 pub tile_more : (from mid to : ℕ) (ps : List Lexeme) (x : Lexeme) → Tile from ps mid → x.span.pos ≡ mid → mid + x.span.offset ≡ to → Tile from (ps ++ x ∷ []) to
 tile_more from mid to [] x h e f = (e ∙ sym h, ap (λ n. n + x.span.offset) h ∙ f)
 tile_more from mid to (p ∷ ps) x h e f = (h.0, tile_more (from + p.span.offset) mid to ps x h.1 e f)
-
-pub lexeme_follows : (p q : Place) (r : Result Lexeme TokenError) → IsUtf8 (drop p.pos p.text) → next_at p ≡ (r, q) → IfOk r (λ x. (x.span.pos ≡ p.pos) × (p.pos + x.span.offset ≡ q.pos))
-lexeme_follows p q (Ok x) u h =
-    let m = next_more p q (Ok x) u h in
-    let offset = ap (λ s. s.offset) m.2 in
-    (ap (λ s. s.pos) m.2, omega (arith, offset, m.4))
-lexeme_follows p q (Err e) u h = tt
 
 -- the span from one place that a reader was at to another
 pub span_read : (p q : Place) (n m : ℕ) (x : StrRange) → n ≡ p.pos → m ≡ q.pos → (let s : StrRange = record { pos = n; offset = m - n } in x ≡ s) → q.text ≡ p.text → p.pos ≤ q.pos

@@ -17,9 +17,8 @@ use Rattle.jsonpath_paths.specs.declared.text.str_reader.StrRange.{StrRange}
 use Rattle.jsonpath_paths.specs.declared.token.tokens.Kind.{Kind}
 use Rattle.jsonpath_paths.specs.declared.token.tokens.Kind.TheVariants as k
 use Rattle.jsonpath_paths.specs.declared.token.tokens.Token.{Token}
-use Rattle.jsonpath_paths.specs.declared.token.tokens.Token.TheVariants as t
 use Rattle.jsonpath_paths.specs.declared.token.tokens.TokenError.{TokenError}
-use Rattle.jsonpath_paths.proofs.token.FoundLemmas.{first_is, first_alone}
+use Rattle.jsonpath_paths.proofs.token.FoundLemmas.{first_is}
 use Rattle.jsonpath_paths.proofs.token.LongestLemmas.{first_has_none}
 use Rattle.jsonpath_paths.proofs.token.ReadingLemmas.{more_at, end_at}
 
@@ -86,28 +85,7 @@ NoneLeft p z = IfErr z.0 (λ e. HasNone (ahead p) × (z.1 ≡ p) × (e ≡ fault
 -- a token tells its kind and its span
 token_back : (kind : Kind) (s : StrRange) → (kind_of (token kind s) ≡ kind) × (span_of (token kind s) ≡ s)
 token_back k.Absolute s = (refl, refl)
-token_back k.Dot s = (refl, refl)
-token_back k.At s = (refl, refl)
-token_back k.OpenArray s = (refl, refl)
-token_back k.CloseArray s = (refl, refl)
-token_back k.Asterisk s = (refl, refl)
-token_back k.Question s = (refl, refl)
-token_back k.Comma s = (refl, refl)
-token_back k.Split s = (refl, refl)
-token_back k.OpenParenthesis s = (refl, refl)
-token_back k.CloseParenthesis s = (refl, refl)
-token_back k.Key s = (refl, refl)
-token_back k.DoubleQuoted s = (refl, refl)
-token_back k.SingleQuoted s = (refl, refl)
-token_back k.Equal s = (refl, refl)
-token_back k.GreaterOrEqual s = (refl, refl)
-token_back k.Greater s = (refl, refl)
-token_back k.Little s = (refl, refl)
-token_back k.LittleOrEqual s = (refl, refl)
-token_back k.NotEqual s = (refl, refl)
-token_back k.And s = (refl, refl)
-token_back k.Or s = (refl, refl)
-token_back k.Whitespace s = (refl, refl)
+token_back _ s = (refl, refl)
 
 pub token_taken : (p q : Place) (r : Result Token TokenError) → token_of (next_at p) ≡ (r, q) → IfOk r (λ t. TakesToken p t q)
 token_taken p q r h = subst (Taken p) h (by_first (first (ahead p)) refl)
@@ -133,37 +111,3 @@ none_taken p q r h = subst (NoneLeft p) h (by_first (first (ahead p)) refl)
 
 pub token_within : (text : List ℕ) (kind : Kind) (s : StrRange) (t : Token) → t ≡ token kind s → IsSpan text s → IsSpan text (span_of t)
 token_within text kind s t e h = subst (IsSpan text) (sym (ap span_of e ∙ (token_back kind s).1)) h
-
--- a token is the one of its kind at its span
-token_is : (x : Token) → token (kind_of x) (span_of x) ≡ x
-token_is (t.Absolute s) = refl
-token_is (t.Dot s) = refl
-token_is (t.At s) = refl
-token_is (t.OpenArray s) = refl
-token_is (t.CloseArray s) = refl
-token_is (t.Asterisk s) = refl
-token_is (t.Question s) = refl
-token_is (t.Comma s) = refl
-token_is (t.Split s) = refl
-token_is (t.OpenParenthesis s) = refl
-token_is (t.CloseParenthesis s) = refl
-token_is (t.Key s) = refl
-token_is (t.DoubleQuoted s) = refl
-token_is (t.SingleQuoted s) = refl
-token_is (t.Equal s) = refl
-token_is (t.GreaterOrEqual s) = refl
-token_is (t.Greater s) = refl
-token_is (t.Little s) = refl
-token_is (t.LittleOrEqual s) = refl
-token_is (t.NotEqual s) = refl
-token_is (t.And s) = refl
-token_is (t.Or s) = refl
-token_is (t.Whitespace s) = refl
-
--- one token is taken from a place, with one place behind it
-pub one_taken : (p q r : Place) (x y : Token) → TakesToken p x q → TakesToken p y r → (x ≡ y) × (q ≡ r)
-one_taken p q r x y a b =
-    let same = first_alone (ahead p) (kind_of x) (kind_of y) a.count b.count a.longest b.longest in
-    let place : q ≡ r = a.behind ∙ (ap (λ n. past p (take n (ahead p))) same.1 ∙ sym b.behind) in
-    let span : span_of x ≡ span_of y = a.spanned ∙ (ap (span_to p) place ∙ sym b.spanned) in
-    (sym (token_is x) ∙ (ap (λ kind. token kind (span_of x)) same.0 ∙ (ap (token (kind_of y)) span ∙ token_is y)), place)

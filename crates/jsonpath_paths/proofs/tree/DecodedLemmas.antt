@@ -120,24 +120,19 @@ term_free (literal token) st = tt
 
 condition_free : (c : Condition) (st : Stack) → IsFree (condition_entry c ∷ st)
 condition_free (lone (path absolute ss)) st = tt
-condition_free (compare a o b) st = tt
-condition_free (join o a b) st = tt
+condition_free _ st = tt
 
 term_back : (x : Term) → as_term (term_entry x) ≡ Some x
 term_back (at_path (path absolute ss)) = refl
 term_back (literal token) = refl
 
 condition_back : (c : Condition) → IsCondition c → as_condition (condition_entry c) ≡ Some c
-condition_back (lone (path false ss)) h = refl
 condition_back (lone (path true ss)) h = cc h.0
-condition_back (compare a o b) h = refl
-condition_back (join o a b) h = refl
+condition_back _ h = refl
 
 inner_back : (c : Condition) → IsCondition c → as_inner (condition_entry c) ≡ Some (filter c)
-inner_back (lone (path false ss)) h = refl
 inner_back (lone (path true ss)) h = cc h.0
-inner_back (compare a o b) h = refl
-inner_back (join o a b) h = refl
+inner_back _ h = refl
 
 literal_words : (token : ParseToken) (st : Stack) → IsTrue (is_literal token) → IsFree st → one_more token st ≡ Some (word token ∷ st)
 literal_words token st h free = by_stack token st h free

@@ -186,14 +186,9 @@ side here there i j xs after other ws more is at at' single left e found closed 
 -- ---- the connective
 
 by_connective : (P : FilterToken → Type 0) → P op.And → P op.Or → (o : FilterToken) → is_comparison o ≡ false → P o
-by_connective P x y op.Equal h = cc
-by_connective P x y op.NotEqual h = cc
-by_connective P x y op.Little h = cc
-by_connective P x y op.LittleOrEqual h = cc
-by_connective P x y op.Greater h = cc
-by_connective P x y op.GreaterOrEqual h = cc
 by_connective P x y op.And h = x
 by_connective P x y op.Or h = y
+by_connective P x y _ h = cc
 
 sign : FilterToken → List ℕ
 sign op.Or = 124 ∷ 124 ∷ []

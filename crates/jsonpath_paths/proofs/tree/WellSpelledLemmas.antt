@@ -34,17 +34,14 @@ module _ (text : List ℕ) where
   word_well (g.dot_all h) = search rules
 
   plain_well : {token : ParseToken} {from to : Lexemes} → g.PlainAt text token from to → IsBracketWord token
-  plain_well (g.in_all a h) = tt
   plain_well (g.in_index {n = n} a i) = (n, index_fits (bytes_at text i.0) n i.2, refl)
   plain_well (g.in_union a b c i h j more) = omega arith
-  plain_well (g.in_range a b c low h high by) = tt
-  plain_well (g.in_name a q) = tt
   plain_well (g.in_names a b c q h r more) = omega arith
+  plain_well _ = tt
 
   literal_well : {token : ParseToken} {from to : Lexemes} → g.LiteralAt text token from to → IsTrue (is_literal token)
   literal_well (g.quoted q) = search rules
-  literal_well (g.number h) = search rules
-  literal_well (g.truth s h _) = search rules
+  literal_well _ = search rules
 
   mutual
     pub steps_well : {n : ℕ} {ss : PathSteps} {from to : Lexemes} → g.StepsAt text n ss from to → AreSteps ss

@@ -1,4 +1,4 @@
-use Rattle.jsonpath_paths.proofs.token.ReadingLemmas.{lexeme_more, lexeme_shorter, lexeme_text, next_end, lexeme_follows}
+use Rattle.jsonpath_paths.proofs.token.ReadingLemmas.{lexeme_more, lexeme_shorter, next_end}
 use Rattle.jsonpath_paths.proofs.token.tokenizer.Tokenizer.take_next_lexeme.Goals as goal
 
 pub returns-clause-more : goal.returns-clause-more
@@ -7,11 +7,5 @@ returns-clause-more c = lexeme_more c.args.self.now c.take_lexeme_cutting_no_cha
 pub returns-clause-shorter : goal.returns-clause-shorter
 returns-clause-shorter c = lexeme_shorter c.args.self.now c.take_lexeme_cutting_no_character.new.self c.take_lexeme_cutting_no_character.result c.take_lexeme_cutting_no_character.ensures.before c.take_lexeme_cutting_no_character.ensures.value
 
-pub returns-clause-text : goal.returns-clause-text
-returns-clause-text c = lexeme_text c.args.self.now c.take_lexeme_cutting_no_character.new.self c.take_lexeme_cutting_no_character.result c.take_lexeme_cutting_no_character.ensures.before c.take_lexeme_cutting_no_character.ensures.value
-
 pub returns-clause-end : goal.returns-clause-end
 returns-clause-end c = next_end c.args.self.now c.take_lexeme_cutting_no_character.new.self c.take_lexeme_cutting_no_character.result c.take_lexeme_cutting_no_character.ensures.value
-
-pub returns-clause-follows : goal.returns-clause-follows
-returns-clause-follows c = lexeme_follows c.args.self.now c.take_lexeme_cutting_no_character.new.self c.take_lexeme_cutting_no_character.result c.take_lexeme_cutting_no_character.ensures.before c.take_lexeme_cutting_no_character.ensures.value
