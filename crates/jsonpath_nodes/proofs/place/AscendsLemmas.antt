@@ -5,7 +5,7 @@ use Rattle.std.specs.List.{AllByRecursion}
 use Rattle.std.specs.List.Sorted.{IsStrictlySortedBy}
 use Rattle.std.specs.Ordering.{ordering_then}
 use Rattle.std.proofs.lemmas.Cmp.{nat_cmp_total, nat_list_cmp_total, tied_itself}
-use Rattle.serde_json.specs.Data.{Data, null, boolean, number, string, array, object, Items, no_items, item, Members, no_members, member}
+use Rattle.serde_json.specs.Data.{Data, array, object, Items, no_items, item, Members, no_members, member}
 use Rattle.jsonpath_nodes.specs.place.Location.{Step, name, index, Location, names, below, below_items, below_members, flat, flat_items, step_cmp, location_cmp}
 use Rattle.jsonpath_nodes.specs.place.Order.{IsDocument, AreDocuments, HoldDocuments}
 
@@ -82,12 +82,9 @@ mutual
   unfolding IsStrictlySortedBy
 
   pub locations_below_root_ascend : (d : Data) → IsDocument d → IsStrictlySortedBy location_cmp (below d)
-  locations_below_root_ascend null h = (tt, tt)
-  locations_below_root_ascend (boolean b) h = (tt, tt)
-  locations_below_root_ascend (number n) h = (tt, tt)
-  locations_below_root_ascend (string s) h = (tt, tt)
   locations_below_root_ascend (array ds) h = sorted_after_root (below_items 0 ds) (begin_items (λ s. Unit {0}) 0 ds (λ j le. tt)) (items_ascend 0 ds h)
   locations_below_root_ascend (object ms) h = sorted_after_root (below_members ms) (begin_members (λ s. Unit {0}) ms (some_step ms)) (members_ascend ms h.0 h.1)
+  locations_below_root_ascend _ h = (tt, tt)
 
   items_ascend : (n : ℕ) (ds : Items) → AreDocuments ds → IsStrictlySortedBy location_cmp (below_items n ds)
   items_ascend n no_items h = tt
@@ -126,12 +123,8 @@ mutual
   unfolding IsStrictlySortedBy
 
   pub flat_ascends : (d : Data) → IsStrictlySortedBy location_cmp (flat d)
-  flat_ascends null = (tt, tt)
-  flat_ascends (boolean b) = (tt, tt)
-  flat_ascends (number n) = (tt, tt)
-  flat_ascends (string s) = (tt, tt)
   flat_ascends (array ds) = flat_items_ascend 0 ds
-  flat_ascends (object ms) = (tt, tt)
+  flat_ascends _ = (tt, tt)
 
   flat_items_ascend : (n : ℕ) (ds : Items) → IsStrictlySortedBy location_cmp (flat_items n ds)
   flat_items_ascend n no_items = tt

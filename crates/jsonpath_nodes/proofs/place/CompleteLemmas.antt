@@ -55,12 +55,9 @@ kids (array ds) = item_kids 0 ds
 kids (object ms) = member_kids ms
 
 below-kids : (d : Data) → below d ≡ [] ∷ through below (kids d)
-below-kids null = refl
-below-kids (boolean b) = refl
-below-kids (number n) = refl
-below-kids (string s) = refl
 below-kids (array ds) = ap (λ (ls : List Location). [] ∷ ls) (below_items-kids 0 ds)
 below-kids (object ms) = ap (λ (ls : List Location). [] ∷ ls) (below_members-kids ms)
+below-kids _ = refl
 
 -- a step leads to c among the children
 abbrev IsKid : Step → Data → List Kid → Type 0
@@ -87,11 +84,6 @@ member_kid k (member j d ms) c e = by (slice_cmp nat_cmp k j) refl (member_kid k
     by Greater is go e = inr (go e)
 
 child_kid : (s : Step) (d c : Data) → child s d ≡ Some c → IsKid s c (kids d)
-child_kid (name k) null c e = cc
-child_kid (name k) (boolean b) c e = cc
-child_kid (name k) (number n) c e = cc
-child_kid (name k) (string t) c e = cc
-child_kid (name k) (array ds) c e = cc
 child_kid (name k) (object ms) c e = member_kid k ms c e
 child_kid (index i) null c e = cc
 child_kid (index i) (boolean b) c e = cc
@@ -99,6 +91,7 @@ child_kid (index i) (number n) c e = cc
 child_kid (index i) (string t) c e = cc
 child_kid (index i) (array ds) c e = let at_front : 0 + i ≡ i = omega arith in subst (λ (j : ℕ). IsKid (index j) c (item_kids 0 ds)) at_front (item_kid i 0 ds c e)
 child_kid (index i) (object ms) c e = cc
+child_kid (name k) _ c e = cc
 
 among_through : (s : Step) (c : Data) (l : Location) (ks : List Kid) → IsKid s c ks → IsAmong l (below c) → IsAmong (s ∷ l) (through below ks)
 among_through s c l [] k h = elim k [ ]
@@ -118,12 +111,9 @@ below_complete (s ∷ l) d c e = by (child s d) refl (λ x there. below_complete
 -- ---- and each of them is there, in a document
 
 kids_at : (d : Data) → IsDocument d → AreAt d (kids d)
-kids_at null h = tt
-kids_at (boolean b) h = tt
-kids_at (number n) h = tt
-kids_at (string s) h = tt
 kids_at (array ds) h = all_items_at ds
 kids_at (object ms) h = members_at ms h.0
+kids_at _ h = tt
 
 kid_at : (s : Step) (d c : Data) (ks : List Kid) → AreAt d ks → IsKid s c ks → child s d ≡ Some c
 kid_at s d c [] h k = elim k [ ]

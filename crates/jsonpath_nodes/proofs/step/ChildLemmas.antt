@@ -133,11 +133,6 @@ document_member k (member j d ms) c h e = by (slice_cmp nat_cmp k j) (document_m
     by Greater go e = go e
 
 pub document_child : (s : Step) (d c : Data) → IsDocument d → child s d ≡ Some c → IsDocument c
-document_child (name k) null c h e = cc
-document_child (name k) (boolean b) c h e = cc
-document_child (name k) (number n) c h e = cc
-document_child (name k) (string t) c h e = cc
-document_child (name k) (array ds) c h e = cc
 document_child (name k) (object ms) c h e = document_member k ms c h.1 e
 document_child (index i) null c h e = cc
 document_child (index i) (boolean b) c h e = cc
@@ -145,6 +140,7 @@ document_child (index i) (number n) c h e = cc
 document_child (index i) (string t) c h e = cc
 document_child (index i) (array ds) c h e = document_item i ds c h e
 document_child (index i) (object ms) c h e = cc
+document_child (name k) _ c h e = cc
 
 pub document_at : (l : Location) (d c : Data) → IsDocument d → at d l ≡ Some c → IsDocument c
 document_at [] d c h e = let same : d ≡ c = cc in subst IsDocument same h

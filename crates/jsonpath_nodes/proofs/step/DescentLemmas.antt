@@ -86,13 +86,12 @@ in_objects-leaves b l ms none =
 -- a list that was empty has gained what f sees of one mark
 marks_from_one : {M : Type 0} (b : Bool) (stand : M → Location) (content : M → Data) (f : Data → List Location) (g : Data → List Location → List Location) (m : M) (before found : List M) → before ≡ []
     → MarksGain b stand content f (stand m) (content m) before found → ((doc : Data) (l : Location) → at doc l ≡ Some (content m) → g doc (l ∷ []) ≡ from_each doc f (l ∷ [])) → MarksLeadBy b stand content g (m ∷ []) found
-marks_from_one b stand content f g m before found none gained same doc [] there = cc
-marks_from_one b stand content f g m before found none gained same doc (l ∷ k ∷ ls) there = cc
 marks_from_one b stand content f g m before found none gained same doc (l ∷ []) there =
     let here : shown stand content m ≡ look_kept b doc l = cc in
     let seen = map (look_kept_from b (stand m) (content m)) (f (content m)) in
     gained ∙ ap (λ ms. map (shown stand content) ms ++ seen) none ∙ sym (append-nil seen) ∙ seen-from_each b stand content doc f (l ∷ []) (m ∷ []) there
     ∙ ap (map (look_kept b doc)) (sym (same doc l (sym (ap (λ (x : Sight). x.1) here))))
+marks_from_one b stand content f g m before found none gained same doc _ there = cc
 
 pub marks_below : {M : Type 0} (b : Bool) (stand : M → Location) (content : M → Data) (m : M) (before found : List M) → before ≡ [] → IsDocument (content m)
     → MarksGain b stand content candidates_below (stand m) (content m) before found → MarksLeadBy b stand content (λ doc ls. flattened doc (step doc every (all_below doc ls))) (m ∷ []) found

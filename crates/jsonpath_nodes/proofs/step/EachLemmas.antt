@@ -2,7 +2,7 @@
 use Rattle.std.proofs.Common.{◌≡◌, ℕ, zero, suc, ◌+◌, ◌-◌, ◌<◌, ◌≤◌, List, [], ◌∷◌, ◌++◌, map, length, drop, true, cond, refl, sym, ap, ◌∙◌, append-nil, drop_of_length-le, arith, add-one, is_some}
 use Rattle.std.specs.Prelude.{flat_map}
 use Rattle.std.proofs.lemmas.List.{map-append}
-use Rattle.serde_json.specs.Data.{Data, null, boolean, number, string, array, object, Items, no_items, item}
+use Rattle.serde_json.specs.Data.{Data, array, Items, no_items, item}
 use Rattle.serde_json.specs.Events.{items_len}
 use Rattle.serde_json.specs.Find.{get_item}
 use Rattle.jsonpath_nodes.specs.place.Location.{Step, index, Location}
@@ -45,9 +45,5 @@ item_there (item d ds) zero below = refl
 item_there (item d ds) (suc i) below = item_there ds i (omega arith)
 
 pub present-within : (d : Data) (i : ℕ) → i < length_of d → present d (index i) ≡ index i ∷ []
-present-within null i below = absurd (omega arith)
-present-within (boolean b) i below = absurd (omega arith)
-present-within (number n) i below = absurd (omega arith)
-present-within (string s) i below = absurd (omega arith)
 present-within (array ds) i below = ap (λ b. cond b (index i ∷ []) []) (item_there ds i below)
-present-within (object ms) i below = absurd (omega arith)
+present-within _ i below = absurd (omega arith)

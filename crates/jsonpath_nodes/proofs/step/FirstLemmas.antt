@@ -29,15 +29,14 @@ places-StandAt doc ls spots stand = ap (map (λ (x : Sight). x.0)) stand ∙ loo
 
 last_of : (doc : Data) (ls : List Location) (spots : List Spot) (s : Spot) → StandAt doc ls (spots ++ s ∷ [])
     → (ms : List Location) × (l : Location) × (ls ≡ ms ++ l ∷ []) × StandAt doc ms spots × StandsAt doc l s
-last_of doc [] [] s h = cc
 last_of doc [] (x ∷ spots) s h = cc
 last_of doc (l ∷ []) [] s h = ([], l, refl, refl, cc)
-last_of doc (l ∷ m ∷ ls) [] s h = cc
 last_of doc (l ∷ ls) (x ∷ spots) s h =
     let here : sight_of x ≡ look doc l = cc in
     let later : StandAt doc ls (spots ++ s ∷ []) = cc in
     let rest = last_of doc ls spots s later in
     (l ∷ rest.0, rest.1, ap (λ (ms : List Location). l ∷ ms) rest.2, ap₂ (λ (y : Sight) (ys : List Sight). y ∷ ys) here rest.3, rest.4)
+last_of doc _ [] s h = cc
 
 -- ---- the loop
 

@@ -50,8 +50,7 @@ leaf_by P of_null of_boolean of_number of_string null h = of_null
 leaf_by P of_null of_boolean of_number of_string (boolean b) h = of_boolean b
 leaf_by P of_null of_boolean of_number of_string (number n) h = of_number n
 leaf_by P of_null of_boolean of_number of_string (string s) h = of_string s
-leaf_by P of_null of_boolean of_number of_string (array ds) h = absurd h
-leaf_by P of_null of_boolean of_number of_string (object ms) h = absurd h
+leaf_by P of_null of_boolean of_number of_string _ h = absurd h
 
 pub leaf_selects : (p : Plain) (d : Data) → IsLeaf d → single_steps p d ≡ []
 leaf_selects every d h = leaf_by (λ c. single_steps every c ≡ []) refl (λ b. refl) (λ n. refl) (λ s. refl) d h
@@ -102,12 +101,9 @@ leaf_else v not_array not_object = by_kind IsLeaf v (λ d leaf. leaf) (λ x is. 
 -- ---- members of which none holds others
 
 pub no_container : (d : Data) → is_container d ≡ false → IsLeaf d
-no_container null h = tt
-no_container (boolean b) h = tt
-no_container (number n) h = tt
-no_container (string s) h = tt
 no_container (array ds) h = cc
 no_container (object ms) h = cc
+no_container _ h = tt
 
 pub nothing_deep : (p : Plain) (l : Location) (ms : Members) → some_container ms ≡ false → member_sights (deep p) l ms ≡ []
 nothing_deep p l no_members h = refl

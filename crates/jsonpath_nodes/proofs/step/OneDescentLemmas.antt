@@ -2,7 +2,7 @@
 use Rattle.std.proofs.Common.{◌≡◌, ℕ, suc, List, [], ◌∷◌, ◌++◌, map, Option, Some, None, false, refl, sym, ap, ap₂, ◌∙◌, append_assoc, append-nil, subst}
 use Rattle.std.specs.Prelude.{option_and_then, option_map, unwrap_or}
 use Rattle.std.specs.List.{AllByRecursion}
-use Rattle.serde_json.specs.Data.{Data, null, boolean, number, string, array, object, Items, no_items, item, Members, no_members, member}
+use Rattle.serde_json.specs.Data.{Data, array, object, Items, no_items, item, Members, no_members, member}
 use Rattle.jsonpath_nodes.proofs.update.SetLemmas.{same_back}
 use Rattle.jsonpath_nodes.specs.place.Location.{Step, name, index, Location, at, child, below, flat, flat_items}
 use Rattle.jsonpath_nodes.specs.place.Order.{IsDocument, AreDocuments, HoldDocuments}
@@ -19,12 +19,9 @@ use Rattle.jsonpath_nodes.proofs.step.ChildLemmas.{Kid, through, itself, below_i
 -- what is flat from each child, and then the same at each child
 abbrev mutual
   repeated : Data → List Location
-  repeated null = []
-  repeated (boolean b) = []
-  repeated (number n) = []
-  repeated (string s) = []
   repeated (array ds) = flat_items 0 ds ++ repeated_items 0 ds
   repeated (object ms) = flat_members ms ++ repeated_members ms
+  repeated _ = []
 
   repeated_items : ℕ → Items → List Location
   repeated_items n no_items = []
@@ -54,16 +51,13 @@ flattened_from_each-members ms h = ap (from_each (object ms) flat) (names-kids m
 
 mutual
   repeated_is : (d : Data) → IsDocument d → from_each d flattened_from_each (below d) ≡ repeated d
-  repeated_is null h = refl
-  repeated_is (boolean b) h = refl
-  repeated_is (number n) h = refl
-  repeated_is (string s) h = refl
   repeated_is (array ds) h =
       ap₂ (λ (x y : List Location). x ++ y) (map-nothing (flattened_from_each (array ds)) ∙ flattened_from_each-items ds)
       (ap (from_each (array ds) flattened_from_each) (below_items-kids 0 ds) ∙ from_each-through flattened_from_each below (array ds) (item_kids 0 ds) (all_items_at ds) ∙ repeated_items_is 0 ds h)
   repeated_is (object ms) h =
       ap₂ (λ (x y : List Location). x ++ y) (map-nothing (flattened_from_each (object ms)) ∙ flattened_from_each-members ms h)
       (ap (from_each (object ms) flattened_from_each) (below_members-kids ms) ∙ from_each-through flattened_from_each below (object ms) (member_kids ms) (members_at ms h.0) ∙ repeated_members_is ms h.1)
+  repeated_is _ h = refl
 
   repeated_items_is : (n : ℕ) (ds : Items) → AreDocuments ds → through (λ c. from_each c flattened_from_each (below c)) (item_kids n ds) ≡ repeated_items n ds
   repeated_items_is n no_items h = refl
@@ -151,10 +145,6 @@ members_once before ms apart h = ap (each_once_after before) (flat_members-kids 
 mutual
   -- after what is flat at a value, only what its objects hold is new
   new_below : (d : Data) → IsDocument d → each_once_after (flat d) (repeated d) ≡ in_objects d
-  new_below null h = refl
-  new_below (boolean b) h = refl
-  new_below (number n) h = refl
-  new_below (string s) h = refl
   new_below (array ds) h =
       let own = flat_items 0 ds in
       each_once_after-append own own (repeated_items 0 ds)
@@ -166,6 +156,7 @@ mutual
       each_once_after-append ([] ∷ []) (flat_members ms) (repeated_members ms)
       ∙ ap (λ (ls : List Location). ls ++ each_once_after ([] ∷ ls) (repeated_members ms)) (members_once ([] ∷ []) ms apart (clear_root (member_kids ms)))
       ∙ ap (λ (ls : List Location). flat_members ms ++ ls) (new_members ([] ∷ flat_members ms) ms h.1 apart (members_flat ([] ∷ []) ms apart (clear_root (member_kids ms))))
+  new_below _ h = refl
 
   new_items : (before : List Location) (n : ℕ) (ds : Items) → AreDocuments ds → AreDistinct (item_kids n ds) → IsFlat before (item_kids n ds) → each_once_after before (repeated_items n ds) ≡ in_objects_items n ds
   new_items before n no_items h apart k = refl
@@ -180,10 +171,6 @@ mutual
       (new_members (before ++ map (λ (l : Location). name j ∷ l) (in_objects d)) ms h.1 apart.1 (beside (name j) before (in_objects d) (member_kids ms) (λ t. flat t.1) apart.0 k.1))
 
 repeated_once : (d : Data) → IsDocument d → each_once (repeated d) ≡ candidates_below d
-repeated_once null h = refl
-repeated_once (boolean b) h = refl
-repeated_once (number n) h = refl
-repeated_once (string s) h = refl
 repeated_once (array ds) h =
     each_once_after-append [] (flat_items 0 ds) (repeated_items 0 ds)
     ∙ ap (λ (ls : List Location). ls ++ each_once_after ls (repeated_items 0 ds)) (flat_candidates_once (array ds))
@@ -193,6 +180,7 @@ repeated_once (object ms) h =
     each_once_after-append [] (flat_members ms) (repeated_members ms)
     ∙ ap (λ (ls : List Location). ls ++ each_once_after ls (repeated_members ms)) (members_once [] ms apart (clear (member_kids ms)))
     ∙ ap (λ (ls : List Location). flat_members ms ++ ls) (new_members (flat_members ms) ms h.1 apart (members_flat [] ms apart (clear (member_kids ms))))
+repeated_once _ h = refl
 
 -- ---- from locations of a document
 

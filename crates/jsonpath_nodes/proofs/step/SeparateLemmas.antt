@@ -129,14 +129,12 @@ no_room [] s = refl
 no_room (t ∷ l) s = refl
 
 ends_in_name : (m : Location) (k : List ℕ) → are_indexes (m ++ name k ∷ []) ≡ false
-ends_in_name [] k = refl
-ends_in_name (name j ∷ m) k = refl
 ends_in_name (index i ∷ m) k = ends_in_name m k
+ends_in_name _ k = refl
 
 ends_in_index : (m : Location) (i : ℕ) → are_indexes (m ++ index i ∷ []) ≡ are_indexes m
-ends_in_index [] i = refl
-ends_in_index (name j ∷ m) i = refl
 ends_in_index (index j ∷ m) i = ends_in_index m i
+ends_in_index _ i = refl
 
 names_part : (l m : Location) (k j : List ℕ) → same_location l m ≡ false → goes_on_by_indexes (l ++ name k ∷ []) (m ++ name j ∷ []) ≡ false
 names_part [] [] k j h = cc
@@ -313,11 +311,6 @@ past_end zero (item d ds) h = absurd (omega arith)
 past_end (suc i) (item d ds) h = past_end i ds (omega arith)
 
 from_front : (d : Data) (n : ℕ) → nth_of d (pos n) ≡ present d (index n)
-from_front null n = refl
-from_front (boolean b) n = refl
-from_front (number r) n = refl
-from_front (string s) n = refl
-from_front (object ms) n = refl
 from_front (array ds) n = by (leb_tells n (items_len ds))
   where
     there : Option Data → ℕ → List Step
@@ -330,6 +323,7 @@ from_front (array ds) n = by (leb_tells n (items_len ds))
         let end : get_item (items_len ds) ds ≡ None = past_end (items_len ds) ds (omega arith) in
         let past : get_item n ds ≡ None = past_end n ds (omega (arith, h.1)) in
         ap (λ (i : ℕ). present (array ds) (index i)) is ∙ ap (λ (o : Option Data). there o (items_len ds)) end ∙ sym (ap (λ (o : Option Data). there o n) past)
+from_front _ n = refl
 
 -- an index that counts from the front
 abbrev front : ℤ → ℕ
@@ -373,20 +367,13 @@ name_steps no_members = refl
 name_steps (member k d ms) = ap (λ (ss : List Step). name k ∷ ss) (name_steps ms)
 
 children_once : (d : Data) → HasNamesInOrder d → DistinctSteps (children d)
-children_once null h = tt
-children_once (boolean b) h = tt
-children_once (number n) h = tt
-children_once (string s) h = tt
 children_once (array ds) h = subst DistinctSteps (index_steps 0 ds) (kids_once (item_kids 0 ds) (items_distinct 0 ds))
 children_once (object ms) h = subst DistinctSteps (name_steps ms) (kids_once (member_kids ms) (members_distinct ms h))
+children_once _ h = tt
 
 document_in_order : (d : Data) → IsDocument d → HasNamesInOrder d
-document_in_order null h = tt
-document_in_order (boolean b) h = tt
-document_in_order (number n) h = tt
-document_in_order (string s) h = tt
-document_in_order (array ds) h = tt
 document_in_order (object ms) h = h.0
+document_in_order _ h = tt
 
 -- ---- the laws of steps
 
@@ -441,20 +428,13 @@ no_star : (doc : Data) (p : Plain) (ls : List Location) → is_every p ≡ false
 no_star doc p ls h k = cc
 
 name_kind : (p : Plain) (d : Data) → goes_by_names p ≡ true → AllByRecursion IsName (selected p d)
-name_kind every d h = cc
 name_kind (named k) d h = present_kind IsName d (name k) tt
 name_kind (listed ks) d h = list_kind d ks
-name_kind (nth n) d h = cc
-name_kind (union ns) d h = cc
-name_kind (range first to by) d h = cc
+name_kind _ d h = cc
 
 names_are_not_all : (p : Plain) → goes_by_names p ≡ true → is_every p ≡ false
 names_are_not_all every h = cc
-names_are_not_all (named k) h = refl
-names_are_not_all (listed ks) h = refl
-names_are_not_all (nth n) h = refl
-names_are_not_all (union ns) h = refl
-names_are_not_all (range first to by) h = refl
+names_are_not_all _ h = refl
 
 pub lists_stand_apart : ListsStandApart
 lists_stand_apart doc p ls by_names once h =
@@ -525,12 +505,8 @@ one_index_on n (l ∷ ls) h = (h.0, one_index_on n ls h.1)
 
 mutual
   pub flat_indexes : (d : Data) → AllByRecursion (λ m. are_indexes m ≡ true) (flat d)
-  flat_indexes null = (refl, tt)
-  flat_indexes (boolean b) = (refl, tt)
-  flat_indexes (number n) = (refl, tt)
-  flat_indexes (string s) = (refl, tt)
   flat_indexes (array ds) = flat_items_indexes 0 ds
-  flat_indexes (object ms) = (refl, tt)
+  flat_indexes _ = (refl, tt)
 
   flat_items_indexes : (n : ℕ) (ds : Items) → AllByRecursion (λ m. are_indexes m ≡ true) (flat_items n ds)
   flat_items_indexes n no_items = tt
@@ -609,11 +585,7 @@ no_array (Some (object ms)) = true
 
 no_item : (d : Data) (i : ℕ) (m : Location) → no_array (Some d) ≡ true → no_array (at d (index i ∷ m)) ≡ true → ⊥
 no_item null i m h k = cc
-no_item (boolean b) i m h k = cc
-no_item (number n) i m h k = cc
-no_item (string s) i m h k = cc
-no_item (array ds) i m h k = cc
-no_item (object ms) i m h k = cc
+no_item _ i m h k = cc
 
 pub same_steps_on : (s t : Step) (l m : Location) → same_step s t ≡ true → same_location l m ≡ true → same_location (s ∷ l) (t ∷ m) ≡ true
 same_steps_on s t l m h k = ap₂ (λ (x y : Bool). x && y) h k
@@ -652,12 +624,8 @@ from_item all n d (l ∷ ls) is h = (ap (λ (o : Option Data). no_array (option_
 
 mutual
   flat_candidates : (d : Data) → AllByRecursion (λ m. no_array (at d m) ≡ true) (flat d)
-  flat_candidates null = (refl, tt)
-  flat_candidates (boolean b) = (refl, tt)
-  flat_candidates (number n) = (refl, tt)
-  flat_candidates (string s) = (refl, tt)
   flat_candidates (array ds) = flat_items_candidates ds 0 ds (λ k. ap (λ i. get_item i ds) (omega arith))
-  flat_candidates (object ms) = (refl, tt)
+  flat_candidates _ = (refl, tt)
 
   flat_items_candidates : (all : Items) (n : ℕ) (ds : Items) → ((k : ℕ) → get_item (n + k) all ≡ get_item k ds) → AllByRecursion (λ m. no_array (at (array all) m) ≡ true) (flat_items n ds)
   flat_items_candidates all n no_items h = tt

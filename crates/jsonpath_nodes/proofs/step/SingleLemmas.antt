@@ -2,7 +2,7 @@
 use Rattle.std.proofs.Common.{◌≡◌, ℕ, zero, suc, ◌<◌, ◌≤◌, [], ◌∷◌, ◌++◌, map, Option, Some, None, Bool, true, false, cond, min, refl, ap, ◌∙◌, arith, rules, subst}
 use Rattle.std.specs.Prelude.{pos, nat_lt, is_some}
 use Rattle.std.proofs.lemmas.Bool.{ltb-true, ltb-false}
-use Rattle.serde_json.specs.Data.{Data, null, boolean, number, string, array, object, Items, no_items, item}
+use Rattle.serde_json.specs.Data.{Data, array, Items, no_items, item}
 use Rattle.serde_json.specs.Events.{items_len}
 use Rattle.serde_json.specs.Find.{get_item, at as item_at}
 use Rattle.jsonpath_nodes.specs.place.Location.{Step, index, Location}
@@ -31,21 +31,13 @@ step_there : (l : Location) (d c : Data) (i : ℕ) → item_at i d ≡ Some c �
 step_there l d c i is = rw is (rw is refl)
 
 pub nth_there : (i : ℕ) (l : Location) (d c : Data) → item_at i d ≡ Some c → map (look_from l d) (single_steps (nth (pos i)) d) ≡ (l ++ index i ∷ [], Some c) ∷ []
-nth_there i l null c is = cc
-nth_there i l (boolean b) c is = cc
-nth_there i l (number n) c is = cc
-nth_there i l (string s) c is = cc
 nth_there i l (array ds) c is =
     let within : i < items_len ds = item_within i ds c is in
     let same : i ≡ min i (items_len ds) = omega arith in
     subst (λ (n : ℕ). map (look_from l (array ds)) (map (λ (s : Step). s ∷ []) (present (array ds) (index n))) ≡ (l ++ index i ∷ [], Some c) ∷ []) same (step_there l (array ds) c i is)
-nth_there i l (object ms) c is = cc
+nth_there i l _ c is = cc
 
 pub nth_nowhere : (i : ℕ) (l : Location) (d : Data) → item_at i d ≡ None → map (look_from l d) (single_steps (nth (pos i)) d) ≡ []
-nth_nowhere i l null none = refl
-nth_nowhere i l (boolean b) none = refl
-nth_nowhere i l (number n) none = refl
-nth_nowhere i l (string s) none = refl
 nth_nowhere i l (array ds) none =
     ap (λ (o : Option Data). map (look_from l (array ds)) (map (λ (s : Step). s ∷ []) (cond (is_some o) (index (min i (items_len ds)) ∷ []) []))) (least_item i ds none (nat_lt i (items_len ds)) refl)
-nth_nowhere i l (object ms) none = refl
+nth_nowhere i l _ none = refl

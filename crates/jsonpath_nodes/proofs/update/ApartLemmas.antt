@@ -64,11 +64,6 @@ member_here f k q (member l d ms) p h =
     rw (← nat_list_cmp_total.congr k q l h) (member_here_at (slice_cmp nat_cmp k l) f k q l d ms p refl (sym (nat_list_cmp_total.congr k q l h)) (member_here f k q ms p h))
 
 child_other : (f : Data → Option Data) (s t : Step) (d : Data) → Puts f → same_step s t ≡ false → child t (edit f s d) ≡ child t d
-child_other f (name k) t null p h = refl
-child_other f (name k) t (boolean b) p h = refl
-child_other f (name k) t (number n) p h = refl
-child_other f (name k) t (string x) p h = refl
-child_other f (name k) t (array ds) p h = refl
 child_other f (name k) (name q) (object ms) p h = member_other f k q ms p h
 child_other f (name k) (index j) (object ms) p h = refl
 child_other f (index i) t null p h = refl
@@ -78,6 +73,7 @@ child_other f (index i) t (string x) p h = refl
 child_other f (index i) (name q) (array ds) p h = refl
 child_other f (index i) (index j) (array ds) p h = item_other f i j ds p (eqb-false i j h)
 child_other f (index i) t (object ms) p h = refl
+child_other f (name k) t _ p h = refl
 
 child_here : (f : Data → Option Data) (s t : Step) (d : Data) → Puts f → same_step s t ≡ true → child t (edit f s d) ≡ option_and_then f (child t d)
 child_here f (name k) (name q) null p h = refl

@@ -35,11 +35,6 @@ edit_member_by f k no_members c e = refl
 edit_member_by f k (member l d ms) c e = edit_member_by_at (slice_cmp nat_cmp k l) f k l d ms c (edit_member_by f k ms c) e
 
 pub edit_by : (f : Data → Option Data) (s : Step) (d c : Data) → child s d ≡ Some c → edit f s d ≡ edit (λ _. f c) s d
-edit_by f (name k) null c e = refl
-edit_by f (name k) (boolean b) c e = refl
-edit_by f (name k) (number n) c e = refl
-edit_by f (name k) (string s) c e = refl
-edit_by f (name k) (array ds) c e = refl
 edit_by f (name k) (object ms) c e = ap object (edit_member_by f k ms c e)
 edit_by f (index i) null c e = refl
 edit_by f (index i) (boolean b) c e = refl
@@ -47,6 +42,7 @@ edit_by f (index i) (number n) c e = refl
 edit_by f (index i) (string s) c e = refl
 edit_by f (index i) (array ds) c e = ap array (edit_item_by f i ds c e)
 edit_by f (index i) (object ms) c e = refl
+edit_by f (name k) _ c e = refl
 
 -- ---- an edit that answers the child itself changes nothing
 
@@ -68,11 +64,6 @@ edit_member_same f k no_members h = refl
 edit_member_same f k (member l d ms) h = edit_member_same_at (slice_cmp nat_cmp k l) f k l d ms h (edit_member_same f k ms)
 
 pub edit_same : (f : Data → Option Data) (s : Step) (d : Data) → ((c : Data) → child s d ≡ Some c → f c ≡ Some c) → edit f s d ≡ d
-edit_same f (name k) null h = refl
-edit_same f (name k) (boolean b) h = refl
-edit_same f (name k) (number n) h = refl
-edit_same f (name k) (string s) h = refl
-edit_same f (name k) (array ds) h = refl
 edit_same f (name k) (object ms) h = ap object (edit_member_same f k ms h)
 edit_same f (index i) null h = refl
 edit_same f (index i) (boolean b) h = refl
@@ -80,6 +71,7 @@ edit_same f (index i) (number n) h = refl
 edit_same f (index i) (string s) h = refl
 edit_same f (index i) (array ds) h = ap array (edit_item_same f i ds h)
 edit_same f (index i) (object ms) h = refl
+edit_same f (name k) _ h = refl
 
 pub edit_back : (s : Step) (d : Data) → edit Some s d ≡ d
 edit_back s d = edit_same Some s d (λ c h. refl)

@@ -113,8 +113,6 @@ none_after s t l ((u ∷ m) ∷ ls) same h up = by (same_step u s) refl (λ e. n
 
 -- they are as they were, seen through another step
 pub under_other : (s r : Step) (ls : List Location) → same_step s r ≡ false → under r (drop (leading s ls) ls) ≡ under r ls
-under_other s r [] other = refl
-under_other s r ([] ∷ ls) other = refl
 under_other s r ((u ∷ m) ∷ ls) other = by (same_step u s) refl (under_other s r ls other)
   where
     by : (b : Bool) → same_step u s ≡ b → under r (drop (leading s ls) ls) ≡ under r ls → under r (drop (cond b (1 + leading s ls) 0) ((u ∷ m) ∷ ls)) ≡ under r ((u ∷ m) ∷ ls)
@@ -123,6 +121,7 @@ under_other s r ((u ∷ m) ∷ ls) other = by (same_step u s) refl (under_other 
         let skip : same_step u r ≡ false = step_congr u s r e ∙ other in
         rw (one, skip) later
     by false e later = refl
+under_other s r _ other = refl
 
 -- those at the front are all that go through the step
 under_front : (s : Step) (ls : List Location) → under s (drop (leading s ls) ls) ≡ [] → under s ls ≡ map (drop 1) (take (leading s ls) ls)
@@ -191,17 +190,14 @@ total-fewer n s l ls = omega (arith, total-one (take n ls), total-take n ls)
 
 -- what a location begins with
 index_there : (n : ℕ) (l : Location) (i : ℕ) → Some i ≡ first_index n l → l ≡ index i ∷ drop 1 l
-index_there n [] i e = absurd (cc)
-index_there n (name k ∷ l) i e = absurd (cc)
 index_there n (index j ∷ l) i e = by (nat_lt j n) e
   where
     by : (b : Bool) → Some i ≡ then_some b j → index j ∷ l ≡ index i ∷ l
     by true is = let same : j ≡ i = cc in rw same refl
     by false is = absurd (cc)
+index_there n _ i e = absurd (cc)
 
 pub no_index_there : (n : ℕ) (l : Location) (ls : List Location) → None ≡ first_index n l → (m : ℕ) → m < n → under (index m) (l ∷ ls) ≡ under (index m) ls
-no_index_there n [] ls e m lt = refl
-no_index_there n (name k ∷ l) ls e m lt = refl
 no_index_there n (index j ∷ l) ls e m lt = by (nat_lt j n) refl e
   where
     by : (b : Bool) → nat_lt j n ≡ b → None ≡ then_some b j → under (index m) ((index j ∷ l) ∷ ls) ≡ under (index m) ls
@@ -210,16 +206,15 @@ no_index_there n (index j ∷ l) ls e m lt = by (nat_lt j n) refl e
         let above : n ≤ j = ltb-false j n over in
         let other : nat_eq j m ≡ false = ne_eqb j m (λ same. omega arith) in
         rw other refl
+no_index_there n _ ls e m lt = refl
 
 name_there : (l : Location) (k : List ℕ) → Some k ≡ first_name l → l ≡ name k ∷ drop 1 l
-name_there [] k e = absurd (cc)
 name_there (name j ∷ l) k e = let same : j ≡ k = cc in rw same refl
-name_there (index i ∷ l) k e = absurd (cc)
+name_there _ k e = absurd (cc)
 
 pub no_name_there : (l : Location) (ls : List Location) → None ≡ first_name l → (q : List ℕ) → under (name q) (l ∷ ls) ≡ under (name q) ls
-no_name_there [] ls e q = refl
 no_name_there (name k ∷ l) ls e q = absurd (cc)
-no_name_there (index i ∷ l) ls e q = refl
+no_name_there _ ls e q = refl
 
 pub ends_fewer : (depth : ℕ) (rest others : List Location) (x : Location) → rest ≡ x ∷ others → total (beyond depth others) ≤ total (beyond depth rest)
 ends_fewer depth rest others x e = rw e (omega arith)

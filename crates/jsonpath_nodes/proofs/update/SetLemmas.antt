@@ -8,7 +8,7 @@ use Rattle.std.specs.List.{list_any}
 use Rattle.std.specs.BTreeSet.{insert_key}
 use Rattle.std.specs.Cmp.{eq_by_cmp_equiv, nat_cmp_is}
 use Rattle.std.specs.Ordering.{match_ordering, ordering_then}
-use Rattle.serde_json.specs.Data.{Data, null, boolean, number, string, array, object, Items, no_items, item, Members, no_members, member}
+use Rattle.serde_json.specs.Data.{Data, array, object, Items, no_items, item, Members, no_members, member}
 use Rattle.jsonpath_nodes.specs.place.Location.{Step, name, index, Location, step_cmp, location_cmp}
 use Rattle.jsonpath_nodes.specs.place.Order.{location_total, once_in_order, step_total}
 use Rattle.jsonpath_nodes.specs.update.Update.{item_if, member_if}
@@ -135,12 +135,9 @@ same_piece a ls ms d root deep = by (has_root ls) (has_root ms) root deep
 
 mutual
   pub topmost_same : (a : Option Data) (ls ms : List Location) (d : Data) → SameCover ls ms → with_answer_at_topmost a ls d ≡ with_answer_at_topmost a ms d
-  topmost_same a ls ms null h = refl
-  topmost_same a ls ms (boolean b) h = refl
-  topmost_same a ls ms (number n) h = refl
-  topmost_same a ls ms (string s) h = refl
   topmost_same a ls ms (array ds) h = ap array (items_same a ls ms 0 ds h)
   topmost_same a ls ms (object es) h = ap object (members_same a ls ms es h)
+  topmost_same a ls ms _ h = refl
 
   items_same : (a : Option Data) (ls ms : List Location) (n : ℕ) (ds : Items) → SameCover ls ms → items_with_answer a ls n ds ≡ items_with_answer a ms n ds
   items_same a ls ms n no_items h = refl

@@ -121,10 +121,6 @@ module _ (a : Option Data) where
     -- a location more, before the others, is answered last
     pub topmost_first : (t : Step) (l : Location) (ls : List Location) (d : Data) → Before (t ∷ l) ls
         → with_answer_at_topmost a ((t ∷ l) ∷ ls) d ≡ edit (with_answer_at a l) t (with_answer_at_topmost a ls d)
-    topmost_first (name k) l ls null h = refl
-    topmost_first (name k) l ls (boolean b) h = refl
-    topmost_first (name k) l ls (number n) h = refl
-    topmost_first (name k) l ls (string s) h = refl
     topmost_first (name k) l ls (array ds) h = ap array (same_items a ((name k ∷ l) ∷ ls) ls 0 ds (λ m le. refl))
     topmost_first (name k) l ls (object ms) h = ap object (members_first k l ls ms h)
     topmost_first (index i) l ls null h = refl
@@ -133,6 +129,7 @@ module _ (a : Option Data) where
     topmost_first (index i) l ls (string s) h = refl
     topmost_first (index i) l ls (array ds) h = ap array (items_first i i l ls 0 ds (omega arith) h)
     topmost_first (index i) l ls (object ms) h = ap object (index_members a i l ls ms)
+    topmost_first (name k) l ls _ h = refl
 
     items_first : (i j : ℕ) (l : Location) (ls : List Location) (n : ℕ) (ds : Items) → j ≡ n + i → Before (index j ∷ l) ls
         → items_with_answer a ((index j ∷ l) ∷ ls) n ds ≡ edit_item (with_answer_at a l) i (items_with_answer a ls n ds)

@@ -79,11 +79,6 @@ member_kept x k ls (member q d ms) c h =
     (λ other found. member_kept x k (elsewhere (name q) ls) ms c found ∙ ap (λ u. piece (Some x) u c) (under_elsewhere k q ls other))
 
 child_kept : (x : Data) (s : Step) (ls : List Location) (d c : Data) → child s d ≡ Some c → child s (with_answer_at_topmost (Some x) ls d) ≡ piece (Some x) (under s ls) c
-child_kept x (name k) ls null c h = absurd (cc)
-child_kept x (name k) ls (boolean b) c h = absurd (cc)
-child_kept x (name k) ls (number n) c h = absurd (cc)
-child_kept x (name k) ls (string s) c h = absurd (cc)
-child_kept x (name k) ls (array ds) c h = absurd (cc)
 child_kept x (name k) ls (object ms) c h = member_kept x k ls ms c h
 child_kept x (index i) ls null c h = absurd (cc)
 child_kept x (index i) ls (boolean b) c h = absurd (cc)
@@ -91,6 +86,7 @@ child_kept x (index i) ls (number n) c h = absurd (cc)
 child_kept x (index i) ls (string s) c h = absurd (cc)
 child_kept x (index i) ls (array ds) c h = item_kept x ls 0 i i ds c (omega arith) h
 child_kept x (index i) ls (object ms) c h = absurd (cc)
+child_kept x (name k) ls _ c h = absurd (cc)
 
 top_at : (x : Data) (s : Step) (l : Location) (ls : List Location) (d e : Data) (o : Option Data) → child s d ≡ o → option_and_then (there l) o ≡ Some e
     → ((c : Data) → there l c ≡ Some e → option_and_then (there l) (piece (Some x) (under s ls) c) ≡ Some x) → option_and_then (there l) (child s (with_answer_at_topmost (Some x) ls d)) ≡ Some x

@@ -30,21 +30,15 @@ index_members a i l ls no_members = refl
 index_members a i l ls (member k d ms) = ap (λ r. member_if k (piece a (under (name k) ls) d) r) (index_members a i l (elsewhere (name k) ls) ms)
 
 pub topmost_root : (a : Option Data) (ls : List Location) (d : Data) → with_answer_at_topmost a ([] ∷ ls) d ≡ with_answer_at_topmost a ls d
-topmost_root a ls null = refl
-topmost_root a ls (boolean b) = refl
-topmost_root a ls (number n) = refl
-topmost_root a ls (string s) = refl
 topmost_root a ls (array ds) = ap array (same_items a ([] ∷ ls) ls 0 ds (λ m le. refl))
 topmost_root a ls (object ms) = ap object (root_members a ls ms)
+topmost_root a ls _ = refl
 
 mutual
   pub topmost_none : (a : Option Data) (d : Data) → with_answer_at_topmost a [] d ≡ d
-  topmost_none a null = refl
-  topmost_none a (boolean b) = refl
-  topmost_none a (number n) = refl
-  topmost_none a (string s) = refl
   topmost_none a (array ds) = ap array (items_none a 0 ds)
   topmost_none a (object ms) = ap object (members_none a ms)
+  topmost_none a _ = refl
 
   items_none : (a : Option Data) (n : ℕ) (ds : Items) → items_with_answer a [] n ds ≡ ds
   items_none a n no_items = refl
@@ -88,10 +82,6 @@ member_at Greater k q l ls d ms h later = ap (λ r. member_if q (piece gone (und
 mutual
   -- a null more is the null put first
   pub topmost_null : (t : Step) (l : Location) (ls : List Location) (d : Data) → with_answer_at_topmost gone ((t ∷ l) ∷ ls) d ≡ with_answer_at_topmost gone ls (edit (with_answer_at gone l) t d)
-  topmost_null (name k) l ls null = refl
-  topmost_null (name k) l ls (boolean b) = refl
-  topmost_null (name k) l ls (number n) = refl
-  topmost_null (name k) l ls (string s) = refl
   topmost_null (name k) l ls (array ds) = ap array (same_items gone ((name k ∷ l) ∷ ls) ls 0 ds (λ m le. refl))
   topmost_null (name k) l ls (object ms) = ap object (members_null k l ls ms)
   topmost_null (index i) l ls null = refl
@@ -100,6 +90,7 @@ mutual
   topmost_null (index i) l ls (string s) = refl
   topmost_null (index i) l ls (array ds) = ap array (items_null i i l ls 0 ds (omega arith))
   topmost_null (index i) l ls (object ms) = ap object (index_members gone i l ls ms)
+  topmost_null (name k) l ls _ = refl
 
   items_null : (i j : ℕ) (l : Location) (ls : List Location) (n : ℕ) (ds : Items) → j ≡ n + i
       → items_with_answer gone ((index j ∷ l) ∷ ls) n ds ≡ items_with_answer gone ls n (edit_item (with_answer_at gone l) i ds)
