@@ -206,10 +206,9 @@ once_selected : (p : Plain) (d : Data) → IsSingle p → IsDocument d → IsOnc
 once_selected every d s h = once_children d h
 once_selected (named k) d s h = once_present d (name k)
 once_selected (listed []) d s h = tt
-once_selected (listed (k ∷ ks)) d s h = absurd s
 once_selected (nth n) d s h = once_present d (index (abs_index n (length_of d)))
-once_selected (union ns) d s h = absurd s
 once_selected (range from to by) d s h = once_map index _ (λ a b e. cc) (once_filter _ (count_up 0 (length_of d)) (once_count_up 0 (length_of d)))
+once_selected _ d s h = absurd s
 
 single_index : (i : Option ℤ) → IsSingle (at_index i)
 single_index (Some n) = tt

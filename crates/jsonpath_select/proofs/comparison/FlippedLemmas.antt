@@ -41,11 +41,7 @@ turned greater_or_equal = less_or_equal
 
 back : (o : Comparison) (r : Ordering) → is_satisfied o (ordering_reverse r) ≡ is_satisfied (turned o) r
 back equal Less = refl
-back not_equal Less = refl
-back less Less = refl
-back less_or_equal Less = refl
-back greater Less = refl
-back greater_or_equal Less = refl
+back _ Less = refl
 back _ _ = refl
 
 in_order : {A : Type 0} (cmp : A → A → Ordering) → IsTotalOrder cmp → (o : Comparison) (a b : A) → is_satisfied o (cmp a b) ≡ is_satisfied (turned o) (cmp b a)
@@ -67,8 +63,7 @@ pair_flipped op.Little x y = pair_turned less x y
 pair_flipped op.LittleOrEqual x y = pair_turned less_or_equal x y
 pair_flipped op.Greater x y = pair_turned greater x y
 pair_flipped op.GreaterOrEqual x y = pair_turned greater_or_equal x y
-pair_flipped op.And x y = refl
-pair_flipped op.Or x y = refl
+pair_flipped _ x y = refl
 
 -- ---- two lists
 

@@ -30,13 +30,11 @@ term_entry (literal token) = a_word (may_stand_alone_in_brackets token) (is_lite
 
 condition_inner : (c : Condition) → IsCondition c → may_stand_in_brackets (condition_entry c) ≡ true
 condition_inner (lone (path absolute ss)) h = ap not h.0
-condition_inner (compare a op b) h = refl
-condition_inner (join op a b) h = refl
+condition_inner _ h = refl
 
 condition_condition : (c : Condition) → IsCondition c → is_condition_entry (condition_entry c) ≡ true
 condition_condition (lone (path absolute ss)) h = ap not h.0
-condition_condition (compare a op b) h = refl
-condition_condition (join op a b) h = refl
+condition_condition _ h = refl
 
 term_term : (a : Term) → IsTerm a → is_term_entry (term_entry a) ≡ true
 term_term (at_path (path absolute ss)) h = refl
@@ -73,8 +71,7 @@ one_more token rest ks new h = rw h refl
 
 after_condition : (c : Condition) (ks : List Entry) → is_free (condition_entry c ∷ ks) ≡ true
 after_condition (lone (path absolute ss)) ks = refl
-after_condition (compare a op b) ks = refl
-after_condition (join op a b) ks = refl
+after_condition _ ks = refl
 
 after_term : (a : Term) (ks : List Entry) → is_free (term_entry a ∷ ks) ≡ true
 after_term (at_path (path absolute ss)) ks = refl

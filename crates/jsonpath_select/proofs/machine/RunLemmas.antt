@@ -30,8 +30,7 @@ module _ (text : List ℕ) (doc : Data) where
 
   pub tags-found : (c : Condition) (cs : List Location) → as_tags (length cs) (found c cs) ≡ Some (numbers_where (holds text doc c) 0 cs)
   tags-found (lone p) cs = ap Some (path_tags text doc p cs)
-  tags-found (compare a op b) cs = refl
-  tags-found (join op a b) cs = refl
+  tags-found _ cs = refl
 
   term-is : (a : Term) (cs : List Location) → is_side (term_from text doc a 0 cs) ≡ true
   term-is (at_path p) cs = refl

@@ -108,8 +108,7 @@ module _ {M : Type 0} (located : Bool) (stand_of : M → Location) (content_of :
 
     of_path_end : (g : machine.Found) (os : List machine.Operand) (old below : List (Operand M)) (top : Operand M) → old ≡ below ++ top ∷ [] → ShowsOperand located stand_of content_of text doc (of_path g) top → EndsInMarks old
     of_path_end g os old below (operand.Marks n) e h = (below, n, e)
-    of_path_end g os old below (operand.Tags v) e h = absurd h
-    of_path_end g os old below (operand.Literal a) e h = absurd h
+    of_path_end g os old below _ e h = absurd h
 
     pub plain_step_operands : (leaves : Bool) (token : ParseToken) (fs : List machine.Found) (os : List machine.Operand) (t : State) (old : List (Operand M)) → ShowsOperands located stand_of content_of text doc os old
         → inside text doc (plain_step leaves token) fs os ≡ Some t → EndsInMarks old

@@ -62,12 +62,11 @@ right_false true b h = cc
 right_false false b h = h
 
 pub unescaped-plain : (cs : List ℕ) → list_any (λ c. c == backslash) cs ≡ false → unescaped cs ≡ cs
-unescaped-plain [] h = refl
-unescaped-plain (c ∷ []) h = refl
 unescaped-plain (c ∷ d ∷ cs) h =
     let here : (c == backslash) ≡ false = left_false (c == backslash) (list_any (λ e. e == backslash) (d ∷ cs)) h in
     let later : list_any (λ e. e == backslash) (d ∷ cs) ≡ false = right_false (c == backslash) (list_any (λ e. e == backslash) (d ∷ cs)) h in
     rw here (ap (λ (es : List ℕ). c ∷ es) (unescaped-plain (d ∷ cs) later))
+unescaped-plain _ h = refl
 
 -- a text that begins with a quote means what stands inside, up to its last character
 pub name_of-quoted : (text later inner : List ℕ) (q : ℕ) → IsUtf8 text → text ≡ encode_utf8 q ++ later → is_quote q ≡ true
