@@ -4,7 +4,7 @@ use Rattle.std.proofs.Math.Bool.{or_comm}
 use Rattle.std.specs.Prelude.{filter, if◌then◌else◌}
 use Rattle.std.specs.Str.{IsUtf8, chars, encode_utf8_all}
 use Rattle.serde_json.specs.Data.{Data}
-use Rattle.jsonpath_paths.specs.tree.Alike.{IsSameAt, AreSameAt, AlikeToken, same_all, same_key, same_keys, AlikePath, alike_path, AlikeSteps, alike_end, alike_step, AlikeInner, alike_plain, alike_filter, AlikeCondition, alike_lone, alike_compare, alike_join, AlikeTerm, alike_at_path, alike_literal}
+use Rattle.jsonpath_paths.specs.tree.Alike.{IsSameAt, AreSameAt, AlikeToken, same_key, same_keys, AlikePath, alike_path, AlikeSteps, alike_end, alike_step, AlikeInner, alike_plain, alike_filter, AlikeCondition, alike_lone, alike_compare, alike_join, AlikeTerm, alike_at_path, alike_literal}
 use Rattle.jsonpath_paths.specs.tree.Joined.{filter_text, joined_text, filter_path, JoinsSides}
 use Rattle.jsonpath_paths.specs.text.Spans.{IsSpan, slice_at}
 use Rattle.jsonpath_paths.specs.Spelling.{Spells, IsInGrammar}
@@ -40,13 +40,11 @@ module _ (s t : List ℕ) where
   same_names (x ∷ xs) (y ∷ ys) h = ap₂ (λ (k : List ℕ) (ks : List (List ℕ)). k ∷ ks) (same_name x y h.0) (same_names xs ys h.1)
 
   same_plain : {x y : ParseToken} → AlikeToken s t x y → plain_of s x ≡ plain_of t y
-  same_plain same_all = refl
   same_plain (same_key {s = a} {r = b} h) = ap named (same_name a b h)
   same_plain (same_keys {ss = xs} {rs = ys} h) = ap listed (same_names xs ys h)
   same_plain _ = refl
 
   same_literals : {x y : ParseToken} → AlikeToken s t x y → literals s x ≡ literals t y
-  same_literals same_all = refl
   same_literals (same_key {s = a} {r = b} h) = ap (λ k. text k ∷ []) (same_name a b h)
   same_literals _ = refl
 

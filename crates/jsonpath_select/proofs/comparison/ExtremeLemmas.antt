@@ -183,7 +183,6 @@ meets_is cmp total greater xs ys h = (λ i. list_any (λ x. list_any (λ y. back
 meets_is cmp total greater_or_equal xs ys h = (λ i. list_any (λ x. list_any (λ y. back_le cmp total x y i) ys) xs) ∙ (ends_decide (flip_args cmp) (back_total total) xs ys).1
 
 unequal_is : (op : Comparison) → is_unequal op ≡ false → is_not_equal op ≡ false
-unequal_is equal h = refl
 unequal_is not_equal h = cc
 unequal_is _ h = refl
 

@@ -13,7 +13,7 @@ use Rattle.jsonpath_paths.specs.declared.decimal.Decimal.{Decimal}
 use Rattle.jsonpath_paths.specs.declared.token.tokens.FilterToken.{FilterToken}
 use Rattle.jsonpath_paths.specs.declared.token.tokens.FilterToken.TheVariants as op
 use Rattle.jsonpath_nodes.specs.compare.Atoms.{seen_by}
-use Rattle.jsonpath_nodes.specs.compare.Comparisons.{Comparison, equal, not_equal, less, less_or_equal, greater, greater_or_equal, Seen, null_value, truth, decimal, text, pair, is_satisfied}
+use Rattle.jsonpath_nodes.specs.compare.Comparisons.{Comparison, equal, less, less_or_equal, greater, greater_or_equal, Seen, null_value, truth, decimal, text, pair, is_satisfied}
 use Rattle.jsonpath_nodes.specs.declared.compare.atom.Atom.{Atom}
 use Rattle.jsonpath_select.specs.Parts.{is_pair}
 use Rattle.jsonpath_select.specs.plan.Deciders.{is_order, some_right, one_of, extreme_values, is_among_known}
@@ -76,21 +76,19 @@ near_le cmp total a b c h k = upto_right cmp total b a c (not_less (cmp a b) h) 
 
 -- what satisfies the comparison with the old end does so with a value beyond it
 far : {A : Type 0} (cmp : A → A → Ordering) (total : IsTotalOrder cmp) (o : Comparison) → IsTrue (goes_by_order o) → (a b c : A) → is_satisfied o (cmp a b) ≡ true → is_satisfied o (cmp c a) ≡ true → is_satisfied o (cmp c b) ≡ true
-far cmp total equal order a b c h k = cc
-far cmp total not_equal order a b c h k = cc
 far cmp total less order a b c h k = far_lt cmp total a b c h k
 far cmp total less_or_equal order a b c h k = far_le cmp total a b c h k
 far cmp total greater order a b c h k = back_lt cmp total c b ∙ far_lt (flip_args cmp) (back_total total) a b c (sym (back_lt cmp total a b) ∙ h) (sym (back_lt cmp total c a) ∙ k)
 far cmp total greater_or_equal order a b c h k = back_le cmp total c b ∙ far_le (flip_args cmp) (back_total total) a b c (sym (back_le cmp total a b) ∙ h) (sym (back_le cmp total c a) ∙ k)
+far cmp total _ order a b c h k = cc
 
 -- what satisfies the comparison with a value that is not beyond the end does so with the end
 near : {A : Type 0} (cmp : A → A → Ordering) (total : IsTotalOrder cmp) (o : Comparison) → IsTrue (goes_by_order o) → (a b c : A) → is_satisfied o (cmp a b) ≡ false → is_satisfied o (cmp c b) ≡ true → is_satisfied o (cmp c a) ≡ true
-near cmp total equal order a b c h k = cc
-near cmp total not_equal order a b c h k = cc
 near cmp total less order a b c h k = near_lt cmp total a b c h k
 near cmp total less_or_equal order a b c h k = near_le cmp total a b c h k
 near cmp total greater order a b c h k = back_lt cmp total c a ∙ near_lt (flip_args cmp) (back_total total) a b c (sym (back_lt cmp total a b) ∙ h) (sym (back_lt cmp total c b) ∙ k)
 near cmp total greater_or_equal order a b c h k = back_le cmp total c a ∙ near_le (flip_args cmp) (back_total total) a b c (sym (back_le cmp total a b) ∙ h) (sym (back_le cmp total c b) ∙ k)
+near cmp total _ order a b c h k = cc
 
 -- ---- kind by kind
 
@@ -239,16 +237,16 @@ nothing_known all k x e g n t f = ap (λ b. b || all) (by x)
 
 pub number_known : (k : ValueSet) (d : Decimal) (new : List Decimal) (x : Seen) → new ≡ insert_key (λ a b. int_cmp (decimal_units a) (decimal_units b)) k.numbers.keys d
     → is_among_known (record k { numbers = record { keys = new } }) x ≡ (pair equal x (decimal (decimal_units d)) || is_among_known k x)
-number_known k d new (truth true) h = refl
 number_known k d new (decimal u) h =
     ap (list_any (λ e. is_eq (int_cmp u (decimal_units e)))) h
     ∙ insert_test (λ a b. int_cmp (decimal_units a) (decimal_units b)) (λ e. is_eq (int_cmp u (decimal_units e))) (λ a b same. ap is_eq (alike_right int_cmp_total (decimal_units a) (decimal_units b) u same)) d k.numbers.keys
+number_known k d new (truth true) h = refl
 number_known k d new _ h = refl
 
 pub text_known : (k : ValueSet) (t : Bor (List ℕ)) (new : List (Bor (List ℕ))) (x : Seen) → new ≡ insert_key (λ a b. slice_cmp nat_cmp a.now b.now) k.texts.keys t
     → is_among_known (record k { texts = record { keys = new } }) x ≡ (pair equal x (text t.now) || is_among_known k x)
-text_known k t new (truth true) h = refl
 text_known k t new (text s) h =
     ap (list_any (λ e. is_eq (slice_cmp nat_cmp s e.now))) h
     ∙ insert_test (λ a b. slice_cmp nat_cmp a.now b.now) (λ e. is_eq (slice_cmp nat_cmp s e.now)) (λ a b same. ap is_eq (alike_right nat_list_cmp_total a.now b.now s same)) t k.texts.keys
+text_known k t new (truth true) h = refl
 text_known k t new _ h = refl

@@ -41,11 +41,7 @@ turned greater_or_equal = less_or_equal
 
 back : (o : Comparison) (r : Ordering) → is_satisfied o (ordering_reverse r) ≡ is_satisfied (turned o) r
 back equal Less = refl
-back not_equal Less = refl
-back less Less = refl
-back less_or_equal Less = refl
-back greater Less = refl
-back greater_or_equal Less = refl
+back _ Less = refl
 back _ _ = refl
 
 in_order : {A : Type 0} (cmp : A → A → Ordering) → IsTotalOrder cmp → (o : Comparison) (a b : A) → is_satisfied o (cmp a b) ≡ is_satisfied (turned o) (cmp b a)

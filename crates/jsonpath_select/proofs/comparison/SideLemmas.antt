@@ -95,8 +95,7 @@ here_behind doc (literal vs) s t from end next h start ends goes = refl
 
 pub past_none : (o : Operand) → past 0 o ≡ o
 past_none (of_path f) = refl
-past_none (tags ts) = refl
-past_none (literal vs) = refl
+past_none _ = refl
 
 pub compare_next : (doc : Data) (op : FilterToken) (a b : Operand) (l r : Side) (count t lf le ln rf re rn : ℕ) (holds : Bool) (xs ys : List Atom) (out out' all : List ℕ)
     → ShowsSide doc a l → ShowsSide doc b r → (l.is_constant ≡ true → lf ≡ 0) → (r.is_constant ≡ true → rf ≡ 0)

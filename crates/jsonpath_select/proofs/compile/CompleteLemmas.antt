@@ -71,8 +71,7 @@ one_more token rest ks new h = rw h refl
 
 after_condition : (c : Condition) (ks : List Entry) → is_free (condition_entry c ∷ ks) ≡ true
 after_condition (lone (path absolute ss)) ks = refl
-after_condition (compare a op b) ks = refl
-after_condition (join op a b) ks = refl
+after_condition _ ks = refl
 
 after_term : (a : Term) (ks : List Entry) → is_free (term_entry a ∷ ks) ≡ true
 after_term (at_path (path absolute ss)) ks = refl

@@ -18,7 +18,7 @@ use Rattle.jsonpath_select.specs.plan.Ordered.{instruction_of}
 use Rattle.jsonpath_select.specs.plan.Standing.{along}
 use Rattle.jsonpath_select.specs.plan.Unfiltered.{is_plain_step}
 use Rattle.jsonpath_select.specs.declared.machine.instruction.Instruction.{Instruction}
-use Rattle.jsonpath_select.specs.declared.machine.instruction.Instruction.TheVariants.{Start, Step, Enter, Leave, Constant, Compares, Joins}
+use Rattle.jsonpath_select.specs.declared.machine.instruction.Instruction.TheVariants.{Step, Enter}
 
 -- ---- the next filter
 
@@ -31,21 +31,9 @@ begins_step _ = false
 one_next : (i : Instruction) (is : List Instruction) (ss : PathSteps) → CodesSteps (i ∷ is) ss → begins_step i ≡ true
 one_next (Step b t) is ss e = refl
 one_next (Enter b d) is ss e = refl
-one_next (Start b) is no_steps e = cc
-one_next (Start b) is (step_then leaves bracket (plain token) ss) e = cc
-one_next (Start b) is (step_then leaves bracket (tree.filter c) ss) e = cc
-one_next Leave is no_steps e = cc
-one_next Leave is (step_then leaves bracket (plain token) ss) e = cc
-one_next Leave is (step_then leaves bracket (tree.filter c) ss) e = cc
-one_next (Constant t) is no_steps e = cc
-one_next (Constant t) is (step_then leaves bracket (plain token) ss) e = cc
-one_next (Constant t) is (step_then leaves bracket (tree.filter c) ss) e = cc
-one_next (Compares o) is no_steps e = cc
-one_next (Compares o) is (step_then leaves bracket (plain token) ss) e = cc
-one_next (Compares o) is (step_then leaves bracket (tree.filter c) ss) e = cc
-one_next (Joins o) is no_steps e = cc
-one_next (Joins o) is (step_then leaves bracket (plain token) ss) e = cc
-one_next (Joins o) is (step_then leaves bracket (tree.filter c) ss) e = cc
+one_next _ is no_steps e = cc
+one_next _ is (step_then leaves bracket (plain token) ss) e = cc
+one_next _ is (step_then leaves bracket (tree.filter c) ss) e = cc
 
 -- behind plain steps a step of the path begins, or nothing stands there
 pub step_next : (left : List Instruction) (end : ℕ) (i : Instruction) (ss : PathSteps) → CodesSteps left ss → list_all is_plain_step (take end left) ≡ true → end < length left → i ≡ get_or left end i → begins_step i ≡ true
@@ -55,21 +43,12 @@ step_next (Step b t ∷ js) (suc n) i no_steps e all below is = cc
 step_next (Step b t ∷ js) (suc n) i (step_then leaves bracket (plain token) ss) e all below is =
     let later : CodesSteps js ss = cc in step_next js n i ss later all (omega (arith, below)) is
 step_next (Step b t ∷ js) (suc n) i (step_then leaves bracket (tree.filter c) ss) e all below is = cc
-step_next (Start b ∷ js) (suc n) i ss e all below is = cc
-step_next (Enter b d ∷ js) (suc n) i ss e all below is = cc
-step_next (Leave ∷ js) (suc n) i ss e all below is = cc
-step_next (Constant t ∷ js) (suc n) i ss e all below is = cc
-step_next (Compares o ∷ js) (suc n) i ss e all below is = cc
-step_next (Joins o ∷ js) (suc n) i ss e all below is = cc
+step_next _ (suc n) i ss e all below is = cc
 
 pub no_other : (i : Instruction) → begins_step i ≡ true → ((b : Bool) (t : Bor ParseToken) → i ≡ Step b t → ⊥) → ((b d : Bool) → i ≡ Enter b d → ⊥) → ⊥
 no_other (Step b t) h step enter = step b t refl
 no_other (Enter b d) h step enter = enter b d refl
-no_other (Start b) h step enter = cc
-no_other Leave h step enter = cc
-no_other (Constant t) h step enter = cc
-no_other (Compares o) h step enter = cc
-no_other (Joins o) h step enter = cc
+no_other _ h step enter = cc
 
 -- ---- what its condition is, and what stands behind it
 
@@ -135,12 +114,7 @@ module _ (text : List ℕ) (doc : Data) where
       let same : token ≡ t.now = cc in
       let later : CodesSteps is ss = cc in
       ap₂ (λ (l : Bool) (u : ParseToken). follow text doc ss (stepped text doc l u ls)) leads same ∙ plain_followed is ss (stepped text doc b t.now ls) later all
-  plain_followed (Start b ∷ is) ss ls e all = cc
-  plain_followed (Enter b d ∷ is) ss ls e all = cc
-  plain_followed (Leave ∷ is) ss ls e all = cc
-  plain_followed (Constant t ∷ is) ss ls e all = cc
-  plain_followed (Compares o ∷ is) ss ls e all = cc
-  plain_followed (Joins o ∷ is) ss ls e all = cc
+  plain_followed _ ss ls e all = cc
 
   -- .. the first of them, and then the others
   pub plain_split : (n : ℕ) (left : List Instruction) (ss : PathSteps) → CodesSteps left ss → list_all is_plain_step left ≡ true
@@ -155,12 +129,7 @@ module _ (text : List ℕ) (doc : Data) where
       let behind : CodesSteps is ss = cc in
       let next = plain_split n is ss behind all in
       (next.0, next.1, λ ls. ap₂ (λ (l : Bool) (u : ParseToken). follow text doc ss (stepped text doc l u ls)) leads same ∙ next.2 (stepped text doc b t.now ls), next.3)
-  plain_split (suc n) (Start b ∷ is) ss e all = cc
-  plain_split (suc n) (Enter b d ∷ is) ss e all = cc
-  plain_split (suc n) (Leave ∷ is) ss e all = cc
-  plain_split (suc n) (Constant t ∷ is) ss e all = cc
-  plain_split (suc n) (Compares o ∷ is) ss e all = cc
-  plain_split (suc n) (Joins o ∷ is) ss e all = cc
+  plain_split (suc n) _ ss e all = cc
 
   -- the next filter, and the steps behind it
   pub next_of : (steps : List Instruction) (leaves deep : Bool) (rest : List Instruction) (ss : PathSteps) → list_all is_plain_step steps ≡ true → CodesSteps (steps ++ Enter leaves deep ∷ rest) ss
@@ -192,9 +161,4 @@ module _ (text : List ℕ) (doc : Data) where
             let first : follow text doc ss (stepped text doc l token ls) ≡ follow text doc ss (stepped text doc b t.now ls) = ap₂ (λ (k : Bool) (u : ParseToken). follow text doc ss (stepped text doc k u ls)) leads same in
             first ∙ next.3 (stepped text doc b t.now ls),
       )
-  next_of (Start b ∷ steps) leaves deep rest ss all e = cc
-  next_of (Enter b d ∷ steps) leaves deep rest ss all e = cc
-  next_of (Leave ∷ steps) leaves deep rest ss all e = cc
-  next_of (Constant t ∷ steps) leaves deep rest ss all e = cc
-  next_of (Compares o ∷ steps) leaves deep rest ss all e = cc
-  next_of (Joins o ∷ steps) leaves deep rest ss all e = cc
+  next_of _ leaves deep rest ss all e = cc

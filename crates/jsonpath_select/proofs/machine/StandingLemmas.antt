@@ -6,7 +6,7 @@ use Rattle.serde_json.specs.Data.{Data}
 use Rattle.jsonpath_nodes.specs.place.Location.{Location, at, is_same}
 use Rattle.jsonpath_nodes.specs.place.Mark.{shown, look_kept, MarksStandAt}
 use Rattle.jsonpath_nodes.specs.step.Separate.{IsDisjoint, HasNamesInOrder, NamesInOrderAt, SelectsNoneTwice, goes_by_names, in_one_array, in_one_branch, is_every}
-use Rattle.jsonpath_nodes.specs.step.Steps.{Plain, every, named, listed, nth, union, range}
+use Rattle.jsonpath_nodes.specs.step.Steps.{Plain, every}
 use Rattle.jsonpath_select.specs.Parts.{at_index}
 use Rattle.jsonpath_select.specs.plan.Standing.{IsStanding}
 use Rattle.jsonpath_select.specs.declared.machine.standing.Standing.{Standing}
@@ -25,11 +25,7 @@ few_disjoint (l ∷ m ∷ ls) few = absurd (omega arith)
 -- no name is `*`, nor is an index, be it a whole number or none
 pub no_star_by_name : (doc : Data) (p : Plain) (ls : List Location) → goes_by_names p ≡ true → is_every p ≡ true → NamesInOrderAt doc ls
 no_star_by_name doc every ls h k = cc
-no_star_by_name doc (named n) ls h k = cc
-no_star_by_name doc (listed ns) ls h k = cc
-no_star_by_name doc (nth n) ls h k = cc
-no_star_by_name doc (union ns) ls h k = cc
-no_star_by_name doc (range first to by) ls h k = cc
+no_star_by_name doc _ ls h k = cc
 
 pub no_star_disjoint : (doc : Data) (p : Plain) (ls : List Location) → is_every p ≡ false → is_every p ≡ true → NamesInOrderAt doc ls
 no_star_disjoint doc p ls h k = cc

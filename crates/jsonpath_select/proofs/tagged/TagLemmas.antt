@@ -101,9 +101,8 @@ module _ (text : List ℕ) (doc : Data) where
   front_of_tag-term (tree.literal token) t c cs = refl
 
   behind_tag-term : (a : Term) (t : ℕ) (c : Location) (cs : List Location) → values_behind t (term_from a t (c ∷ cs)) ≡ term_from a (suc t) cs
-  behind_tag-term (tree.at_path (path true ss)) t c cs = refl
   behind_tag-term (tree.at_path (path false ss)) t c cs = ap (λ (ps : List Tagged). of_path (record { shared = false; pairs = ps })) (behind_tag-spread (reached text doc (path false ss)) t c cs)
-  behind_tag-term (tree.literal token) t c cs = refl
+  behind_tag-term _ t c cs = refl
 
   pub compared-terms : (op : FilterToken) (a b : Term) (t : ℕ) (cs : List Location)
       → compared doc op t (length cs) (term_from a t cs) (term_from b t cs) ≡ numbers_where (λ c. has_pair op (values text doc a c) (values text doc b c)) t cs

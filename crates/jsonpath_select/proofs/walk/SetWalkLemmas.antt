@@ -94,9 +94,8 @@ module _ (text : List ℕ) (doc : Data) where
 
   behind_of : (a : Term) (t : ℕ) (c : Location) (cs : List Location) → values_behind t (terms_from a t (c ∷ cs)) ≡ terms_from a (suc t) cs
   unfolding sets_from terms_from
-  behind_of (tree.at_path (path true ss)) t c cs = refl
   behind_of (tree.at_path (path false ss)) t c cs = ap (λ (ps : List Tagged). of_path (record { shared = false; pairs = ps })) (behind_tag-spread (set_reached text doc (path false ss)) t c cs)
-  behind_of (tree.literal token) t c cs = refl
+  behind_of _ t c cs = refl
 
   compared_from : (op : FilterToken) (a b : Term) (t : ℕ) (cs : List Location)
       → compared doc op t (length cs) (terms_from a t cs) (terms_from b t cs) ≡ numbers_where (λ c. has_pair op (set_values a c) (set_values b c)) t cs
@@ -111,8 +110,7 @@ module _ (text : List ℕ) (doc : Data) where
   terms_are : (a : Term) (cs : List Location) → term_sets text doc a cs ≡ terms_from a 0 cs
   unfolding sets_from terms_from
   terms_are (tree.at_path (path true ss)) cs = refl
-  terms_are (tree.at_path (path false ss)) cs = refl
-  terms_are (tree.literal token) cs = refl
+  terms_are _ cs = refl
 
   pub compared_sets : (op : FilterToken) (a b : Term) (n : ℕ) (cs : List Location) → n ≡ length cs
       → compared doc op 0 n (term_sets text doc a cs) (term_sets text doc b cs) ≡ numbers_where (set_holds text doc (tree.compare a op b)) 0 cs
