@@ -41,8 +41,10 @@ impl<'a, 't> Machine<'a, 't> {
     {
         match instruction {
             Instruction::Start { absolute } => self.start_path(absolute, stacks)?,
-            Instruction::Step { leaves, token } => self.take_plain_step(leaves, token, stacks)?,
-            Instruction::Enter { leaves, deep } => self.begin_filter(leaves, deep, stacks)?,
+            Instruction::Step { leaves, token } => return self.take_plain_step(
+                leaves, token, stacks,
+            ),
+            Instruction::Enter { leaves, deep } => return self.begin_filter(leaves, deep, stacks),
             Instruction::Leave => self.end_filter(stacks)?,
             Instruction::Constant(token) => stacks.operands.push(Operand::Literal(token))?,
             Instruction::Compares(op) => self.compare_two_operands(op, stacks)?,
