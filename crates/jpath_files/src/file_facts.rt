@@ -56,7 +56,8 @@ impl FileFacts {
         self.owner == other.owner && self.group == other.group
     }
 
-    /// Whether these facts are of one file, of the same device and inode, even if it was changed in between.
+    /// Whether `self` and `other` are facts of one file: they have the same device and inode. The file may have been
+    /// changed between the two.
     pub fn is_same_file(&self, other: &FileFacts) -> bool
         ensures { IsTrue result ↔ ((self.now.device ≡ other.now.device) × (self.now.inode ≡ other.now.inode)) }
     {

@@ -36,7 +36,7 @@ impl NumberKey {
         }
     }
 
-    /// Compares two keys: the result is the order of the numbers that they were made of.
+    /// The order of the two numbers that these keys were made of.
     pub fn compare(&self, other: &NumberKey) -> Ordering
         ensures { (s t : List ℕ) → IsKeyOf s self.now → IsKeyOf t other.now → result ≡ text_cmp s t }
     {

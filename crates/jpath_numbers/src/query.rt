@@ -11,7 +11,7 @@ use jsonpath_paths::{
 };
 use std::alloc::Global;
 
-/// A compiled path of `jpath`, with its token list.
+/// A path that the program `jpath` has compiled, stored with its token list.
 #[derive(Drop)]
 pub struct Query<'a> {
     path: PathParser<'a>,

@@ -128,7 +128,8 @@ fn in_text(part: TextPart, is_name: bool, class: Class) -> Wanted
 }
 
 /// The reason, for an error message, why a byte of class `class` is wrong in the mode `mode` of the recognizer: what
-/// was expected there, or what is wrong. Each byte that it names would have been right there; others may be, too.
+/// was expected in its place, or what is wrong with it. Each byte that the reason names would have been accepted; it
+/// need not name all of them.
 pub fn what_was_wanted(mode: Mode, top: Top, class: Class) -> Wanted
     ensures { (c : Class) → names result c ≡ true → move mode top c ≢ Wrong }
 {

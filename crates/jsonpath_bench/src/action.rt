@@ -51,9 +51,9 @@ impl Action {
     }
 }
 
-/// Makes the call that `action` means `count` times, and returns the time of all together and the number of results of
-/// one call: the selected values or nodes; 0 or 1 for a first value and for whether there is any; 1 for a compiled
-/// path. The time does not include the copies of the document that updates change.
+/// Makes the call that `action` means `count` times, and returns the total time and the number of results of one call:
+/// of selected values or nodes, also for an update; 0 or 1 for the first value and for whether any value is selected;
+/// 1 for compiling. Each update changes a fresh copy of the document; the time does not include making the copies.
 pub fn measure(
     rt: &HostRuntime,
     action: Action,

@@ -15,7 +15,7 @@ use std::fmt;
 pub enum Fault {
     /// The command line is not valid: an unknown command, too few or too many words, or a word that is no UTF-8.
     Usage,
-    /// A path or the input has an error, the answer can't be printed, or memory ran out.
+    /// A path or the input has an error, the output has a number that can't be printed, or memory ran out.
     Refused(JsonPathError),
     /// A read of the input or a write of the output failed.
     Io,

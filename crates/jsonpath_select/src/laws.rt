@@ -133,9 +133,9 @@ pub fn each_location_has_a_value()
     all_locations_stand_below_root();
 }
 
-/// Lemma: in a filter, what begins at the root is the same at every candidate: a side of a comparison that is a path
-/// from the root has one list of values, and a condition whose paths all begin at the root holds at all candidates or
-/// at none. So it is decided once.
+/// Lemma: in a filter, a path from the root (`$`) does not depend on the candidate. So a side of a comparison that is
+/// such a path has the same values at every candidate, and a condition whose paths all begin at the root holds at all
+/// candidates or at none. Both are computed once.
 ///
 /// ```text
 /// laws::rooted_is_same_for_all_candidates();

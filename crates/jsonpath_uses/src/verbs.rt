@@ -128,7 +128,7 @@ pub fn remove_in(
     path.remove_in(alloc, value)
 }
 
-/// Puts a copy of one value in the document at what the path selects.
+/// Replaces each value of the document that the path selects by a copy of one value.
 pub fn set_in(
     alloc: Global,
     value: &mut Value,

@@ -48,7 +48,7 @@ pub trait Visitor {
         ensures stay { StayGiven (gives self.old) (gives self.new) };
 }
 
-/// Why the visits of a stream's documents ended.
+/// Why a run over the documents of a stream ended, which calls a visitor for each.
 #[derive(Clone, Copy, Debug, Drop, PartialEq, Eq)]
 pub enum How<S> {
     /// The stream was read to its end, and each document was visited.

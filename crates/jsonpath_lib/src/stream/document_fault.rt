@@ -33,7 +33,8 @@ pub enum FaultKind {
     ReadFailed,
     /// Memory ran out.
     OutOfMemory,
-    /// The stream has more bytes than 64 bits can count. The error's position is that after the document before.
+    /// The stream has more bytes than 64 bits can count. The error's position is the end of the last document before
+    /// it.
     TooLong,
 }
 

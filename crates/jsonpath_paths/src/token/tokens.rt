@@ -341,7 +341,8 @@ pub enum ParseToken {
     Relative,
     /// Begins a step after a single dot: it selects among the children of each node.
     In,
-    /// Begins a step after `..`: it selects among the children of each node and of all its descendants.
+    /// Begins a step after `..`: it selects among the children of each node that the steps before selected, and among
+    /// those of all its descendants.
     Leaves,
     /// `*`: the step selects all children.
     All,
