@@ -99,7 +99,7 @@ pub enum EditWords<'a> {
 }
 
 impl<'a> EditWords<'a> {
-    /// The text of the path in this edit option, whose selected values are edited.
+    /// The path text of this edit option: what it selects is edited.
     pub fn path(&self) -> &'a str
         ensures { result.now ≡ path_of self.now }
     {

@@ -9,7 +9,7 @@ use std::time::{Duration, Instant};
 /// A call of the library whose time is measured.
 #[derive(Clone, Copy)]
 pub enum Action {
-    /// A question about what the compiled path selects, such as which values, or how many.
+    /// Asks what the compiled path selects, such as the values, or how many.
     Ask(Asked),
     /// Puts null at what the compiled path selects, in a copy of the document.
     Delete,
@@ -19,18 +19,18 @@ pub enum Action {
     Compile,
 }
 
-/// A question about what a compiled path selects in a document; the time of its answer is measured.
+/// What is asked of a compiled path in a document; the time of the answer is measured.
 #[derive(Clone, Copy)]
 pub enum Asked {
-    /// Which values does the path select?
+    /// The values that the path selects.
     Values,
-    /// Which nodes does the path select, each a value with its location?
+    /// The nodes that the path selects, each a value with its location.
     Spots,
-    /// How many values does the path select?
+    /// The number of values that the path selects.
     Count,
-    /// What is the first value that the path selects?
+    /// The first value that the path selects, if there is one.
     First,
-    /// Does the path select any value?
+    /// Whether the path selects any value.
     Exists,
 }
 

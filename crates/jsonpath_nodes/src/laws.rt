@@ -157,8 +157,8 @@ pub fn topmost_descend_to_same_set()
     ensures step { DescentOfTheTopmost }
 {}
 
-/// Lemma: if no location of a list lies below another and the closure removes nothing, a run of single updates leaves
-/// at each location the closure's result for the value there, and all else as it was.
+/// Lemma: if no location of a list is equal to another or below it, and the closure removes nothing, a run of single
+/// updates leaves at each location the closure's result for the value that was there before, and all else as it was.
 ///
 /// ```text
 /// laws::replacements_stay_in_place();

@@ -49,11 +49,11 @@ pub trait Mark<'a>: Drop + Sized {
     fn value(&self) -> &'a Value
         ensures { view result.now ≡ content self.now };
 
-    /// What the locations of an array's items have in common, if the value is an array; `push_item` takes it.
+    /// For a node that is an array: its location, in the form from which `push_item` makes those of its items.
     fn shared_by_items(&self, alloc: Global) -> Result<Self::Items, NoMemory>
         ensures { IfOk result (λ here. items_stand here ≡ stand self.now) };
 
-    /// What the locations of an object's members have in common, if the value is an object; `push_member` takes it.
+    /// For a node that is an object: its location, in the form from which `push_member` makes those of its members.
     fn shared_by_members(&self, alloc: Global) -> Result<Self::Members, NoMemory>
         ensures { IfOk result (λ here. members_stand here ≡ stand self.now) };
 

@@ -10,7 +10,8 @@ use crate::step::plain_step::PlainStep;
 use std::alloc::Global;
 use std::borrow::CowStr;
 
-/// What a step without a condition selects among the children of a value. Names in it are taken literally.
+/// What a step without a condition selects among the children of a value. Its names are those of members as they are,
+/// without quotes and escapes.
 ///
 /// ```text
 /// let both = Stride {

@@ -114,8 +114,9 @@ impl ValueWalker {
         plain_step_from_each(alloc, spots, &PlainStep::Union(ns))
     }
 
-    /// A slice: from each node that is an array the items at `from`, `from + step` and so on, below `to`; below zero,
-    /// both count from the end. A missing `from` is 0, `to` the length, `step` 1. A `step` of 0 selects nothing.
+    /// A slice: from each node that is an array the items at `from`, `from + step` and so on, before `to`. A negative
+    /// `from` or `to` counts from the end. A missing `from` is 0, `to` the length, `step` 1. A `step` of 0 selects
+    /// nothing.
     ///
     /// ```text
     /// let found = ValueWalker::next_with_range(alloc, items.as_slice(), Some(1), None, None)?;

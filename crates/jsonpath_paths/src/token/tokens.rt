@@ -350,9 +350,9 @@ pub enum ParseToken {
     Key(StrRange),
     /// The spans of the names that a step selects, two or more.
     Keys(Items<StrRange>),
-    /// The opening bracket of a step.
+    /// The `[` that opens a step.
     Array,
-    /// The closing bracket of a step.
+    /// The `]` that ends a step.
     ArrayEof,
     /// A comparison or a connective of a filter, which follows the tokens of its two sides.
     Filter(FilterToken),

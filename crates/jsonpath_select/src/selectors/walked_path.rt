@@ -62,7 +62,7 @@ impl<'b> AnyPath for WalkedPath<'b> {
 /// assert!(rt; path.parts().text == "$.a");
 /// ```
 pub trait OfNode: AnyPath {
-    /// Makes a path of this type from a `Node`, a compiled path that owns its text.
+    /// Makes a compiled path of this type from a `Node`, the compiled path that owns its text.
     ///
     /// ```text
     /// let node: Node = OfNode::of_node(Parser::compile(alloc, "$.a")?);
