@@ -72,12 +72,13 @@ pub snoc_same : {X : Type 0} (l m : List X) (s t : X) → l ++ s ∷ [] ≡ m ++
 snoc_same [] [] s t e = (refl, cc)
 snoc_same [] (x ∷ []) s t e = cc
 snoc_same [] (x ∷ y ∷ m) s t e = cc
+snoc_same (x ∷ []) [] s t e = cc
+snoc_same (x ∷ y ∷ l) [] s t e = cc
 snoc_same (x ∷ l) (y ∷ m) s t e =
     let head : x ≡ y = cc in
     let rest : l ++ s ∷ [] ≡ m ++ t ∷ [] = cc in
     let later = snoc_same l m s t rest in
     (ap₂ (λ a b. a ∷ b) head later.0, later.1)
-snoc_same _ [] s t e = cc
 
 abbrev extended : Location → List Step → List Location
 extended l ss = map (λ m. l ++ m) (map (λ s. s ∷ []) ss)
