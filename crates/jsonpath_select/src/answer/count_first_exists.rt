@@ -6,8 +6,7 @@ ghost use Rattle.jsonpath_select.specs.answer.Counted.{IsFirstOf, TellsIfAny};
 ghost use Rattle.jsonpath_select.specs.AnyPath.{ArePartsOf};
 ghost use Rattle.jsonpath_select.specs.Meaning.{Selects};
 
-use crate::answer::of_spots::values_of_selected_spots;
-use crate::answer::select::{spot_set_by_tree, spots_by_tree};
+use crate::answer::select::{spot_set_by_tree, values_by_tree};
 use crate::compile::any_path::PathParts;
 use crate::error::JsonPathError;
 use crate::error::halt::Halt;
@@ -32,8 +31,7 @@ pub(crate) fn first_by_parts<'a>(
 {
     let text = path.text;
     if (Choice { alloc, text }).needs_tree_walk(path.tree)? {
-        let spots = spots_by_tree(alloc, json, text, path.tree)?;
-        let found = values_of_selected_spots(alloc, spots.as_slice())?;
+        let found = values_by_tree(alloc, json, text, path.tree)?;
         return Ok(found.first().copied());
     }
     Ok(first_by_tokens(alloc, json, text, path.tokens)?)

@@ -129,8 +129,7 @@ pub(crate) fn values_by_parts<'a>(
 {
     let text = path.text;
     if (Choice { alloc, text }).needs_tree_walk(path.tree)? {
-        let spots = spots_by_tree(alloc, json, text, path.tree)?;
-        return values_of_selected_spots(alloc, spots.as_slice());
+        return values_by_tree(alloc, json, path.text, path.tree);
     }
     values_by_tokens(alloc, json, path.text, path.tokens)
 }
@@ -170,6 +169,23 @@ pub(crate) fn spots_by_tree<'a>(
         text,
     };
     Ok(walk.select_spots(tree)?)
+}
+
+// The values that the path with this text and tree selects in the value, in the path's order, by the walk along the
+// tree.
+pub(crate) fn values_by_tree<'a>(
+    alloc: Global,
+    json: &'a Value,
+    text: &str,
+    tree: &ParserNode,
+) -> Result<Vec<&'a Value>, JsonPathError>
+    requires { Spells text.now (path_of tree.now) }
+    ensures ok { IfOk result (λ found. Selects text.now (view json.now) (map (λ v. view v.now) found.items)) }
+    ensures refused { IfErr result (λ e. e ≡ JsonPathError.OutOfMemory) }
+{
+    let spots = spots_by_tree(alloc, json, text, tree)?;
+    let found = values_of_selected_spots(alloc, spots.as_slice())?;
+    Ok(found)
 }
 
 // Spots at what the path with this text and tree selects in the value, each location once, by the walk over sets.
@@ -227,7 +243,8 @@ pub(crate) fn values_by_tokens<'a>(
         Err(Halt::OutOfMemory) => Err(JsonPathError::OutOfMemory),
         Err(Halt::NeedsLocations) => {
             let spots = spots_by_tokens(alloc, json, text, tokens)?;
-            values_of_selected_spots(alloc, spots.as_slice())
+            let found = values_of_selected_spots(alloc, spots.as_slice())?;
+            Ok(found)
         }
     }
 }

@@ -1,5 +1,4 @@
 use Rattle.std.proofs.Common.{List, [], false, refl, sym, subst}
-use Rattle.std.proofs.lemmas.Result.{IfOk-weaker}
 use Rattle.serde_json.specs.View.{view}
 use Rattle.jsonpath_nodes.specs.declared.place.spot.Spot.{Spot}
 use Rattle.jsonpath_select.specs.Meaning.{sel, SelectsSpots}
@@ -19,10 +18,8 @@ returns-in-Ok-clause-ok c =
       holds = contents-at false (λ m. []) (λ m. view m.now) doc (sel c.args.text.now doc p) c.in-Ok.found.items (c.in-Ok.ensures.ok p c.requires.holds);
     }
 
-pub returns-in-Err-NeedsLocations-clause-ok : goal.returns-in-Err-NeedsLocations-clause-ok
-returns-in-Err-NeedsLocations-clause-ok c =
+pub returns-in_ok-found-in-Err-NeedsLocations-clause-ok : goal.returns-in_ok-found-in-Err-NeedsLocations-clause-ok
+returns-in_ok-found-in-Err-NeedsLocations-clause-ok c =
     let text = c.args.text.now in
     let doc = view c.args.json.now in
-    IfOk-weaker c.values_of_selected_spots.result _ _
-    (λ found selects. selects text doc (subst (λ (ss : List Spot). SelectsSpots text doc ss) (sym c.as_slice.ensures.value) c.in_ok-spots-in-Err-NeedsLocations.ensures.ok))
-    c.values_of_selected_spots.ensures.ok
+    c.in_ok-found-in-Err-NeedsLocations.ensures.ok text doc (subst (λ (ss : List Spot). SelectsSpots text doc ss) (sym c.as_slice.ensures.value) c.in_ok-spots-in-Err-NeedsLocations.ensures.ok)
