@@ -78,10 +78,25 @@ stop_ticking() {
     printf '\r\033[K' >&2
 }
 
-# Ends what is under way, and says what stands. rt ends all that it started.
+# The processes that a process has started, and those that they have.
+all_below() {
+    for child in $(cat /proc/"$1"/task/*/children 2> /dev/null); do
+        printf '%s ' "$child"
+        all_below "$child"
+    done
+}
+
+# Ends what is under way with all that it has started: `rt try` leaves its compiler running.
+end_under_way() {
+    [ -n "$under_way" ] || return
+    started=$(all_below "$under_way")
+    { kill "$under_way" && wait "$under_way" || kill $started; kill $started; } 2> /dev/null
+}
+
+# Ends what is under way, and says what stands.
 interrupted() {
     trap '' INT TERM HUP
-    [ -z "$under_way" ] || { kill "$under_way" && wait "$under_way"; } 2> /dev/null
+    end_under_way
     stop_ticking
     rm -rf ${room:+"$room"} ${site:+"$site"}
     refuse "$1" "interrupted. $what_stands"

@@ -24,15 +24,16 @@ WORDS of jsonpath_run:
   mask PATH..     the document with null in place of what any of the paths selects
   check PATH      'ok' if the path is well formed; reads no input
 
-The first ./run proves the program: fifteen to thirty minutes; later ones start at once. Without a proof the first answer
-takes one to three minutes, later ones come at once. Status: 0 done; 1 error in a path, the document or the answer;
-2 wrong words; 3 input/output failed; 69 no command 'rt'; 70 no program was made; 73 no place to write; 130 interrupted.
-See README.md; docs/PATHS.md has the paths, docs/JPATH.md the words of jpath.
+The first ./run proves the program: fifteen to thirty minutes; later ones start at once. Without a proof the
+first answer takes one to three minutes, later ones come at once; a faster build goes on for a minute behind
+the first. Status: 0 done; 1 error in a path, the document or the answer; 2 wrong words; 3 input/output
+failed; 69 no command 'rt'; 70 no program was made; 73 no place to write; 130 interrupted. See README.md;
+docs/PATHS.md has the paths, docs/JPATH.md the words of jpath.
 TEXT
     exit 0
 }
 
-usage_of_run='usage: ./run [--unproved] select|delete|remove|check PATH | mask PATH..'
+usage_of_run='usage: ./run [--unproved] select|delete|remove|check PATH | mask PATH.. | ./run --unproved jpath WORDS..'
 usage_of_jpath='usage: ./run --unproved jpath [OPTIONS] PATH [FILE..] | [OPTIONS] -e PATH.. [FILE..] | [OPTIONS] EDIT.. [FILE..]'
 
 are_words_of_run() {
