@@ -89,7 +89,7 @@ judge $? 'more is in the repository than its two crates, the six and crates.txt'
 mv "$mine/app/proofs" "$work/proofs"
 says 'the caller without its proof' 1 "fn app::found: proved$line*fn app::price: no proof*${line}logic=not-proved" within app rt check
 echo 'fn changed() -> u8 { true }' >> "$mine/jsonpath_streams/src/lib.rt"
-says 'a source that was changed' 1 'jsonpath_streams/src/lib.rt:*no library was built' within app rt check
+says 'a source that was changed' 1 'jsonpath_streams/src/lib.rt:*mismatched-types' within app rt check
 rm -rf "$work/library" "$work/mine"
 for crate in $crates; do
     grep -qx "$(grep "^$crate:" "$here/crates.txt")" "$here/docs/LIBRARY.md"
