@@ -4,6 +4,7 @@ pub mod LeadLemmas
 pub mod ThereLemmas
 pub mod OrderLemmas
 pub mod KeptLemmas
+pub mod WayLemmas
 pub mod GuardedNameLemmas
 pub mod StepsLeftLemmas
 pub mod OrderedSpotLemmas

@@ -7,6 +7,7 @@ mod memory;
 mod place;
 mod step;
 pub mod steps_on_marks;
+mod tree;
 mod update;
 
 pub use compare::atom::{Atom, to_num};
@@ -18,7 +19,6 @@ pub use place::mark::Mark;
 pub use place::spot::{PathStep, Spot, Steps};
 pub use place::steps_from_root::StepsFromRoot;
 pub use step::child_lookup::abs_index;
-pub use step::descend::Descends;
 pub use step::plain_step::PlainStep;
 pub use step::stride::{Selection, Stride};
 pub use step::value_walker::ValueWalker;

@@ -5,5 +5,6 @@ pub(crate) mod location;
 pub(crate) mod mark;
 pub(crate) mod reversed_steps;
 pub(crate) mod spot;
+pub(crate) mod spot_nodes;
 pub(crate) mod steps_from_root;
 pub(crate) mod trail;

@@ -12,8 +12,6 @@ ghost use Rattle.jsonpath_nodes.specs.step.Steps.{every, named, step, all_below,
 
 use crate::memory::NoMemory;
 use crate::place::mark::Mark;
-use crate::step::children::{add_member_of_value, add_selected_children};
-use crate::step::descend::Descends;
 use crate::step::plain_step::PlainStep;
 use crate::step::stride::{Stride, listed_names, plain_step_of_selection};
 use std::alloc::Global;
@@ -62,7 +60,7 @@ fn selected_children_of_each<'a, M: Mark<'a>>(
 {
     let mut found = Vec::with_capacity(alloc, marks.len())?;
     for mark in marks {
-        add_selected_children(mark.value(), mark, alloc, plain, &mut found)?;
+        mark.add_selected_children(alloc, plain, &mut found)?;
     }
     Ok(found)
 }
@@ -83,7 +81,7 @@ pub fn named_member_from_each<'a, M: Mark<'a>>(
 {
     let mut found = Vec::with_capacity(alloc, marks.len())?;
     for mark in marks {
-        add_member_of_value(mark.value(), mark, alloc, name, &mut found)?;
+        mark.add_named_member(alloc, name, &mut found)?;
     }
     Ok(found)
 }
@@ -104,7 +102,7 @@ pub fn add_named_member<'a, M: Mark<'a>>(
 ) -> Result<(), NoMemory>
     ensures { OnOk result (MarksGainBy M.located M.stand M.content (λ doc ls. step doc (named name.now) ls) (mark.now ∷ []) out.old.items out.new.items) }
 {
-    add_member_of_value(mark.value(), mark, alloc, name, out)?;
+    mark.add_named_member(alloc, name, out)?;
     Ok(())
 }
 
@@ -116,7 +114,7 @@ pub fn add_named_member<'a, M: Mark<'a>>(
 /// assert_eq!(rt; found.len(), 1);
 /// ```
 #[inline]
-pub fn plain_step_from_all_below<'a, M: Descends<'a>>(
+pub fn plain_step_from_all_below<'a, M: Mark<'a>>(
     alloc: Global,
     marks: &[M],
     plain: &PlainStep<'_>,
@@ -140,7 +138,7 @@ pub fn plain_step_from_all_below<'a, M: Descends<'a>>(
 /// let found = steps_on_marks::stride_from_each(alloc, &[&document], &second)?;
 /// assert_eq!(rt; found.len(), 1);
 /// ```
-pub fn stride_from_each<'a, M: Descends<'a>>(
+pub fn stride_from_each<'a, M: Mark<'a>>(
     alloc: Global,
     marks: &[M],
     stride: &Stride<'_>,
@@ -164,7 +162,7 @@ pub fn stride_from_each<'a, M: Descends<'a>>(
 /// assert_eq!(rt; found.len(), 4);
 /// ```
 #[inline]
-pub fn flattened_from_each<'a, M: Descends<'a>>(
+pub fn flattened_from_each<'a, M: Mark<'a>>(
     alloc: Global,
     marks: &[M],
 ) -> Result<Vec<M>, NoMemory>
@@ -185,7 +183,7 @@ pub fn flattened_from_each<'a, M: Descends<'a>>(
 /// assert_eq!(rt; found.len(), 4);
 /// ```
 #[inline]
-pub fn flattened_from_mark<'a, M: Descends<'a>>(alloc: Global, mark: &M) -> Result<Vec<M>, NoMemory>
+pub fn flattened_from_mark<'a, M: Mark<'a>>(alloc: Global, mark: &M) -> Result<Vec<M>, NoMemory>
     ensures { IfOk result (λ found. MarksLeadBy M.located M.stand M.content flattened (mark.now ∷ []) found.items) }
 {
     let mut found = Vec::new(alloc);
@@ -202,7 +200,7 @@ pub fn flattened_from_mark<'a, M: Descends<'a>>(alloc: Global, mark: &M) -> Resu
 /// assert_eq!(rt; found.len(), 6);
 /// ```
 #[inline]
-pub fn candidates_below_mark<'a, M: Descends<'a>>(
+pub fn candidates_below_mark<'a, M: Mark<'a>>(
     alloc: Global,
     mark: &M,
 ) -> Result<Vec<M>, NoMemory>

@@ -1,20 +1,17 @@
 -- What marks see, by what spots see.
-use Rattle.std.proofs.Common.{◌≡◌, ℕ, ◌≤◌, List, [], ◌∷◌, ◌++◌, map, length, drop, Bool, true, false, Option, Some, string_cmp, refl, sym, ap, ap₂, ◌∙◌, append-nil, drop_of_length-le}
+use Rattle.std.proofs.Common.{◌≡◌, ℕ, ◌≤◌, List, [], ◌∷◌, ◌++◌, map, length, drop, Bool, true, false, Option, Some, refl, sym, ap, ap₂, ◌∙◌, append-nil, drop_of_length-le}
 use Rattle.std.specs.Prelude.{flat_map, option_map, unwrap_or}
 use Rattle.std.proofs.lemmas.List.{map-append}
-use Rattle.std.specs.List.Sorted.{IsStrictlySortedBy}
-use Rattle.std.specs.Map.{keys_of}
 use Rattle.serde_json.specs.Data.{Data, array, object, Items, no_items, Members, no_members}
-use Rattle.serde_json.specs.View.{items_view, members_view}
-use Rattle.serde_json.specs.declared.value.Value.{Value}
-use Rattle.serde_json.proofs.Views.{Entry}
 use Rattle.jsonpath_nodes.specs.place.Location.{Location, at, below}
+use Rattle.jsonpath_nodes.specs.place.Order.{Ascend}
 use Rattle.jsonpath_nodes.specs.step.Steps.{Plain, every, single_steps, from, from_each, step, all_below, deep}
 use Rattle.jsonpath_nodes.specs.place.SpotPlace.{LeadsBy, location_of, look, look_from, sight_of, value_of}
 use Rattle.jsonpath_nodes.specs.declared.place.spot.Spot.{Spot}
 use Rattle.jsonpath_nodes.specs.place.Mark.{kept_location, shown, look_kept, look_kept_from, MarksStandAt, MarksLeadBy, seen_from_each}
 use Rattle.jsonpath_nodes.proofs.place.SightLemmas.{Sight, kid_sights, items_children-sights, members_children-sights}
 use Rattle.jsonpath_nodes.proofs.step.ChildLemmas.{Kid, item_kids, member_kids, itself}
+use Rattle.jsonpath_nodes.proofs.step.DeepLemmas.{deep_items, deep_members}
 use Rattle.jsonpath_nodes.proofs.step.ListLemmas.{from_each-twice}
 use Rattle.jsonpath_nodes.proofs.place.LeadLemmas.{look-below}
 use Rattle.jsonpath_nodes.proofs.step.NowhereLemmas.{IsLeaf, leaf_selects, leaf_deep, nothing_deep, nothing_gained}
@@ -25,7 +22,7 @@ use Rattle.jsonpath_nodes.specs.plan.Containers.{some_container}
 abbrev pub keep : Bool → Sight → Sight
 keep b s = (kept_location b s.0, s.1)
 
-kept-twice : (b : Bool) (l m : Location) → kept_location b (kept_location b l ++ m) ≡ kept_location b (l ++ m)
+pub kept-twice : (b : Bool) (l m : Location) → kept_location b (kept_location b l ++ m) ≡ kept_location b (l ++ m)
 kept-twice true l m = refl
 kept-twice false l m = refl
 
@@ -76,15 +73,23 @@ pub children_of_items : (b : Bool) (l : Location) (all : Items) → shown_items 
 children_of_items b l all =
     shown_kids-sights b l (item_kids 0 all) ∙ ap (map (keep b)) (items_children-sights l all) ∙ sym (seen b l (array all) (single_steps every (array all)))
 
-pub children_of_members : (b : Bool) (l : Location) (es : List Entry) → IsStrictlySortedBy string_cmp (keys_of es) → shown_members b l (members_view es) ≡ map (look_kept_from b l (object (members_view es))) (single_steps every (object (members_view es)))
-children_of_members b l es h =
-    shown_kids-sights b l (member_kids (members_view es)) ∙ ap (map (keep b)) (members_children-sights l es h) ∙ sym (seen b l (object (members_view es)) (single_steps every (object (members_view es))))
+pub children_of_members : (b : Bool) (l : Location) (ms : Members) → Ascend ms → shown_members b l ms ≡ map (look_kept_from b l (object ms)) (single_steps every (object ms))
+children_of_members b l ms h =
+    shown_kids-sights b l (member_kids ms) ∙ ap (map (keep b)) (members_children-sights l ms h) ∙ sym (seen b l (object ms) (single_steps every (object ms)))
 
-pub deep_of_kids : (b : Bool) (p : Plain) (l : Location) (d : Data) (ks : List Kid) → map (look_from l d) (deep p d) ≡ map (look_from l d) (single_steps p d) ++ kid_sights (deep p) l ks
+deep_of_kids : (b : Bool) (p : Plain) (l : Location) (d : Data) (ks : List Kid) → map (look_from l d) (deep p d) ≡ map (look_from l d) (single_steps p d) ++ kid_sights (deep p) l ks
     → map (look_kept_from b l d) (deep p d) ≡ map (look_kept_from b l d) (single_steps p d) ++ seen_kids b (deep p) l ks
 deep_of_kids b p l d ks is =
     seen b l d (deep p d) ∙ ap (map (keep b)) is ∙ map-append (keep b) (map (look_from l d) (single_steps p d)) (kid_sights (deep p) l ks)
     ∙ ap₂ (λ (x y : List Sight). x ++ y) (sym (seen b l d (single_steps p d))) (sym (seen_kids-sights b (deep p) l ks))
+
+pub deep_of_items : (b : Bool) (p : Plain) (l : Location) (all : Items)
+    → map (look_kept_from b l (array all)) (deep p (array all)) ≡ map (look_kept_from b l (array all)) (single_steps p (array all)) ++ seen_items b (deep p) l 0 all
+deep_of_items b p l all = deep_of_kids b p l (array all) (item_kids 0 all) (deep_items p l all)
+
+pub deep_of_members : (b : Bool) (p : Plain) (l : Location) (ms : Members) → Ascend ms
+    → map (look_kept_from b l (object ms)) (deep p (object ms)) ≡ map (look_kept_from b l (object ms)) (single_steps p (object ms)) ++ seen_members b (deep p) l ms
+deep_of_members b p l ms h = deep_of_kids b p l (object ms) (member_kids ms) (deep_members p l ms h)
 
 -- the same of any walk
 pub of_kids : (b : Bool) (f : Data → List Location) (l : Location) (d : Data) (ks : List Kid) (own : List Location) → kid_sights f l ks ≡ map (look_from l d) own → seen_kids b f l ks ≡ map (look_kept_from b l d) own
@@ -92,17 +97,15 @@ of_kids b f l d ks own is = seen_kids-sights b f l ks ∙ ap (map (keep b)) is �
 
 -- ---- the ends of the loops, for whatever stands for the children (seen_items, shown_items, ..)
 
-pub items_end : (child_sights : ℕ → Items → List Sight) (i : ℕ) (xs vs : List Value) (before out after : List Sight) → ((n : ℕ) → child_sights n no_items ≡ []) → xs ≡ vs → length xs ≤ i
-    → out ++ child_sights i (items_view (drop i xs)) ≡ before ++ child_sights 0 (items_view xs) → child_sights 0 (items_view vs) ≡ after → out ≡ before ++ after
-items_end child_sights i xs vs before out after no_more same over invariant is =
-    let none : drop i xs ≡ [] = drop_of_length-le xs {i = i} over in
-    sym (append-nil out) ∙ ap (λ (ws : List Sight). out ++ ws) (sym (no_more i)) ∙ ap (λ (ws : List Value). out ++ child_sights i (items_view ws)) (sym none) ∙ invariant
-    ∙ ap (λ (ws : List Value). before ++ child_sights 0 (items_view ws)) same ∙ ap (λ (ss : List Sight). before ++ ss) is
+pub items_end : (child_sights : ℕ → Items → List Sight) (i : ℕ) (left all : Items) (before out after : List Sight) → ((n : ℕ) → child_sights n no_items ≡ []) → left ≡ no_items
+    → out ++ child_sights i left ≡ before ++ child_sights 0 all → child_sights 0 all ≡ after → out ≡ before ++ after
+items_end child_sights i left all before out after no_more none invariant is =
+    sym (append-nil out) ∙ ap (λ (ws : List Sight). out ++ ws) (sym (no_more i)) ∙ ap (λ (ws : Items). out ++ child_sights i ws) (sym none) ∙ invariant ∙ ap (λ (ss : List Sight). before ++ ss) is
 
-pub members_end : (child_sights : Members → List Sight) (left es : List Entry) (before out after : List Sight) → child_sights no_members ≡ [] → left ≡ []
-    → out ++ child_sights (members_view left) ≡ before ++ child_sights (members_view es) → child_sights (members_view es) ≡ after → out ≡ before ++ after
-members_end child_sights left es before out after no_more none invariant is =
-    sym (append-nil out) ∙ ap (λ (ws : List Sight). out ++ ws) (sym no_more) ∙ ap (λ (ws : List Entry). out ++ child_sights (members_view ws)) (sym none) ∙ invariant ∙ ap (λ (ss : List Sight). before ++ ss) is
+pub members_end : (child_sights : Members → List Sight) (left all : Members) (before out after : List Sight) → child_sights no_members ≡ [] → left ≡ no_members
+    → out ++ child_sights left ≡ before ++ child_sights all → child_sights all ≡ after → out ≡ before ++ after
+members_end child_sights left all before out after no_more none invariant is =
+    sym (append-nil out) ∙ ap (λ (ws : List Sight). out ++ ws) (sym no_more) ∙ ap (λ (ws : Members). out ++ child_sights ws) (sym none) ∙ invariant ∙ ap (λ (ss : List Sight). before ++ ss) is
 
 -- ---- lists of marks in a document
 

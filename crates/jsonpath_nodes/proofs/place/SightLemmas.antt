@@ -1,16 +1,12 @@
 -- What is seen from a spot, child by child.
-use Rattle.std.proofs.Common.{◌≡◌, ℕ, List, [], ◌∷◌, ◌++◌, map, Option, Some, string_cmp, refl, sym, ap, ap₂, ◌∙◌, append_assoc}
+use Rattle.std.proofs.Common.{◌≡◌, ℕ, List, [], ◌∷◌, ◌++◌, map, Option, Some, refl, sym, ap, ap₂, ◌∙◌, append_assoc}
 use Rattle.std.specs.Prelude.{option_and_then}
 use Rattle.std.proofs.lemmas.List.{map-append}
-use Rattle.std.specs.List.Sorted.{IsStrictlySortedBy}
-use Rattle.std.specs.Map.{keys_of}
 use Rattle.serde_json.specs.Data.{Data, array, object, Items, Members}
-use Rattle.serde_json.specs.View.{members_view}
-use Rattle.serde_json.proofs.Views.{Entry}
 use Rattle.jsonpath_nodes.specs.place.Location.{Step, Location, child, at, below, below_items, below_members, flat, flat_items}
 use Rattle.jsonpath_nodes.specs.step.Steps.{single_steps, every}
 use Rattle.jsonpath_nodes.specs.place.SpotPlace.{look_from}
-use Rattle.jsonpath_nodes.proofs.place.DocumentLemmas.{names_ascend}
+use Rattle.jsonpath_nodes.specs.place.Order.{Ascend}
 use Rattle.jsonpath_nodes.proofs.step.ChildLemmas.{Kid, item_kids, member_kids, through, itself, below_items-kids, below_members-kids, flat_items-kids, indexes-kids, names-kids, AreAt, all_items_at, members_at}
 
 abbrev pub Sight : Type 0
@@ -48,23 +44,23 @@ through-sights f l d (k ∷ ks) h =
 pub items-sights : (f : Data → List Location) (l : Location) (all : Items) → map (look_from l (array all)) (through f (item_kids 0 all)) ≡ item_sights f l 0 all
 items-sights f l all = through-sights f l (array all) (item_kids 0 all) (all_items_at all)
 
-pub members-sights : (f : Data → List Location) (l : Location) (es : List Entry) → IsStrictlySortedBy string_cmp (keys_of es)
-    → map (look_from l (object (members_view es))) (through f (member_kids (members_view es))) ≡ member_sights f l (members_view es)
-members-sights f l es h = through-sights f l (object (members_view es)) (member_kids (members_view es)) (members_at (members_view es) (names_ascend es h))
+pub members-sights : (f : Data → List Location) (l : Location) (ms : Members) → Ascend ms
+    → map (look_from l (object ms)) (through f (member_kids ms)) ≡ member_sights f l ms
+members-sights f l ms h = through-sights f l (object ms) (member_kids ms) (members_at ms h)
 
 -- ---- as the contracts say them
 
 pub items_children-sights : (l : Location) (all : Items) → item_sights itself l 0 all ≡ map (look_from l (array all)) (single_steps every (array all))
 items_children-sights l all = sym (items-sights itself l all) ∙ ap (map (look_from l (array all))) (sym (indexes-kids 0 all))
 
-pub members_children-sights : (l : Location) (es : List Entry) → IsStrictlySortedBy string_cmp (keys_of es) → member_sights itself l (members_view es) ≡ map (look_from l (object (members_view es))) (single_steps every (object (members_view es)))
-members_children-sights l es h = sym (members-sights itself l es h) ∙ ap (map (look_from l (object (members_view es)))) (sym (names-kids (members_view es)))
+pub members_children-sights : (l : Location) (ms : Members) → Ascend ms → member_sights itself l ms ≡ map (look_from l (object ms)) (single_steps every (object ms))
+members_children-sights l ms h = sym (members-sights itself l ms h) ∙ ap (map (look_from l (object ms))) (sym (names-kids ms))
 
 pub items_below-sights : (l : Location) (all : Items) → item_sights below l 0 all ≡ map (look_from l (array all)) (below_items 0 all)
 items_below-sights l all = sym (items-sights below l all) ∙ ap (map (look_from l (array all))) (sym (below_items-kids 0 all))
 
-pub members_below-sights : (l : Location) (es : List Entry) → IsStrictlySortedBy string_cmp (keys_of es) → member_sights below l (members_view es) ≡ map (look_from l (object (members_view es))) (below_members (members_view es))
-members_below-sights l es h = sym (members-sights below l es h) ∙ ap (map (look_from l (object (members_view es)))) (sym (below_members-kids (members_view es)))
+pub members_below-sights : (l : Location) (ms : Members) → Ascend ms → member_sights below l ms ≡ map (look_from l (object ms)) (below_members ms)
+members_below-sights l ms h = sym (members-sights below l ms h) ∙ ap (map (look_from l (object ms))) (sym (below_members-kids ms))
 
 pub items_flat-sights : (l : Location) (all : Items) → item_sights flat l 0 all ≡ map (look_from l (array all)) (flat_items 0 all)
 items_flat-sights l all = sym (items-sights flat l all) ∙ ap (map (look_from l (array all))) (sym (flat_items-kids 0 all))

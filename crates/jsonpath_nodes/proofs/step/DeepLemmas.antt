@@ -1,16 +1,12 @@
 -- A step after all below, in one descent.
-use Rattle.std.proofs.Common.{◌≡◌, List, [], ◌∷◌, ◌++◌, map, string_cmp, sym, ap, ap₂, ◌∙◌, append_assoc}
+use Rattle.std.proofs.Common.{◌≡◌, List, [], ◌∷◌, ◌++◌, map, sym, ap, ap₂, ◌∙◌, append_assoc}
 use Rattle.std.proofs.lemmas.List.{map-append}
-use Rattle.std.specs.List.Sorted.{IsStrictlySortedBy}
-use Rattle.std.specs.Map.{keys_of}
-use Rattle.serde_json.specs.Data.{Data, array, object, Items}
-use Rattle.serde_json.specs.View.{members_view}
-use Rattle.serde_json.proofs.Views.{Entry}
+use Rattle.serde_json.specs.Data.{Data, array, object, Items, Members}
 use Rattle.jsonpath_nodes.specs.place.Location.{Location, below, below_items, below_members}
 use Rattle.jsonpath_nodes.specs.step.Steps.{Plain, single_steps, from_each, deep}
 use Rattle.jsonpath_nodes.specs.place.SpotPlace.{look_from}
 use Rattle.jsonpath_nodes.proofs.place.SightLemmas.{Sight, item_sights, member_sights, items-sights, members-sights}
-use Rattle.jsonpath_nodes.proofs.place.DocumentLemmas.{names_ascend}
+use Rattle.jsonpath_nodes.specs.place.Order.{Ascend}
 use Rattle.jsonpath_nodes.proofs.step.ChildLemmas.{item_kids, member_kids, below_items-kids, below_members-kids, all_items_at, members_at}
 use Rattle.jsonpath_nodes.proofs.step.ListLemmas.{map-nothing, from_each-through}
 
@@ -27,13 +23,12 @@ deep_items p l all =
     (ap (map (look_from l (array all))) (ap (from_each (array all) (single_steps p)) (below_items-kids 0 all) ∙ from_each-through (single_steps p) below (array all) (item_kids 0 all) (all_items_at all))
     ∙ items-sights (deep p) l all)
 
-pub deep_members : (p : Plain) (l : Location) (es : List Entry) → IsStrictlySortedBy string_cmp (keys_of es)
-    → map (look_from l (object (members_view es))) (deep p (object (members_view es))) ≡ map (look_from l (object (members_view es))) (single_steps p (object (members_view es))) ++ member_sights (deep p) l (members_view es)
-deep_members p l es h =
-    let all = members_view es in
+pub deep_members : (p : Plain) (l : Location) (all : Members) → Ascend all
+    → map (look_from l (object all)) (deep p (object all)) ≡ map (look_from l (object all)) (single_steps p (object all)) ++ member_sights (deep p) l all
+deep_members p l all h =
     deep_parts l (object all) p (below_members all) (member_sights (deep p) l all)
-    (ap (map (look_from l (object all))) (ap (from_each (object all) (single_steps p)) (below_members-kids all) ∙ from_each-through (single_steps p) below (object all) (member_kids all) (members_at all (names_ascend es h)))
-    ∙ members-sights (deep p) l es h)
+    (ap (map (look_from l (object all))) (ap (from_each (object all) (single_steps p)) (below_members-kids all) ∙ from_each-through (single_steps p) below (object all) (member_kids all) (members_at all h))
+    ∙ members-sights (deep p) l all h)
 
 -- what a loop over the children adds, after the step from the value itself
 pub deep_after : (before middle out own later all : List Sight) → out ≡ middle ++ later → middle ≡ before ++ own → all ≡ own ++ later → out ≡ before ++ all

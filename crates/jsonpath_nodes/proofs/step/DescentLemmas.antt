@@ -1,20 +1,16 @@
 -- The candidates after `..*` in one descent, child by child and from a mark.
-use Rattle.std.proofs.Common.{◌≡◌, ℕ, suc, List, [], ◌∷◌, ◌++◌, map, Bool, false, Some, string_cmp, refl, sym, ap, ap₂, ◌∙◌, append-nil, subst}
+use Rattle.std.proofs.Common.{◌≡◌, ℕ, suc, List, [], ◌∷◌, ◌++◌, map, Bool, false, Some, None, refl, sym, ap, ap₂, ◌∙◌, append-nil, subst}
 use Rattle.std.proofs.lemmas.Bool.{or_parts}
 use Rattle.std.proofs.lemmas.List.{map-append}
-use Rattle.std.specs.List.Sorted.{IsStrictlySortedBy}
-use Rattle.std.specs.Map.{keys_of}
-use Rattle.serde_json.specs.Data.{Data, array, object, Items, no_items, item, Members, no_members, member}
-use Rattle.serde_json.specs.View.{members_view}
-use Rattle.serde_json.proofs.Views.{Entry}
+use Rattle.serde_json.specs.Data.{Data, null, boolean, number, string, array, object, Items, no_items, item, Members, no_members, member}
+use Rattle.serde_json.specs.Find.{as_array}
 use Rattle.jsonpath_nodes.specs.step.Candidates.{flat_members, in_objects, in_objects_items, in_objects_members, candidates_below}
 use Rattle.jsonpath_nodes.specs.plan.Containers.{is_container, some_container}
 use Rattle.jsonpath_nodes.specs.place.Location.{name, index, Location, at, flat}
-use Rattle.jsonpath_nodes.specs.place.Mark.{MarksGain, shown, look_kept, look_kept_from, MarksLeadBy}
-use Rattle.jsonpath_nodes.specs.place.Order.{IsDocument, HoldDocuments}
+use Rattle.jsonpath_nodes.specs.place.Mark.{MarksGain, kept_location, shown, look_kept, look_kept_from, MarksLeadBy}
+use Rattle.jsonpath_nodes.specs.place.Order.{Ascend, IsDocument, HoldDocuments}
 use Rattle.jsonpath_nodes.specs.place.SpotPlace.{look_from}
 use Rattle.jsonpath_nodes.specs.step.Steps.{from, from_each, every, step, all_below, flattened}
-use Rattle.jsonpath_nodes.proofs.place.DocumentLemmas.{members_done}
 use Rattle.jsonpath_nodes.proofs.place.KeptLemmas.{seen-from_each}
 use Rattle.jsonpath_nodes.proofs.step.ChildLemmas.{through, item_kids, member_kids, flat_members-kids}
 use Rattle.jsonpath_nodes.proofs.step.NowhereLemmas.{IsLeaf, leaf_by, no_container, nothing_gained}
@@ -35,11 +31,11 @@ in_members-kids (member k d ms) = ap (λ (ls : List Location). map (λ m. name k
 pub items_in_objects-sights : (l : Location) (all : Items) → item_sights in_objects l 0 all ≡ map (look_from l (array all)) (in_objects_items 0 all)
 items_in_objects-sights l all = sym (items-sights in_objects l all) ∙ ap (map (look_from l (array all))) (sym (in_items-kids 0 all))
 
-pub members_flat-sights : (l : Location) (es : List Entry) → IsStrictlySortedBy string_cmp (keys_of es) → member_sights flat l (members_view es) ≡ map (look_from l (object (members_view es))) (flat_members (members_view es))
-members_flat-sights l es h = sym (members-sights flat l es h) ∙ ap (map (look_from l (object (members_view es)))) (sym (flat_members-kids (members_view es)))
+pub members_flat-sights : (l : Location) (ms : Members) → Ascend ms → member_sights flat l ms ≡ map (look_from l (object ms)) (flat_members ms)
+members_flat-sights l ms h = sym (members-sights flat l ms h) ∙ ap (map (look_from l (object ms))) (sym (flat_members-kids ms))
 
-pub members_in_objects-sights : (l : Location) (es : List Entry) → IsStrictlySortedBy string_cmp (keys_of es) → member_sights in_objects l (members_view es) ≡ map (look_from l (object (members_view es))) (in_objects_members (members_view es))
-members_in_objects-sights l es h = sym (members-sights in_objects l es h) ∙ ap (map (look_from l (object (members_view es)))) (sym (in_members-kids (members_view es)))
+pub members_in_objects-sights : (l : Location) (ms : Members) → Ascend ms → member_sights in_objects l ms ≡ map (look_from l (object ms)) (in_objects_members ms)
+members_in_objects-sights l ms h = sym (members-sights in_objects l ms h) ∙ ap (map (look_from l (object ms))) (sym (in_members-kids ms))
 
 -- ---- values without children
 
@@ -61,14 +57,14 @@ nothing_in_objects (member k d ms) h =
     let parts = or_parts (is_container d) (some_container ms) h in
     ap₂ (λ (xs ys : List Location). map (λ (m : Location). name k ∷ m) xs ++ ys) (leaf_holds d (no_container d parts.0)) (nothing_in_objects ms parts.1)
 
-hold_leaves : (ms : Members) → some_container ms ≡ false → HoldDocuments ms
+pub hold_leaves : (ms : Members) → some_container ms ≡ false → HoldDocuments ms
 hold_leaves no_members h = tt
 hold_leaves (member k d ms) h =
     let parts = or_parts (is_container d) (some_container ms) h in
     (leaf_document d (no_container d parts.0), hold_leaves ms parts.1)
 
-pub leaves_document : (es : List Entry) → IsStrictlySortedBy string_cmp (keys_of es) → some_container (members_view es) ≡ false → IsDocument (object (members_view es))
-leaves_document es ordered none = members_done [] es refl (λ h. hold_leaves (members_view es) none) ordered
+pub leaves_document : (ms : Members) → Ascend ms → some_container ms ≡ false → IsDocument (object ms)
+leaves_document ms ordered none = (ordered, hold_leaves ms none)
 
 -- ---- what is flat at each member, and then the same in each
 
@@ -80,6 +76,23 @@ pub in_objects-leaves : (b : Bool) (l : Location) (ms : Members) → some_contai
     → map (look_kept_from b l (object ms)) (in_objects (object ms)) ≡ map (look_kept_from b l (object ms)) (flat_members ms) ++ []
 in_objects-leaves b l ms none =
     in_objects-parts b l ms ∙ ap (λ (ls : List Location). map (look_kept_from b l (object ms)) (flat_members ms) ++ map (look_kept_from b l (object ms)) ls) (nothing_in_objects ms none)
+
+-- ---- what is no array
+
+flat_single : (d : Data) → as_array d ≡ None → flat d ≡ [] ∷ []
+flat_single (array ds) h = cc
+flat_single null h = refl
+flat_single (boolean b) h = refl
+flat_single (number n) h = refl
+flat_single (string s) h = refl
+flat_single (object ms) h = refl
+
+pub flat_itself : {M : Type 0} (b : Bool) (stand : M → Location) (content : M → Data) (m copy : M) (before after : List M) → as_array (content m) ≡ None → after ≡ before ++ copy ∷ []
+    → shown stand content copy ≡ (kept_location b (stand m), Some (content m)) → MarksGain b stand content flat (stand m) (content m) before after
+flat_itself b stand content m copy before after no_array pushed same =
+    ap (map (shown stand content)) pushed ∙ map-append (shown stand content) before (copy ∷ []) ∙ ap (λ (s : Sight). map (shown stand content) before ++ s ∷ []) same
+    ∙ ap (λ (l : Location). map (shown stand content) before ++ (kept_location b l, Some (content m)) ∷ []) (sym (append-nil (stand m)))
+    ∙ ap (λ (ls : List Location). map (shown stand content) before ++ map (look_kept_from b (stand m) (content m)) ls) (sym (flat_single (content m) no_array))
 
 -- ---- from one mark of a document
 

@@ -1,13 +1,9 @@
 -- Steps that lead nowhere from a value.
-use Rattle.std.proofs.Common.{◌≡◌, ℕ, List, [], ◌∷◌, ◌++◌, map, None, Bool, false, String, Global, cond, refl, sym, ap, ap₂, ◌∙◌, append-nil, subst, rules}
-use Rattle.std.specs.Prelude.{ℤ, flat_map, is_some, string_bytes}
+use Rattle.std.proofs.Common.{◌≡◌, ℕ, List, [], ◌∷◌, ◌++◌, map, None, Bool, false, cond, refl, sym, ap, ap₂, ◌∙◌, append-nil}
+use Rattle.std.specs.Prelude.{ℤ, flat_map, is_some}
 use Rattle.std.proofs.lemmas.Bool.{or_parts}
 use Rattle.serde_json.specs.Data.{Data, null, boolean, number, string, array, object, Items, Members, no_members, member}
-use Rattle.serde_json.specs.View.{view, number_view}
-use Rattle.serde_json.specs.declared.number.Number.{Number}
-use Rattle.serde_json.specs.declared.value.Value.{Value, Array, Object, out-Value, roll-Value, roll-out-Value, the_lemmas}
-use Rattle.serde_json.specs.declared.value.Value.TheOpen.{Value-F}
-use Rattle.serde_json.specs.declared.value.Value.TheVariants.{Null, Bool as Truth, Number as ANumber, String as Text, rolls-Null, rolls-Bool, rolls-Number, rolls-String, rolls-Array, rolls-Object}
+use Rattle.serde_json.specs.Find.{as_array, as_object}
 use Rattle.jsonpath_nodes.specs.plan.Containers.{is_container, some_container}
 use Rattle.jsonpath_nodes.specs.place.Location.{Step, name, index, Location, child, below}
 use Rattle.jsonpath_nodes.specs.step.Steps.{Plain, every, named, listed, nth, union, range, present, nth_of, length_of, abs_index, single_steps, step, deep}
@@ -70,33 +66,11 @@ leaf_deep p d h none =
 pub nothing_gained : (b : Bool) (l : Location) (d : Data) (xs : List Sight) (ls : List Location) → ls ≡ [] → xs ≡ xs ++ map (look_kept_from b l d) ls
 nothing_gained b l d xs ls none = sym (append-nil xs) ∙ ap (λ (ks : List Location). xs ++ map (look_kept_from b l d) ks) (sym none)
 
-view-Null : view Null ≡ null
-view-Null = search (rules, the_lemmas)
-
-view-Truth : (b : Bool) → view (Truth b) ≡ boolean b
-view-Truth b = search (rules, the_lemmas)
-
-view-Number : (n : Number) → view (ANumber n) ≡ number (number_view n)
-view-Number n = search (rules, the_lemmas)
-
-view-Text : (s : String Global) → view (Text s) ≡ string (string_bytes s)
-view-Text s = search (rules, the_lemmas)
-
--- what holds of a value without children, of an array and of an object
-by_kind : (P : Data → Type 0) (v : Value) → ((d : Data) → IsLeaf d → P d) → ((x : _) → v ≡ Array x → P (view v)) → ((m : _) → v ≡ Object m → P (view v)) → P (view v)
-by_kind P v of_leaf of_array of_object = by (out-Value v) (sym (roll-out-Value v))
-  where
-    by : (x : Value-F Value) → v ≡ roll-Value x → P (view v)
-    by Value-F.Null is = subst P (sym (ap view (is ∙ rolls-Null) ∙ view-Null)) (of_leaf null tt)
-    by (Value-F.Bool b) is = subst P (sym (ap view (is ∙ rolls-Bool b) ∙ view-Truth b)) (of_leaf (boolean b) tt)
-    by (Value-F.Number n) is = subst P (sym (ap view (is ∙ rolls-Number n) ∙ view-Number n)) (of_leaf (number (number_view n)) tt)
-    by (Value-F.String s) is = subst P (sym (ap view (is ∙ rolls-String s) ∙ view-Text s)) (of_leaf (string (string_bytes s)) tt)
-    by (Value-F.Array x) is = of_array x (is ∙ rolls-Array x)
-    by (Value-F.Object m) is = of_object m (is ∙ rolls-Object m)
-
--- a value that is neither an array nor an object
-pub leaf_else : (v : Value) → ((x : _) → v ≡ Array x → ⊥) → ((m : _) → v ≡ Object m → ⊥) → IsLeaf (view v)
-leaf_else v not_array not_object = by_kind IsLeaf v (λ d leaf. leaf) (λ x is. absurd (not_array x is)) (λ m is. absurd (not_object m is))
+-- what is neither an array nor an object
+pub leaf_else : (d : Data) → as_array d ≡ None → as_object d ≡ None → IsLeaf d
+leaf_else (array ds) not_array not_object = cc
+leaf_else (object ms) not_array not_object = cc
+leaf_else _ not_array not_object = tt
 
 -- ---- members of which none holds others
 

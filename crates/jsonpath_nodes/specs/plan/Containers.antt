@@ -1,7 +1,8 @@
 -- Values that hold other values.
-use Rattle.std.specs.Prelude.{Bool, false, ◌||◌, is_some}
-use Rattle.serde_json.specs.Data.{Data, Members, no_members, member}
+use Rattle.std.specs.Prelude.{Bool, false, ◌||◌, is_some, List, []}
+use Rattle.serde_json.specs.Data.{Data, null, boolean, number, string, array, object, Members, no_members, member}
 use Rattle.serde_json.specs.Find.{as_array, as_object}
+use Rattle.jsonpath_nodes.specs.place.Location.{Location, below_items, below_members}
 
 -- an array or an object, be it empty
 abbrev pub is_container : Data → Bool
@@ -10,3 +11,12 @@ is_container d = is_some (as_array d) || is_some (as_object d)
 abbrev pub some_container : Members → Bool
 some_container no_members = false
 some_container (member k d ms) = is_container d || some_container ms
+
+-- all that is below a value, each value before its children
+abbrev pub under : Data → List Location
+under null = []
+under (boolean b) = []
+under (number n) = []
+under (string s) = []
+under (array ds) = below_items 0 ds
+under (object ms) = below_members ms

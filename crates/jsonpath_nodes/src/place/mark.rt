@@ -1,240 +1,193 @@
 //! `Mark`, a reference to a selected node: either the value alone, or a `Spot`, which has the location too.
 
-ghost use Rattle.std.specs.Prelude.{◌≡◌, [], ◌∷◌, ◌++◌, Bool, true, false, string_bytes, IfOk, OnOk};
+ghost use Rattle.std.specs.Prelude.{◌≡◌, [], Bool, true, false, OnOk};
 ghost use Rattle.serde_json.specs.Data.{Data};
 ghost use Rattle.serde_json.specs.View.{view};
-ghost use Rattle.jsonpath_nodes.specs.place.Location.{Location, name as by_name, index as by_index};
-ghost use Rattle.jsonpath_nodes.specs.place.Mark.{MarksGainOne};
-ghost use Rattle.jsonpath_nodes.specs.place.SpotPlace.{location_of, value_of, location_at, held_path_location};
+ghost use Rattle.jsonpath_nodes.specs.place.Location.{Location, flat};
+ghost use Rattle.jsonpath_nodes.specs.place.Mark.{MarksGain};
+ghost use Rattle.jsonpath_nodes.specs.place.Order.{IsDocument};
+ghost use Rattle.jsonpath_nodes.specs.place.SpotPlace.{location_of, value_of};
+ghost use Rattle.jsonpath_nodes.specs.step.Candidates.{candidates_below};
+ghost use Rattle.jsonpath_nodes.specs.step.PlainSteps.{plain_step_of};
+ghost use Rattle.jsonpath_nodes.specs.step.Steps.{deep, named, single_steps};
 
 use crate::memory::NoMemory;
 use crate::place::spot::Spot;
-use crate::place::trail::{
-    HeldPathToContainer, Trail, held_path_to_container, lend_path_to_object,
-    member_trail_of_path_to_object, member_trail_of_path_to_value, shared_trail_of_path_to_value,
-};
+use crate::step::plain_step::PlainStep;
+use crate::step::{candidates, children, descend};
 use serde_json::Value;
 use std::alloc::Global;
-use std::rc::Rc;
 
 /// Trait for a selected node: either `&Value` (no location) or `Spot` (value with location), so that evaluation code
 /// is written once.
 ///
 /// The clauses of one contract hold for both types: a list of `Mark`s is at some locations of a document if each has
-/// the value there, and a `Spot` also has that location.
+/// the value there, and a `Spot` also has that location. The only error of each call is `NoMemory`.
 ///
 /// ```text
-/// let last = steps_on_marks::plain_step_from_each(alloc, &[Spot::root(alloc, &document)], &PlainStep::Nth(-1))?;
-/// assert_eq!(rt; last.len(), 1);
-/// assert!(rt; last[0].value().is_array());
+/// let mut found = Vec::new(alloc);
+/// (&document).add_flattened(alloc, &mut found)?;
+/// assert_eq!(rt; found.len(), 4);
 /// ```
 pub trait Mark<'a>: Drop + Sized {
-    /// The part of their location that the items of one array share.
-    type Items: Drop;
-    /// The part of their location that the members of one object share.
-    type Members: Drop;
-
     // Whether a mark keeps its location.
     ghost located: { Bool };
     // Where a mark stands, as far as it keeps that, and its value.
     ghost stand: { Self → Location };
 
     ghost content: { Self → Data };
-    // Where the array and the object stand.
-    ghost items_stand: { Self.Items → Location };
-
-    ghost members_stand: { Self.Members → Location };
 
     /// The value of the node.
     fn value(&self) -> &'a Value
         ensures { view result.now ≡ content self.now };
 
-    /// For a node that is an array: its location, in the form from which `push_item` makes those of its items.
-    fn shared_by_items(&self, alloc: Global) -> Result<Self::Items, NoMemory>
-        ensures { IfOk result (λ here. items_stand here ≡ stand self.now) };
-
-    /// For a node that is an object: its location, in the form from which `push_member` makes those of its members.
-    fn shared_by_members(&self, alloc: Global) -> Result<Self::Members, NoMemory>
-        ensures { IfOk result (λ here. members_stand here ≡ stand self.now) };
-
-    /// Adds an item of an array to a list; `here` is the result of `shared_by_items` on the array.
-    fn push_item(
-        here: &Self::Items,
-        index: usize,
-        value: &'a Value,
-        out: &mut Vec<Self>,
-    ) -> Result<(), NoMemory>
-        ensures { OnOk result (MarksGainOne located stand content (items_stand here.now ++ by_index index ∷ []) (view value.now) out.old.items out.new.items) };
-
-    /// Adds a member of an object to a list; `here` is the result of `shared_by_members` on the object.
-    fn push_member(
-        here: &Self::Members,
-        key: &'a String,
-        value: &'a Value,
-        out: &mut Vec<Self>,
-    ) -> Result<(), NoMemory>
-        ensures { OnOk result (MarksGainOne located stand content (members_stand here.now ++ by_name (string_bytes key.now) ∷ []) (view value.now) out.old.items out.new.items) };
-
-    /// Adds a single member of the value to a list, if no other member is to share the location of the value with
-    /// it. It needs no `shared_by_members`.
-    fn push_single_member(
+    /// Adds to a list the children that a step selects.
+    fn add_selected_children(
         &self,
         alloc: Global,
-        key: &'a String,
-        value: &'a Value,
+        plain: &PlainStep<'_>,
         out: &mut Vec<Self>,
     ) -> Result<(), NoMemory>
-        ensures { OnOk result (MarksGainOne located stand content (stand self.now ++ by_name (string_bytes key.now) ∷ []) (view value.now) out.old.items out.new.items) };
+        ensures { OnOk result (MarksGain located stand content (single_steps (plain_step_of plain.now)) (stand self.now) (content self.now) out.old.items out.new.items) };
+
+    /// Adds to a list the member of this name, if the node is an object that has one. The name is taken literally.
+    fn add_named_member(
+        &self,
+        alloc: Global,
+        name: &str,
+        out: &mut Vec<Self>,
+    ) -> Result<(), NoMemory>
+        ensures { OnOk result (MarksGain located stand content (single_steps (named name.now)) (stand self.now) (content self.now) out.old.items out.new.items) };
+
+    /// Adds what a step selects in the value and in all its descendants, each before its children.
+    fn add_selected_at_or_below(
+        &self,
+        alloc: Global,
+        plain: &PlainStep<'_>,
+        out: &mut Vec<Self>,
+    ) -> Result<(), NoMemory>
+        ensures { OnOk result (MarksGain located stand content (deep (plain_step_of plain.now)) (stand self.now) (content self.now) out.old.items out.new.items) };
+
+    /// Adds the non-array values left after flattening nested arrays: the value itself, if it is no array.
+    fn add_flattened(&self, alloc: Global, out: &mut Vec<Self>) -> Result<(), NoMemory>
+        ensures { OnOk result (MarksGain located stand content flat (stand self.now) (content self.now) out.old.items out.new.items) };
+
+    /// Adds the candidates of a filter after `..` that uses a relative query with at least one segment: the non-array
+    /// values left after flattening nested arrays among the descendants, each once. Its contract also says that the
+    /// names ascend in each object there, which is so for every value.
+    fn add_candidates_below(&self, alloc: Global, out: &mut Vec<Self>) -> Result<(), NoMemory>
+        ensures gains { OnOk result (MarksGain located stand content candidates_below (stand self.now) (content self.now) out.old.items out.new.items) }
+        ensures document { OnOk result (IsDocument (content self.now)) };
 }
 
-/// A reference has no location: it is the value alone, and its children share nothing.
+/// A reference has no location: it is the value alone.
 impl<'a> Mark<'a> for &'a Value {
-    type Items = ();
-
-    type Members = ();
-
     ghost located = { false };
 
     ghost stand = { λ mark. [] };
 
     ghost content = { λ mark. view mark.now };
 
-    ghost items_stand = { λ here. [] };
-
-    ghost members_stand = { λ here. [] };
-
-    // The reference itself.
     #[inline(always)]
     fn value(&self) -> &'a Value {
         *self
     }
 
-    // Nothing, since a reference keeps no location.
     #[inline(always)]
-    fn shared_by_items(&self, _alloc: Global) -> Result<(), NoMemory> {
-        Ok(())
-    }
-
-    // Nothing, since a reference keeps no location.
-    #[inline(always)]
-    fn shared_by_members(&self, _alloc: Global) -> Result<(), NoMemory> {
-        Ok(())
-    }
-
-    // Adds the reference to an item to a list; its index is not kept.
-    #[inline(always)]
-    fn push_item(
-        _here: &(),
-        _index: usize,
-        value: &'a Value,
-        out: &mut Vec<&'a Value>,
-    ) -> Result<(), NoMemory> {
-        out.push(value)?;
-        Ok(())
-    }
-
-    // Adds the reference to a member to a list; its name is not kept.
-    #[inline(always)]
-    fn push_member(
-        _here: &(),
-        _key: &'a String,
-        value: &'a Value,
-        out: &mut Vec<&'a Value>,
-    ) -> Result<(), NoMemory> {
-        out.push(value)?;
-        Ok(())
-    }
-
-    // Adds the reference to one member of the value to a list; its name is not kept.
-    #[inline(always)]
-    fn push_single_member(
+    fn add_selected_children(
         &self,
-        _alloc: Global,
-        _key: &'a String,
-        value: &'a Value,
+        alloc: Global,
+        plain: &PlainStep<'_>,
         out: &mut Vec<&'a Value>,
     ) -> Result<(), NoMemory> {
-        out.push(value)?;
-        Ok(())
+        children::add_selected_children(self, alloc, plain, out)
+    }
+
+    #[inline(always)]
+    fn add_named_member(
+        &self,
+        alloc: Global,
+        name: &str,
+        out: &mut Vec<&'a Value>,
+    ) -> Result<(), NoMemory> {
+        children::add_named_member(self, alloc, name, out)
+    }
+
+    #[inline]
+    fn add_selected_at_or_below(
+        &self,
+        alloc: Global,
+        plain: &PlainStep<'_>,
+        out: &mut Vec<&'a Value>,
+    ) -> Result<(), NoMemory> {
+        descend::add_selected_at_or_below(alloc, self, plain, out)
+    }
+
+    #[inline]
+    fn add_flattened(&self, alloc: Global, out: &mut Vec<&'a Value>) -> Result<(), NoMemory> {
+        candidates::add_flattened(alloc, self, out)
+    }
+
+    #[inline]
+    fn add_candidates_below(
+        &self,
+        alloc: Global,
+        out: &mut Vec<&'a Value>,
+    ) -> Result<(), NoMemory> {
+        candidates::add_candidates_below(alloc, self, out)
     }
 }
 
 /// A `Spot` has its whole location. Its children share that.
 impl<'a> Mark<'a> for Spot<'a> {
-    type Items = Rc<Trail<'a>>;
-
-    type Members = HeldPathToContainer<'a>;
-
     ghost located = { true };
 
     ghost stand = { location_of };
 
     ghost content = { value_of };
 
-    ghost items_stand = { λ here. location_at here.value };
-
-    ghost members_stand = { held_path_location };
-
-    // The value at the spot.
     #[inline(always)]
     fn value(&self) -> &'a Value {
         self.value
     }
 
-    // The trail to the array, which the spots of its items share.
-    fn shared_by_items(&self, alloc: Global) -> Result<Rc<Trail<'a>>, NoMemory> {
-        shared_trail_of_path_to_value(alloc, self.lent_path())
-    }
-
-    // The path to the object, which the spots of its members share.
-    fn shared_by_members(&self, alloc: Global) -> Result<HeldPathToContainer<'a>, NoMemory> {
-        held_path_to_container(alloc, self.lent_path())
-    }
-
-    // Adds the spot of an item to a list: it shares the trail to the array, and has its index behind it.
     #[inline(always)]
-    fn push_item(
-        here: &Rc<Trail<'a>>,
-        index: usize,
-        value: &'a Value,
-        out: &mut Vec<Spot<'a>>,
-    ) -> Result<(), NoMemory> {
-        out.push(Spot {
-            value,
-            trail: Trail::Item(here.clone()?, index),
-        })?;
-        Ok(())
-    }
-
-    // Adds the spot of a member to a list: it shares the path to the object, and has its name behind it.
-    #[inline(always)]
-    fn push_member(
-        here: &HeldPathToContainer<'a>,
-        key: &'a String,
-        value: &'a Value,
-        out: &mut Vec<Spot<'a>>,
-    ) -> Result<(), NoMemory> {
-        out.push(Spot {
-            value,
-            trail: member_trail_of_path_to_object(lend_path_to_object(here), key)?,
-        })?;
-        Ok(())
-    }
-
-    // Adds the spot of one member of the value to a list. The trail to the value is made for this spot alone; where the
-    // value is an item of an array, the trail to the array is shared instead.
-    #[inline(always)]
-    fn push_single_member(
+    fn add_selected_children(
         &self,
         alloc: Global,
-        key: &'a String,
-        value: &'a Value,
+        plain: &PlainStep<'_>,
         out: &mut Vec<Spot<'a>>,
     ) -> Result<(), NoMemory> {
-        out.push(Spot {
-            value,
-            trail: member_trail_of_path_to_value(alloc, self.lent_path(), key)?,
-        })?;
-        Ok(())
+        children::add_selected_children(self, alloc, plain, out)
+    }
+
+    #[inline(always)]
+    fn add_named_member(
+        &self,
+        alloc: Global,
+        name: &str,
+        out: &mut Vec<Spot<'a>>,
+    ) -> Result<(), NoMemory> {
+        children::add_named_member(self, alloc, name, out)
+    }
+
+    #[inline]
+    fn add_selected_at_or_below(
+        &self,
+        alloc: Global,
+        plain: &PlainStep<'_>,
+        out: &mut Vec<Spot<'a>>,
+    ) -> Result<(), NoMemory> {
+        descend::add_selected_at_or_below(alloc, self, plain, out)
+    }
+
+    #[inline]
+    fn add_flattened(&self, alloc: Global, out: &mut Vec<Spot<'a>>) -> Result<(), NoMemory> {
+        candidates::add_flattened(alloc, self, out)
+    }
+
+    #[inline]
+    fn add_candidates_below(&self, alloc: Global, out: &mut Vec<Spot<'a>>) -> Result<(), NoMemory> {
+        candidates::add_candidates_below(alloc, self, out)
     }
 }

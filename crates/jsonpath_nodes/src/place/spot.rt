@@ -1,6 +1,6 @@
 //! `Spot`, a node: a value of a document with its location. Children of one value share its location.
 
-ghost use Rattle.std.specs.Prelude.{◌≡◌, ◌↔◌, [], ◌∷◌, ◌++◌, ◌^◌, ◌-◌, length, map, min, pos, Some, IsTrue, IfOk, IfSome, IfNone, IsSomeAnd, OnOk, option_to_list};
+ghost use Rattle.std.specs.Prelude.{◌≡◌, ◌↔◌, [], ◌∷◌, ◌++◌, ◌^◌, ◌-◌, length, min, pos, IsTrue, IfOk, IfSome, IfNone, IsSomeAnd, option_to_list};
 ghost use Rattle.serde_json.specs.View.{view};
 ghost use Rattle.jsonpath_nodes.specs.place.SpotPlace.{step_of, steps_of, path_location, location_of, value_of, sight_of, LeadsBy};
 ghost use Rattle.jsonpath_nodes.specs.step.Steps.{step, all_below, every, named, nth};
@@ -10,11 +10,10 @@ use crate::place::location::Location;
 use crate::place::trail::{
     PathTo, PathToObject, Trail, add_steps_of_path_to_value, clone_trail, is_root,
     len_of_path_to_value, member_trail_of_path_to_value, shared_trail_of_path_to_value,
-    trail_of_path_to_value,
 };
 use crate::step::child_lookup::{item_of_value, member_of_value};
 use crate::step::children::add_selected_children;
-use crate::step::descend::spots::add_value_and_all_below;
+use crate::step::descend::add_node_and_all_below;
 use crate::step::plain_step::PlainStep;
 use serde_json::Value;
 use std::alloc::{AllocError, Global};
@@ -141,7 +140,7 @@ impl<'a> Spot<'a> {
         ensures { IfOk result (λ found. LeadsBy (λ doc ls. step doc every ls) (self.now ∷ []) found.items) }
     {
         let mut found = Vec::new(alloc);
-        add_selected_children(self.value, self, alloc, &PlainStep::Every, &mut found)?;
+        add_selected_children(self, alloc, &PlainStep::Every, &mut found)?;
         Ok(found)
     }
 
@@ -194,7 +193,7 @@ impl<'a> Spot<'a> {
         ensures { IfOk result (λ found. LeadsBy all_below (self.now ∷ []) found.items) }
     {
         let mut found = Vec::new(alloc);
-        add_value_and_all_below(alloc, self.value, self.lent_path(), &mut found)?;
+        add_node_and_all_below(alloc, self, &mut found)?;
         Ok(found)
     }
 
@@ -302,20 +301,4 @@ fn last_step_and_before<'b, 'a>(
     ensures { IsSomeAnd result (λ p. steps_of p.1 ++ step_of p.0 ∷ [] ≡ path_location path_to.entry ++ step_of step.entry ∷ []) }
 {
     Some((step, Steps { path_to }))
-}
-
-// Adds a spot to a list: that of a value and of the path that leads to it.
-#[inline(always)]
-pub(crate) fn push_spot<'a>(
-    value: &'a Value,
-    path_to: PathTo<'_, 'a>,
-    out: &mut Vec<Spot<'a>>,
-) -> Result<(), NoMemory>
-    ensures { OnOk result (map sight_of out.new.items ≡ map sight_of out.old.items ++ (path_location path_to.entry, Some (view value.now)) ∷ []) }
-{
-    out.push(Spot {
-        value,
-        trail: trail_of_path_to_value(path_to)?,
-    })?;
-    Ok(())
 }

@@ -2,30 +2,20 @@
 //! path writes them.
 
 ghost use Rattle.std.specs.Prelude.{◌≡◌, ◌≤◌, option_map, unwrap_or, string_bytes, IfSome};
-ghost use Rattle.serde_json.specs.Data.{object};
-ghost use Rattle.serde_json.specs.Find.{get, get_item, at as item_at};
-ghost use Rattle.serde_json.specs.View.{view, items_view, members_view};
+ghost use Rattle.serde_json.specs.Find.{get, at as item_at};
+ghost use Rattle.serde_json.specs.View.{view};
 ghost use Rattle.jsonpath_nodes.specs.plan.Containers.{is_container};
 ghost use Rattle.jsonpath_nodes.specs.step.Steps.{abs_index as index_from_front};
 
-use serde_json::{Map, Value};
+use crate::tree::Tree;
+use serde_json::Value;
 
 // Whether a value is an array or an object.
-pub(crate) fn is_container(value: &Value) -> bool
-    ensures { result ≡ is_container (view value.now) }
+#[inline(always)]
+pub(crate) fn is_container<T: Tree>(value: T) -> bool
+    ensures { result ≡ is_container (T.content value) }
 {
-    value.is_array() || value.is_object()
-}
-
-// The item at an index from the front, or None where the array has none there.
-pub(crate) fn item_of_array<'a>(items: &'a Vec<Value>, index: usize) -> Option<&'a Value>
-    ensures { option_map (λ v. view v.now) result ≡ get_item index (items_view items.now.items) }
-{
-    if index < items.len() {
-        Some(&items[index])
-    } else {
-        None
-    }
+    value.as_array().is_some() || value.as_object().is_some()
 }
 
 // The item at an index from the front, or None where the value is no array that has one there.
@@ -33,7 +23,7 @@ pub(crate) fn item_of_value<'a>(value: &'a Value, index: usize) -> Option<&'a Va
     ensures { option_map (λ v. view v.now) result ≡ item_at index (view value.now) }
 {
     match value {
-        Value::Array(items) => item_of_array(items, index),
+        Value::Array(items) => <&Value as Tree>::item_at(items, index),
         _ => None,
     }
 }
@@ -68,21 +58,6 @@ pub(crate) fn range_bound(n: Option<i64>, missing: usize, len: usize) -> usize
     }
 }
 
-// The member of this name, as a pair of the name as the object has it and the value; None where the object has none.
-#[inline]
-pub(crate) fn member_of_object<'a>(
-    members: &'a Map<String, Value>,
-    name: &str,
-) -> Option<(&'a String, &'a Value)>
-    ensures key { IfSome result (λ p. string_bytes p.0.now ≡ name.now) }
-    ensures value { option_map (λ p. view p.1.now) result ≡ get name.now (object (members_view members.now.entries)) }
-{
-    match members.get_key_value(name) {
-        Some((key, member)) => Some((key, member)),
-        None => None,
-    }
-}
-
 // The member of this name, as a pair of the name as the object has it and the value; None where the value is no object
 // that has one.
 #[inline]
@@ -91,7 +66,7 @@ pub(crate) fn member_of_value<'a>(value: &'a Value, name: &str) -> Option<(&'a S
     ensures value { option_map (λ p. view p.1.now) result ≡ get name.now (view value.now) }
 {
     match value {
-        Value::Object(members) => member_of_object(members, name),
+        Value::Object(members) => <&Value as Tree>::member_named(members, name),
         _ => None,
     }
 }

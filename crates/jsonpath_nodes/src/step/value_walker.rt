@@ -10,7 +10,7 @@ ghost use Rattle.jsonpath_nodes.specs.step.Steps.{step, step as step_word, all_b
 use crate::memory::NoMemory;
 use crate::place::spot::Spot;
 use crate::step::candidates;
-use crate::step::descend::spots;
+use crate::step::descend::add_node_and_all_below;
 use crate::step::plain_step::PlainStep;
 use crate::steps_on_marks::{
     candidates_below_mark, flattened_from_each, plain_step_from_all_below, plain_step_from_each,
@@ -189,7 +189,7 @@ impl ValueWalker {
     {
         let mut found = Vec::new(alloc);
         for spot in spots {
-            spots::add_value_and_all_below(alloc, spot.value, spot.lent_path(), &mut found)?;
+            add_node_and_all_below(alloc, spot, &mut found)?;
         }
         Ok(found)
     }

@@ -1,55 +1,115 @@
 //! The location of a descent on its way down. It is shared only if a step may find something.
 
-ghost use Rattle.std.specs.Prelude.{◌≡◌, [], ◌∷◌, ◌++◌, ◌+◌, ◌-◌, ◌<◌, ◌≤◌, take, vec_len, IfOk, OnOk};
-ghost use Rattle.jsonpath_nodes.specs.place.SpotPlace.{location_at, path_location, held_path_location};
-ghost use Rattle.jsonpath_nodes.specs.plan.DescentPath.{location_after, descent_location, IsDescentPath, StaysAt};
+ghost use Rattle.std.specs.Prelude.{◌≡◌, [], ◌∷◌, ◌++◌, ◌+◌, ◌-◌, ◌<◌, ◌≤◌, take, string_bytes, vec_len, IfOk, OnOk};
+ghost use Rattle.jsonpath_nodes.specs.place.Location.{name, index as by_index};
+ghost use Rattle.jsonpath_nodes.specs.place.SpotPlace.{location_at, held_path_location};
+ghost use Rattle.jsonpath_nodes.specs.plan.DescentPath.{location_after, descent_location, IsDescentPath, IsKeptAt};
+ghost use Rattle.jsonpath_nodes.specs.plan.Way.{without_last};
 
 use crate::memory::NoMemory;
 use crate::place::trail::{
     HeldPathToContainer, PathTo, Trail, clone_held_path, held_path_to_container, held_path_to_item,
     lend_path_to_object, member_trail_of_path_to_object, trail_of_held_path,
 };
+use crate::step::descend::DownStep;
 use std::alloc::Global;
+use std::marker::Model;
 use std::rc::Rc;
 
-// A step down, to an item of an array or to a member of an object.
-#[derive(Clone, Copy)]
-pub enum DownStep<'a> {
-    Item(usize),
-    Member(&'a String),
+// The location of a descent: where it began, and the steps down from there.
+#[derive(Drop)]
+pub struct DescentPath<'a> {
+    path: SharedPath<'a>,
+}
+
+impl<'a> Model for DescentPath<'a> {
+    ghost use Rattle.std.specs.Prelude.{List};
+    ghost use Rattle.jsonpath_nodes.specs.place.Location.{Location, Step};
+    ghost use Rattle.jsonpath_nodes.specs.plan.DescentPath.{IsDescentPath, start_and_steps};
+
+    ghost Value = { Location × List Step };
+
+    ghost view = { λ descent. start_and_steps descent.path };
+
+    ghost invariant = { λ descent. IsDescentPath descent.path };
+}
+
+impl<'a> DescentPath<'a> {
+    // The path of a descent that is at its start. It takes no memory.
+    pub(crate) fn new(alloc: Global, start: Trail<'a>) -> DescentPath<'a>
+        ensures { result ≡ (location_at start.entry, []) }
+    {
+        DescentPath {
+            path: SharedPath {
+                alloc,
+                start,
+                steps: Vec::new(alloc),
+                shared: Vec::new(alloc),
+            },
+        }
+    }
+
+    // Goes on by a step to an item. Nothing is shared for it yet.
+    #[inline]
+    pub(crate) fn go_to_item(&mut self, index: usize) -> Result<(), NoMemory>
+        ensures { OnOk result (self.new ≡ (self.old.0, self.old.1 ++ by_index index ∷ [])) }
+    {
+        self.path.go_step_down(DownStep::Item(index))
+    }
+
+    // Goes on by a step to a member. Nothing is shared for it yet.
+    #[inline]
+    pub(crate) fn go_to_member(&mut self, key: &'a String) -> Result<(), NoMemory>
+        ensures { OnOk result (self.new ≡ (self.old.0, self.old.1 ++ name (string_bytes key.now) ∷ [])) }
+    {
+        self.path.go_step_down(DownStep::Member(key))
+    }
+
+    // Takes the last step back, with what was shared for where it leads.
+    #[inline]
+    pub(crate) fn go_back(&mut self)
+        ensures { self.new ≡ (self.old.0, without_last self.old.1) }
+    {
+        self.path.go_step_up();
+    }
+
+    // A trail to the array where the descent is, for its items to share.
+    #[inline]
+    pub(crate) fn trail_for_items(&mut self) -> Result<Rc<Trail<'a>>, NoMemory>
+        ensures leads { IfOk result (λ shared. location_at shared.value ≡ self.old.0 ++ self.old.1) }
+        ensures stays { OnOk result (self.new ≡ self.old) }
+    {
+        self.path.trail_for_items()
+    }
+
+    // The path to the object where the descent is, held for its members to share.
+    #[inline]
+    pub(crate) fn held_path_for_members(&mut self) -> Result<HeldPathToContainer<'a>, NoMemory>
+        ensures leads { IfOk result (λ held. held_path_location held ≡ self.old.0 ++ self.old.1) }
+        ensures stays { OnOk result (self.new ≡ self.old) }
+    {
+        self.path.held_path_for_members()
+    }
 }
 
 // The steps down from where a descent began, with what of the path is shared: what leads to the start first, and then
 // what leads to where each step leads.
 #[derive(Drop)]
-pub struct DescentPath<'b, 'a> {
+pub struct SharedPath<'a> {
     alloc: Global,
-    start: PathTo<'b, 'a>,
-    steps: Vec<DownStep<'a>>,
+    start: Trail<'a>,
+    steps: Vec<DownStep<&'a String>>,
     shared: Vec<HeldPathToContainer<'a>>,
 }
 
-impl<'b, 'a> DescentPath<'b, 'a> {
-    // The path of a descent that is at its start. It takes no memory.
-    pub(crate) fn new(alloc: Global, start: PathTo<'b, 'a>) -> DescentPath<'b, 'a>
-        ensures descent { IsDescentPath result }
-        ensures location { descent_location result ≡ path_location start.entry }
-    {
-        DescentPath {
-            alloc,
-            start,
-            steps: Vec::new(alloc),
-            shared: Vec::new(alloc),
-        }
-    }
-
+impl<'a> SharedPath<'a> {
     // Goes on with the path by a step to an item or a member. Nothing is shared for it yet.
     #[inline]
-    pub(crate) fn go_step_down(&mut self, step: DownStep<'a>) -> Result<(), NoMemory>
+    fn go_step_down(&mut self, step: DownStep<&'a String>) -> Result<(), NoMemory>
         requires { IsDescentPath self.old }
-        ensures start { OnOk result (path_location self.new.start ≡ path_location self.old.start) }
+        ensures start { OnOk result (location_at self.new.start ≡ location_at self.old.start) }
         ensures steps { OnOk result (self.new.steps.items ≡ self.old.steps.items ++ step.entry ∷ []) }
-        ensures descent { OnOk result (IsDescentPath self.new) }
+        ensures descent { IsDescentPath self.new }
     {
         self.steps.push(step)?;
         Ok(())
@@ -57,9 +117,9 @@ impl<'b, 'a> DescentPath<'b, 'a> {
 
     // Takes the last step back, with what was shared for where it leads.
     #[inline]
-    pub(crate) fn go_step_up(&mut self)
+    fn go_step_up(&mut self)
         requires { IsDescentPath self.old }
-        ensures start { path_location self.new.start ≡ path_location self.old.start }
+        ensures start { location_at self.new.start ≡ location_at self.old.start }
         ensures steps { self.new.steps.items ≡ take (vec_len self.old.steps - 1) self.old.steps.items }
         ensures descent { IsDescentPath self.new }
     {
@@ -68,10 +128,11 @@ impl<'b, 'a> DescentPath<'b, 'a> {
     }
 
     // A trail to the array where the descent is, for its items to share.
-    pub(crate) fn trail_for_items(&mut self) -> Result<Rc<Trail<'a>>, NoMemory>
+    fn trail_for_items(&mut self) -> Result<Rc<Trail<'a>>, NoMemory>
         requires { IsDescentPath self.old }
         ensures leads { IfOk result (λ shared. location_at shared.value ≡ descent_location self.old) }
-        ensures stays { OnOk result (StaysAt self.old self.new) }
+        ensures stays { OnOk result (IsKeptAt self.old self.new) }
+        ensures descent { IsDescentPath self.new }
     {
         let count = self.steps.len();
         self.share_up_to(count)?;
@@ -79,10 +140,11 @@ impl<'b, 'a> DescentPath<'b, 'a> {
     }
 
     // The path to the object where the descent is, held for its members to share.
-    pub(crate) fn held_path_for_members(&mut self) -> Result<HeldPathToContainer<'a>, NoMemory>
+    fn held_path_for_members(&mut self) -> Result<HeldPathToContainer<'a>, NoMemory>
         requires { IsDescentPath self.old }
         ensures leads { IfOk result (λ held. held_path_location held ≡ descent_location self.old) }
-        ensures stays { OnOk result (StaysAt self.old self.new) }
+        ensures stays { OnOk result (IsKeptAt self.old self.new) }
+        ensures descent { IsDescentPath self.new }
     {
         let count = self.steps.len();
         self.share_up_to(count)?;
@@ -94,9 +156,9 @@ impl<'b, 'a> DescentPath<'b, 'a> {
         requires descent { IsDescentPath self.old }
         requires within { count ≤ vec_len self.old.steps }
         ensures shared { OnOk result (count < vec_len self.new.shared) }
-        ensures start { OnOk result (path_location self.new.start ≡ path_location self.old.start) }
+        ensures start { OnOk result (location_at self.new.start ≡ location_at self.old.start) }
         ensures steps { OnOk result (self.new.steps.items ≡ self.old.steps.items) }
-        ensures descent { OnOk result (IsDescentPath self.new) }
+        ensures descent { IsDescentPath self.new }
     {
         while self.shared.len() <= count {
             let next = self.next_path_to_share()?;
@@ -109,15 +171,15 @@ impl<'b, 'a> DescentPath<'b, 'a> {
     fn next_path_to_share(&mut self) -> Result<HeldPathToContainer<'a>, NoMemory>
         requires descent { IsDescentPath self.old }
         requires more { vec_len self.old.shared ≤ vec_len self.old.steps }
-        ensures leads { IfOk result (λ held. held_path_location held ≡ location_after (path_location self.old.start) (take (vec_len self.old.shared) self.old.steps.items)) }
+        ensures leads { IfOk result (λ held. held_path_location held ≡ location_after (location_at self.old.start) (take (vec_len self.old.shared) self.old.steps.items)) }
         ensures shared { OnOk result (vec_len self.new.shared ≡ vec_len self.old.shared) }
-        ensures start { OnOk result (path_location self.new.start ≡ path_location self.old.start) }
+        ensures start { OnOk result (location_at self.new.start ≡ location_at self.old.start) }
         ensures steps { OnOk result (self.new.steps.items ≡ self.old.steps.items) }
-        ensures descent { OnOk result (IsDescentPath self.new) }
+        ensures descent { IsDescentPath self.new }
     {
         let count = self.shared.len();
         if count == 0 {
-            return held_path_to_container(self.alloc, self.start);
+            return held_path_to_container(self.alloc, PathTo::Whole(&self.start));
         }
         match self.steps[count - 1] {
             DownStep::Item(index) => {
@@ -139,11 +201,11 @@ impl<'b, 'a> DescentPath<'b, 'a> {
     fn trail_after_steps(&mut self, count: usize) -> Result<Rc<Trail<'a>>, NoMemory>
         requires descent { IsDescentPath self.old }
         requires within { count < vec_len self.old.shared }
-        ensures leads { IfOk result (λ trail. location_at trail.value ≡ location_after (path_location self.old.start) (take count self.old.steps.items)) }
+        ensures leads { IfOk result (λ trail. location_at trail.value ≡ location_after (location_at self.old.start) (take count self.old.steps.items)) }
         ensures shared { OnOk result (vec_len self.new.shared ≡ vec_len self.old.shared) }
-        ensures start { OnOk result (path_location self.new.start ≡ path_location self.old.start) }
+        ensures start { OnOk result (location_at self.new.start ≡ location_at self.old.start) }
         ensures steps { OnOk result (self.new.steps.items ≡ self.old.steps.items) }
-        ensures descent { OnOk result (IsDescentPath self.new) }
+        ensures descent { IsDescentPath self.new }
     {
         if let HeldPathToContainer::Whole(trail) = &self.shared[count] {
             return Ok(trail.clone()?);

@@ -1,6 +1,5 @@
-use Rattle.std.proofs.Common.{◌≡◌, ◌++◌, map, refl, arith, subst}
+use Rattle.std.proofs.Common.{◌≡◌, ◌++◌, map, refl, subst}
 use Rattle.serde_json.specs.Data.{array}
-use Rattle.serde_json.specs.View.{items_view}
 use Rattle.jsonpath_nodes.specs.place.Mark.{shown, look_kept_from}
 use Rattle.jsonpath_nodes.specs.step.Steps.{single_steps, every}
 use Rattle.jsonpath_nodes.proofs.place.KeptLemmas.{shown_items, items_end, children_of_items}
@@ -8,10 +7,10 @@ use Rattle.jsonpath_nodes.proofs.step.children.add_every_item.Goals as goal
 
 pub returns : goal.returns
 returns g c =
-    let b = g.M.Mark.located in
-    let l = g.M.Mark.items_stand c.args.here.now in
-    let whole = items_view c.args.items.now.items in
-    let show = shown g.M.Mark.stand g.M.Mark.content in
-    subst (λ before. map show c.loop-i.out.items ≡ map show before ++ map (look_kept_from b l (array whole)) (single_steps every (array whole))) c.reserve.ensures.items
-    (items_end (shown_items b l) c.loop-i.i c.deref-item-items.result.now c.args.items.now.items _ _ _ (λ n. refl) c.deref-item-items.ensures.value (omega arith) c.loop-i.invariant
+    let b = g.M.Descends.located in
+    let l = g.M.Descends.items_stand c.args.here.now in
+    let whole = g.M.Tree.Tree.items c.args.items in
+    let show = shown g.M.Descends.stand g.M.Descends.content in
+    subst (λ before. map show c.loop-item.out.items ≡ map show before ++ map (look_kept_from b l (array whole)) (single_steps every (array whole))) c.reserve.ensures.items
+    (items_end (shown_items b l) c.loop-item.i (g.M.Tree.Tree.items_left c.loop-item.left) whole _ _ _ (λ n. refl) c.in_default.ensures c.loop-item.invariant.gains
     (children_of_items b l whole))

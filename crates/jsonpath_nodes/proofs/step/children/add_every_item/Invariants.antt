@@ -1,10 +1,18 @@
-use Rattle.std.proofs.Common.{◌≡◌, ◌++◌, map, drop}
-use Rattle.serde_json.specs.View.{items_view}
+use Rattle.std.proofs.Common.{◌≡◌, ◌+◌, ◌++◌, map}
+use Rattle.serde_json.specs.Events.{items_len}
 use Rattle.jsonpath_nodes.specs.place.Mark.{shown}
 use Rattle.jsonpath_nodes.proofs.place.KeptLemmas.{shown_items}
 use Rattle.jsonpath_nodes.proofs.step.children.add_every_item.Given as goal
 
-abbrev pub invariant-loop-i : goal.invariant-loop-i
-invariant-loop-i g l =
-    map (shown g.M.Mark.stand g.M.Mark.content) l.out.items ++ shown_items g.M.Mark.located (g.M.Mark.items_stand l.here) l.i (items_view (drop l.i l.item-items))
-    ≡ map (shown g.M.Mark.stand g.M.Mark.content) l.initial.out.items ++ shown_items g.M.Mark.located (g.M.Mark.items_stand l.here) 0 (items_view l.item-items)
+abbrev pub invariant-loop-item : goal.invariant-loop-item
+invariant-loop-item g l =
+    let left = g.M.Tree.Tree.items_left l.left in
+    let all = g.M.Tree.Tree.items l.fn.items in
+    record {
+      gains : map (shown g.M.Descends.stand g.M.Descends.content) l.out.items ++ shown_items g.M.Descends.located (g.M.Descends.items_stand l.here) l.i left
+          ≡ map (shown g.M.Descends.stand g.M.Descends.content) l.initial.out.items ++ shown_items g.M.Descends.located (g.M.Descends.items_stand l.here) 0 all;
+      count : l.i + items_len left ≡ items_len all;
+    }
+
+abbrev pub decreases-loop-item : goal.decreases-loop-item
+decreases-loop-item g l = items_len (g.M.Tree.Tree.items_left l.left)

@@ -2,8 +2,6 @@ use Rattle.std.proofs.Common.{◌≡◌, ◌++◌, ◌≤◌, ◌+◌, ◌%◌, 
 use Rattle.std.specs.Prelude.{filter}
 use Rattle.std.proofs.Math.Nat.{zero-mod}
 use Rattle.serde_json.specs.Data.{array}
-use Rattle.serde_json.specs.View.{items_view}
-use Rattle.serde_json.proofs.Views.{items_len-items_view}
 use Rattle.jsonpath_nodes.specs.place.Mark.{shown, look_kept_from}
 use Rattle.jsonpath_nodes.specs.step.Steps.{count_up, is_in_range, length_of}
 use Rattle.jsonpath_nodes.proofs.place.SightLemmas.{Sight}
@@ -12,33 +10,33 @@ use Rattle.jsonpath_nodes.proofs.step.children.add_items_between.Goals as goal
 
 pub returns-then-step-eq0 : goal.returns-then-step-eq0
 returns-then-step-eq0 g c =
-    let d = array (items_view c.args.items.now.items) in
-    let look = look_kept_from g.M.Mark.located (g.M.Mark.items_stand c.args.here.now) d in
-    let xs = map (shown g.M.Mark.stand g.M.Mark.content) c.args.out.now.items in
+    let d = array (g.M.Tree.Tree.items c.args.items) in
+    let look = look_kept_from g.M.Descends.located (g.M.Descends.items_stand c.args.here.now) d in
+    let xs = map (shown g.M.Descends.stand g.M.Descends.content) c.args.out.now.items in
     subst (λ (step : ℕ). xs ≡ xs ++ shown_at look (filter (is_in_range c.args.first c.args.end step) (count_up 0 (length_of d)))) (sym c.if-step-eq0.true)
     (between_none look c.args.first c.args.end (length_of d) xs)
 
 pub loop-i-init : goal.loop-i-init
 loop-i-init g c =
-    let d = array (items_view c.args.items.now.items) in
-    let look = look_kept_from g.M.Mark.located (g.M.Mark.items_stand c.args.here.now) d in
+    let d = array (g.M.Tree.Tree.items c.args.items) in
+    let look = look_kept_from g.M.Descends.located (g.M.Descends.items_stand c.args.here.now) d in
     let none : c.args.first - c.args.first ≡ 0 = omega arith in
     record {
-      found = ap (λ (ss : List Sight). map (shown g.M.Mark.stand g.M.Mark.content) c.args.out.now.items ++ ss) (between_init look c.args.first c.args.end c.args.step (length_of d));
+      found = ap (λ (ss : List Sight). map (shown g.M.Descends.stand g.M.Descends.content) c.args.out.now.items ++ ss) (between_init look c.args.first c.args.end c.args.step (length_of d));
       low = λ h. omega arith;
       on = λ h. ap (λ (x : ℕ). x % c.args.step) none ∙ zero-mod c.args.step;
     }
 
 pub loop-i-preserved : goal.loop-i-preserved
 loop-i-preserved g c =
-    let d = array (items_view c.args.items.now.items) in
-    let look = look_kept_from g.M.Mark.located (g.M.Mark.items_stand c.args.here.now) d in
+    let d = array (g.M.Tree.Tree.items c.args.items) in
+    let look = look_kept_from g.M.Descends.located (g.M.Descends.items_stand c.args.here.now) d in
     let i = c.loop-i.i in
     let j = c.saturating_add-i.result in
     let first = c.args.first in
     let end = c.args.end in
     let step = c.args.step in
-    let within : end ≤ length_of d = omega (arith, c.requires, c.args.items.now.ok.0, items_len-items_view c.args.items.now.items) in
+    let within : end ≤ length_of d = c.requires in
     let low : first ≤ i = c.loop-i.invariant.low c.loop-i-test.true in
     let on : (i - first) % step ≡ 0 = c.loop-i.invariant.on c.loop-i-test.true in
     let next : (j ≡ i + step) ⊎ ((end ≤ j) × (end ≤ i + step)) = stops j (i + step) 18446744073709551615 end c.saturating_add-i.ensures (omega (arith, c.ranges.end.fits)) in
@@ -50,5 +48,5 @@ loop-i-preserved g c =
 
 pub returns : goal.returns
 returns g c =
-    let d = array (items_view c.args.items.now.items) in
-    between_done (look_kept_from g.M.Mark.located (g.M.Mark.items_stand c.args.here.now) d) c.args.first c.args.end c.args.step c.loop-i.i (length_of d) _ _ c.loop-i-test.false c.loop-i.invariant.found
+    let d = array (g.M.Tree.Tree.items c.args.items) in
+    between_done (look_kept_from g.M.Descends.located (g.M.Descends.items_stand c.args.here.now) d) c.args.first c.args.end c.args.step c.loop-i.i (length_of d) _ _ c.loop-i-test.false c.loop-i.invariant.found

@@ -1,8 +1,12 @@
-use Rattle.serde_json.specs.View.{view}
+use Rattle.std.proofs.Common.{sym, ap, ◌∙◌}
+use Rattle.serde_json.specs.Find.{as_array, as_object}
 use Rattle.jsonpath_nodes.specs.step.PlainSteps.{plain_step_of}
 use Rattle.jsonpath_nodes.proofs.step.NowhereLemmas.{leaf_else}
 use Rattle.jsonpath_nodes.proofs.place.KeptLemmas.{leaf_step}
 use Rattle.jsonpath_nodes.proofs.step.children.add_selected_children.Goals as goal
 
-pub returns-in_default : goal.returns-in_default
-returns-in_default g c = leaf_step g.M.Mark.located (plain_step_of c.args.plain.now) (g.M.Mark.stand c.args.mark.now) (view c.args.value.now) _ (leaf_else c.args.value.now c.in_default.not-Array c.in_default.not-Object)
+pub returns-in_default-as_object : goal.returns-in_default-as_object
+returns-in_default-as_object g c =
+    let same = sym c.tree-value.ensures in
+    leaf_step g.M.Descends.located (plain_step_of c.args.plain.now) (g.M.Descends.stand c.args.node.now) (g.M.Descends.content c.args.node.now) _
+    (leaf_else (g.M.Descends.content c.args.node.now) (ap as_array same ∙ c.in_default.ensures.none) (ap as_object same ∙ c.in_default-as_object.ensures.none))

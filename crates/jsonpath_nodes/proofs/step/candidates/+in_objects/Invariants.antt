@@ -1,0 +1,56 @@
+use Rattle.std.proofs.Common.{◌≡◌, ◌≤◌, ◌+◌, ◌*◌, ◌++◌, map}
+use Rattle.serde_json.specs.Data.{depth, items_depth, members_depth}
+use Rattle.serde_json.specs.Events.{items_len, members_len}
+use Rattle.jsonpath_nodes.specs.place.Mark.{shown}
+use Rattle.jsonpath_nodes.specs.place.Order.{AreDocuments, HoldDocuments}
+use Rattle.jsonpath_nodes.specs.plan.Way.{way_stand, Stays}
+use Rattle.jsonpath_nodes.specs.step.Candidates.{in_objects}
+use Rattle.jsonpath_nodes.proofs.place.KeptLemmas.{seen_items, seen_members}
+use Rattle.jsonpath_nodes.proofs.step.candidates.+in_objects.Given as goal
+
+abbrev pub decreases-add_in_objects : goal.decreases-add_in_objects
+decreases-add_in_objects g l = 3 * depth (g.M.Tree.Tree.content l.value) + 1
+
+abbrev pub decreases-add_in_objects_of_child : goal.decreases-add_in_objects_of_child
+decreases-add_in_objects_of_child g l = 3 * depth (g.M.Tree.Tree.content l.value) + 2
+
+abbrev pub decreases-add_in_objects_of_items : goal.decreases-add_in_objects_of_items
+decreases-add_in_objects_of_items g l = 3 * items_depth (g.M.Tree.Tree.items l.items) + 3
+
+abbrev pub decreases-add_in_object_and_below : goal.decreases-add_in_object_and_below
+decreases-add_in_object_and_below g l = 3 * members_depth (g.M.Tree.Tree.members l.members) + 3
+
+abbrev pub invariant-add_in_objects_of_items-loop-item : goal.invariant-add_in_objects_of_items-loop-item
+invariant-add_in_objects_of_items-loop-item g l =
+    let b = g.M.Descends.located in
+    let left = g.M.Tree.Tree.items_left l.left in
+    let all = g.M.Tree.Tree.items l.fn.items in
+    let place = way_stand b (g.M.Descends.start l.initial.way) (g.M.Descends.steps l.initial.way) in
+    let show = shown g.M.Descends.stand g.M.Descends.content in
+    record {
+      gains : map show l.out.items ++ seen_items b in_objects place l.i left ≡ map show l.initial.out.items ++ seen_items b in_objects place 0 all;
+      stays : Stays b (g.M.Descends.start l.initial.way) (g.M.Descends.steps l.initial.way) (g.M.Descends.start l.way) (g.M.Descends.steps l.way);
+      documents : AreDocuments left → AreDocuments all;
+      count : l.i + items_len left ≡ items_len all;
+      within : items_depth left ≤ items_depth all;
+    }
+
+abbrev pub decreases-add_in_objects_of_items-loop-item : goal.decreases-add_in_objects_of_items-loop-item
+decreases-add_in_objects_of_items-loop-item g l = items_len (g.M.Tree.Tree.items_left l.left)
+
+abbrev pub invariant-add_in_object_and_below-loop-name : goal.invariant-add_in_object_and_below-loop-name
+invariant-add_in_object_and_below-loop-name g l =
+    let b = g.M.Descends.located in
+    let left = g.M.Tree.Tree.members_left l.left in
+    let all = g.M.Tree.Tree.members l.fn.members in
+    let place = way_stand b (g.M.Descends.start l.initial.way) (g.M.Descends.steps l.initial.way) in
+    let show = shown g.M.Descends.stand g.M.Descends.content in
+    record {
+      gains : map show l.out.items ++ seen_members b in_objects place left ≡ map show l.initial.out.items ++ seen_members b in_objects place all;
+      stays : Stays b (g.M.Descends.start l.initial.way) (g.M.Descends.steps l.initial.way) (g.M.Descends.start l.way) (g.M.Descends.steps l.way);
+      documents : HoldDocuments left → HoldDocuments all;
+      within : members_depth left ≤ members_depth all;
+    }
+
+abbrev pub decreases-add_in_object_and_below-loop-name : goal.decreases-add_in_object_and_below-loop-name
+decreases-add_in_object_and_below-loop-name g l = members_len (g.M.Tree.Tree.members_left l.left)

@@ -1,8 +1,0 @@
-use Rattle.std.proofs.Common.{◌∷◌, []}
-use Rattle.jsonpath_nodes.specs.place.SpotPlace.{path_location}
-use Rattle.jsonpath_nodes.proofs.step.DescentPathLemmas.{along_longer}
-use Rattle.jsonpath_nodes.proofs.step.descend.descent_path.DescentPath.go_step_down.Goals as goal
-
-pub returns-clause-descent : goal.returns-clause-descent
-returns-clause-descent c =
-    rw c.in_ok-push.ensures.items (along_longer (path_location c.args.self.now.start) c.args.self.now.steps.items (c.args.step ∷ []) c.args.self.now.shared.items c.requires)

@@ -1,0 +1,14 @@
+use Rattle.std.proofs.Common.{◌≡◌, ◌+◌, ◌-◌, vec_len}
+use Rattle.jsonpath_nodes.specs.place.SpotPlace.{location_at}
+use Rattle.jsonpath_nodes.specs.plan.DescentPath.{IsDescentPath}
+use Rattle.jsonpath_nodes.proofs.step.descend.descent_path.SharedPath.share_up_to.Given as goal
+
+abbrev pub invariant-loop-self : goal.invariant-loop-self
+invariant-loop-self l = record {
+  start : location_at l.self.start ≡ location_at l.initial.self.start;
+  steps : l.self.steps.items ≡ l.initial.self.steps.items;
+  descent : IsDescentPath l.self;
+}
+
+abbrev pub decreases-loop-self : goal.decreases-loop-self
+decreases-loop-self l = l.count + 1 - vec_len l.self.shared

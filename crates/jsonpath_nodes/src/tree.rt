@@ -1,0 +1,76 @@
+//! What the steps of a path need of a document: its values, as small copies that lead to them. A `Tree` names no
+//! lifetime, so functions that call themselves can be generic over it.
+
+ghost use Rattle.std.specs.Prelude.{◌≡◌, List, ℕ, None, option_map, MatchOption, IfSome, IfNone};
+ghost use Rattle.serde_json.specs.Data.{Data, Items, Members, array, object, no_items, item, no_members, member};
+ghost use Rattle.serde_json.specs.Events.{items_len};
+ghost use Rattle.serde_json.specs.Find.{as_array, as_object, get_item, get_member};
+ghost use Rattle.jsonpath_nodes.specs.place.Order.{Ascend};
+
+pub(crate) mod of_value;
+
+// A value of a document, as what leads to it.
+pub trait Tree: Copy + Drop {
+    // The name of a member, as the document has it.
+    type Name: Copy;
+    // An array.
+    type Array: Copy;
+    // An object.
+    type Object: Copy;
+    // The items of an array that are still to come.
+    type ItemsLeft: Drop;
+    // The members of an object that are still to come.
+    type MembersLeft: Drop;
+
+    ghost content: { Self → Data };
+
+    ghost items: { Self.Array → Items };
+
+    ghost members: { Self.Object → Members };
+
+    ghost name_bytes: { Self.Name → List ℕ };
+
+    ghost items_left: { Self.ItemsLeft → Items };
+
+    ghost members_left: { Self.MembersLeft → Members };
+
+    // The array, if the value is one.
+    fn as_array(self) -> Option<Self::Array>
+        ensures some { IfSome result (λ a. content self ≡ array (items a)) }
+        ensures none { IfNone result (as_array (content self) ≡ None) };
+
+    // The object, if the value is one.
+    fn as_object(self) -> Option<Self::Object>
+        ensures some { IfSome result (λ o. content self ≡ object (members o)) }
+        ensures none { IfNone result (as_object (content self) ≡ None) };
+
+    // The number of items.
+    fn len(array: Self::Array) -> usize
+        ensures { result ≡ items_len (items array) };
+
+    // The item at an index from the front.
+    fn item_at(array: Self::Array, index: usize) -> Option<Self>
+        ensures { option_map (λ v. content v) result ≡ get_item index (items array) };
+
+    // The member of this name, with the name as the object has it; the last one, where the name comes again.
+    fn member_named(object: Self::Object, name: &str) -> Option<(Self::Name, Self)>
+        ensures key { IfSome result (λ p. name_bytes p.0 ≡ name.now) }
+        ensures value { option_map (λ p. content p.1) result ≡ get_member name.now (members object) };
+
+    // The items in their order.
+    fn each_item(array: Self::Array) -> Self::ItemsLeft
+        ensures { items_left result ≡ items array };
+
+    // The next item.
+    fn next_item(left: &mut Self::ItemsLeft) -> Option<Self>
+        ensures { MatchOption result (items_left left.old ≡ no_items) (λ v. items_left left.old ≡ item (content v) (items_left left.new)) };
+
+    // The members in the order of their names' bytes, each name once.
+    fn each_member(object: Self::Object) -> Self::MembersLeft
+        ensures all { members_left result ≡ members object }
+        ensures ordered { Ascend (members object) };
+
+    // The next member.
+    fn next_member(left: &mut Self::MembersLeft) -> Option<(Self::Name, Self)>
+        ensures { MatchOption result (members_left left.old ≡ no_members) (λ p. members_left left.old ≡ member (name_bytes p.0) (content p.1) (members_left left.new)) };
+}

@@ -1,0 +1,93 @@
+//! The tree of `serde_json`: a value is a reference, an object a map that is sorted by names.
+
+ghost use Rattle.std.specs.Prelude.{string_bytes};
+ghost use Rattle.std.specs.Slice.Iter.{iter_rest};
+ghost use Rattle.serde_json.specs.View.{view, items_view, members_view};
+
+use crate::tree::Tree;
+use serde_json::{Map, Value};
+use std::collections::btree_map;
+
+impl<'a> Tree for &'a Value {
+    type Name = &'a String;
+
+    type Array = &'a Vec<Value>;
+
+    type Object = &'a Map<String, Value>;
+
+    type ItemsLeft = std::slice::Iter<'a, Value>;
+
+    type MembersLeft = btree_map::Iter<'a, String, Value>;
+
+    ghost content = { λ v. view v.now };
+
+    ghost items = { λ a. items_view a.now.items };
+
+    ghost members = { λ o. members_view o.now.entries };
+
+    ghost name_bytes = { λ k. string_bytes k.now };
+
+    ghost items_left = { λ left. items_view (iter_rest left) };
+
+    ghost members_left = { λ left. members_view left };
+
+    #[inline(always)]
+    fn as_array(self) -> Option<&'a Vec<Value>> {
+        match self {
+            Value::Array(items) => Some(items),
+            _ => None,
+        }
+    }
+
+    #[inline(always)]
+    fn as_object(self) -> Option<&'a Map<String, Value>> {
+        match self {
+            Value::Object(members) => Some(members),
+            _ => None,
+        }
+    }
+
+    #[inline(always)]
+    fn len(array: &'a Vec<Value>) -> usize {
+        array.len()
+    }
+
+    #[inline(always)]
+    fn item_at(array: &'a Vec<Value>, index: usize) -> Option<&'a Value> {
+        if index < array.len() {
+            Some(&array[index])
+        } else {
+            None
+        }
+    }
+
+    #[inline]
+    fn member_named(object: &'a Map<String, Value>, name: &str) -> Option<(&'a String, &'a Value)> {
+        match object.get_key_value(name) {
+            Some((key, member)) => Some((key, member)),
+            None => None,
+        }
+    }
+
+    #[inline(always)]
+    fn each_item(array: &'a Vec<Value>) -> std::slice::Iter<'a, Value> {
+        array.iter()
+    }
+
+    #[inline(always)]
+    fn next_item(left: &mut std::slice::Iter<'a, Value>) -> Option<&'a Value> {
+        left.next()
+    }
+
+    #[inline(always)]
+    fn each_member(object: &'a Map<String, Value>) -> btree_map::Iter<'a, String, Value> {
+        object.iter()
+    }
+
+    #[inline(always)]
+    fn next_member(
+        left: &mut btree_map::Iter<'a, String, Value>,
+    ) -> Option<(&'a String, &'a Value)> {
+        left.next()
+    }
+}
