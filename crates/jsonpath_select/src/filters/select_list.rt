@@ -30,7 +30,7 @@ use crate::tagged::shared_lists::marks_shared_by_candidates;
 use jsonpath_nodes::laws::{
     apart_locations_meet_candidates_once, candidates_of_disjoint_in_descents, value_is_document,
 };
-use jsonpath_nodes::{Descends, NoMemory};
+use jsonpath_nodes::{Mark, NoMemory};
 use jsonpath_paths::ParseToken;
 use std::alloc::Global;
 
@@ -197,7 +197,7 @@ pub(crate) fn instruction_count_after_last_filter_with_own_step(left: &[Instruct
 }
 
 // The candidates behind `..` of a filter whose own `@` has a step, from one mark after the other.
-fn candidates_below_each<'a, M: Descends<'a>>(
+fn candidates_below_each<'a, M: Mark<'a>>(
     alloc: Global,
     marks: &[M],
 ) -> Result<Vec<M>, NoMemory>

@@ -10,14 +10,14 @@ ghost use Rattle.jsonpath_nodes.specs.step.Steps.{step, all_below, every, flatte
 use crate::error::halt::Halt;
 use jsonpath_nodes::steps_on_marks::{candidates_below_mark, flattened_from_mark};
 use jsonpath_nodes::{
-    Descends, Mark, NoMemory, Spot, ValueWalker, in_document_order, topmost_spots,
+    Mark, NoMemory, Spot, ValueWalker, in_document_order, topmost_spots,
 };
 use serde_json::Value;
 use std::alloc::Global;
 
 // A mark that can be carried from step to step. The candidates of a filter whose own `@` has a step are what is no
 // array and is reached from the marks through arrays alone; to find them is to flatten.
-pub trait Carried<'a>: Descends<'a> {
+pub trait Carried<'a>: Mark<'a> {
     ghost use Rattle.jsonpath_select.specs.declared.error.halt.Halt.TheVariants.{OutOfMemory};
 
     // The mark at the root of the document.

@@ -9,13 +9,13 @@ ghost use Rattle.jsonpath_select.specs.Parts.{plain_of};
 use crate::step::index::decimal_to_index;
 use crate::step::names::{name_at, names_at};
 use jsonpath_nodes::steps_on_marks::stride_from_each;
-use jsonpath_nodes::{Descends, NoMemory, Selection, Stride};
+use jsonpath_nodes::{Mark, NoMemory, Selection, Stride};
 use jsonpath_paths::ParseToken;
 use std::alloc::Global;
 
 // Where the plain step by a token leads from the marks, one after the other; where `leaves` is set, from them and all
 // below them.
-pub(crate) fn marks_after_plain_step<'a, M: Descends<'a>>(
+pub(crate) fn marks_after_plain_step<'a, M: Mark<'a>>(
     alloc: Global,
     text: &str,
     leaves: bool,
