@@ -1,9 +1,8 @@
 -- From what is seen from each spot to what stands where in a document.
-use Rattle.std.proofs.Common.{◌≡◌, ℕ, List, [], ◌∷◌, ◌++◌, map, Option, Some, None, refl, sym, ap, ap₂, ◌∙◌}
-use Rattle.std.specs.Prelude.{option_and_then}
+use Rattle.std.proofs.Common.{◌≡◌, ℕ, List, [], ◌∷◌, ◌++◌, ◌≤◌, map, length, Bool, true, false, cond, Option, Some, None, refl, sym, ap, ap₂, ◌∙◌, arith}
+use Rattle.std.specs.Prelude.{option_and_then, is_some}
 use Rattle.serde_json.specs.Data.{Data}
-use Rattle.jsonpath_nodes.specs.place.Location.{name, Location, child, at}
-use Rattle.serde_json.specs.Find.{get}
+use Rattle.jsonpath_nodes.specs.place.Location.{Step, name, Location, child, at}
 use Rattle.jsonpath_nodes.specs.step.Steps.{single_steps, named}
 use Rattle.jsonpath_nodes.specs.place.SpotPlace.{look, look_from}
 use Rattle.jsonpath_nodes.proofs.place.SightLemmas.{Sight}
@@ -23,8 +22,10 @@ look-below doc l d (m ∷ ms) is =
     let there : at doc (l ++ m) ≡ at d m = at-append l m doc ∙ ap (option_and_then (λ c. at c m)) is in
     ap₂ (λ (x : Sight) (xs : List Sight). x ∷ xs) (ap (λ (o : Option Data). (l ++ m, o)) (sym there)) (look-below doc l d ms is)
 
-pub named_there : (k : List ℕ) (l : Location) (d c : Data) → get k d ≡ Some c → map (look_from l d) (single_steps (named k) d) ≡ (l ++ name k ∷ [], Some c) ∷ []
-named_there k l d c is = rw is (rw is refl)
-
-pub named_nowhere : (k : List ℕ) (l : Location) (d : Data) → get k d ≡ None → map (look_from l d) (single_steps (named k) d) ≡ []
-named_nowhere k l d is = rw is refl
+-- a name leads to one child at most
+pub named_few : (k : List ℕ) (d : Data) → length (single_steps (named k) d) ≤ 1
+named_few k d = by (is_some (child (name k) d))
+  where
+    by : (b : Bool) → length (map (λ (s : Step). s ∷ []) (cond b (name k ∷ []) [])) ≤ 1
+    by true = omega arith
+    by false = omega arith

@@ -46,7 +46,6 @@ held_path_location (held.Item t i) = location_at t.value ++ index i ∷ []
 abbrev pub path_location : PathTo → Location
 path_location (path_to.Whole t) = location_at t.now
 path_location (path_to.Item t i) = location_at t.now.value ++ index i ∷ []
-path_location (path_to.Member b key) = object_path_location b ++ name (string_bytes key.now) ∷ []
 
 -- where a spot stands, and the value there
 abbrev pub location_of : Spot → Location

@@ -8,11 +8,11 @@ ghost use Rattle.jsonpath_nodes.specs.step.Steps.{step, all_below, every, named,
 use crate::memory::NoMemory;
 use crate::place::location::Location;
 use crate::place::trail::{
-    PathTo, PathToObject, Trail, add_steps_of_path_to_value, clone_trail, is_root,
-    len_of_path_to_value, member_trail_of_path_to_value, shared_trail_of_path_to_value,
+    PathTo, Trail, add_steps_of_path_to_value, clone_trail, is_root, len_of_path_to_value,
+    shared_trail,
 };
-use crate::step::child_lookup::{item_of_value, member_of_value};
-use crate::step::children::add_selected_children;
+use crate::step::child_lookup::item_of_value;
+use crate::step::children::{add_named_member, add_selected_children};
 use crate::step::descend::add_node_and_all_below;
 use crate::step::plain_step::PlainStep;
 use serde_json::Value;
@@ -108,7 +108,7 @@ impl<'a> Spot<'a> {
         ensures { steps_of result ≡ location_of self.now }
     {
         Steps {
-            path_to: self.lent_path(),
+            path_to: PathTo::Whole(&self.trail),
         }
     }
 
@@ -153,13 +153,9 @@ impl<'a> Spot<'a> {
     pub fn member(&self, alloc: Global, name: &str) -> Result<Option<Spot<'a>>, NoMemory>
         ensures { IfOk result (λ found. LeadsBy (λ doc ls. step doc (named name.now) ls) (self.now ∷ []) (option_to_list found)) }
     {
-        match member_of_value(self.value, name) {
-            Some((key, member)) => Ok(Some(Spot {
-                value: member,
-                trail: member_trail_of_path_to_value(alloc, self.lent_path(), key)?,
-            })),
-            None => Ok(None),
-        }
+        let mut found = Vec::new(alloc);
+        add_named_member(self, alloc, name, &mut found)?;
+        Ok(found.pop())
     }
 
     /// The item at this index, from 0, as a node, if this node is an array that has one. The only error is `NoMemory`.
@@ -173,7 +169,7 @@ impl<'a> Spot<'a> {
     {
         match item_of_value(self.value, index) {
             Some(item) => {
-                let here = shared_trail_of_path_to_value(alloc, self.lent_path())?;
+                let here = shared_trail(alloc, &self.trail)?;
                 Ok(Some(Spot {
                     value: item,
                     trail: Trail::Item(here, index),
@@ -195,13 +191,6 @@ impl<'a> Spot<'a> {
         let mut found = Vec::new(alloc);
         add_node_and_all_below(alloc, self, &mut found)?;
         Ok(found)
-    }
-
-    // What leads to the spot, lent by it: it takes no memory.
-    pub(crate) fn lent_path(&self) -> PathTo<'_, 'a>
-        ensures { path_location result ≡ location_of self.now }
-    {
-        PathTo::Whole(&self.trail)
     }
 }
 
@@ -244,14 +233,6 @@ impl<'b, 'a> Steps<'b, 'a> {
             PathTo::Item(parent, i) => last_step_and_before(
                 PathTo::Whole(parent),
                 PathStep::Index(i),
-            ),
-            PathTo::Member(PathToObject::Whole(parent), key) => last_step_and_before(
-                PathTo::Whole(parent),
-                PathStep::Name(key.as_str()),
-            ),
-            PathTo::Member(PathToObject::Item(parent, i), key) => last_step_and_before(
-                PathTo::Item(parent, i as usize),
-                PathStep::Name(key.as_str()),
             ),
         }
     }

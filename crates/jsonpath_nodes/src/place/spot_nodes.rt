@@ -7,8 +7,9 @@ use crate::memory::NoMemory;
 use crate::place::spot::Spot;
 use crate::place::trail::{
     HeldPathToContainer, Trail, clone_trail, held_path_to_container, lend_path_to_object,
-    member_trail_of_path_to_object, member_trail_of_path_to_value, shared_trail_of_path_to_value,
+    member_trail, member_trail_of_path_to_object, shared_trail,
 };
+use crate::step::descend::DownStep;
 use crate::step::descend::descent_path::DescentPath;
 use crate::step::descends::Descends;
 use serde_json::Value;
@@ -50,12 +51,12 @@ impl<'a> Descends for Spot<'a> {
 
     // The trail to the array, which the spots of its items share.
     fn shared_by_items(&self, alloc: Global) -> Result<Rc<Trail<'a>>, NoMemory> {
-        shared_trail_of_path_to_value(alloc, self.lent_path())
+        shared_trail(alloc, &self.trail)
     }
 
     // The path to the object, which the spots of its members share.
     fn shared_by_members(&self, alloc: Global) -> Result<HeldPathToContainer<'a>, NoMemory> {
-        held_path_to_container(alloc, self.lent_path())
+        held_path_to_container(alloc, &self.trail)
     }
 
     // Adds the spot of an item to a list: it shares the trail to the array, and has its index behind it.
@@ -100,7 +101,7 @@ impl<'a> Descends for Spot<'a> {
     ) -> Result<(), NoMemory> {
         out.push(Spot {
             value,
-            trail: member_trail_of_path_to_value(alloc, self.lent_path(), name)?,
+            trail: member_trail(alloc, &self.trail, name)?,
         })?;
         Ok(())
     }
@@ -111,24 +112,24 @@ impl<'a> Descends for Spot<'a> {
 
     #[inline]
     fn go_to_item(way: &mut DescentPath<'a>, index: usize) -> Result<(), NoMemory> {
-        way.go_to_item(index)
+        way.path.go_step_down(DownStep::Item(index))
     }
 
     #[inline]
     fn go_to_member(way: &mut DescentPath<'a>, name: &'a String) -> Result<(), NoMemory> {
-        way.go_to_member(name)
+        way.path.go_step_down(DownStep::Member(name))
     }
 
     #[inline]
     fn go_back(way: &mut DescentPath<'a>) {
-        way.go_back();
+        way.path.go_step_up();
     }
 
     fn items_here(way: &mut DescentPath<'a>) -> Result<Rc<Trail<'a>>, NoMemory> {
-        way.trail_for_items()
+        way.path.trail_for_items()
     }
 
     fn members_here(way: &mut DescentPath<'a>) -> Result<HeldPathToContainer<'a>, NoMemory> {
-        way.held_path_for_members()
+        way.path.held_path_for_members()
     }
 }

@@ -3,10 +3,10 @@
 ghost use Rattle.std.specs.Prelude.{◌≡◌, ◌∷◌, [], ◌++◌, ◌-◌, ◌^◌, ℕ, take};
 ghost use Rattle.std.specs.Iterator.{YieldsFirstBy, item_count};
 ghost use Rattle.jsonpath_nodes.specs.place.Location.{Location};
-ghost use Rattle.jsonpath_nodes.specs.place.SpotPlace.{location_at, object_path_location, path_location, step_of, steps_of, steps_left, IsStepAt};
+ghost use Rattle.jsonpath_nodes.specs.place.SpotPlace.{location_at, path_location, step_of, steps_of, steps_left, IsStepAt};
 
 use crate::place::spot::{PathStep, Steps};
-use crate::place::trail::{PathTo, PathToObject, Trail};
+use crate::place::trail::{PathTo, Trail};
 
 /// Iterator over the steps to a node, from the root down. It takes no memory: each step is looked up from the node's
 /// end.
@@ -64,23 +64,6 @@ fn found_or_last_step<'a>(
     }
 }
 
-// The step at this index of a path to an object, from the root down. Where the path ends before it, an error says how
-// far: 0 right behind the last step.
-fn step_at_index_of_path_to_object<'a>(
-    path_to_object: PathToObject<'_, 'a>,
-    index: usize,
-) -> Result<PathStep<'a>, usize>
-    ensures { IsStepAt (object_path_location path_to_object.entry) index result }
-{
-    match path_to_object {
-        PathToObject::Whole(parent) => step_at_index_of_trail(parent, index),
-        PathToObject::Item(parent, i) => found_or_last_step(
-            step_at_index_of_trail(parent, index),
-            PathStep::Index(i as usize),
-        ),
-    }
-}
-
 // The step at this index of a path to a value, from the root down. Where the path ends before it, an error says how
 // far: 0 right behind the last step.
 fn step_at_index_of_path_to_value<'a>(
@@ -94,10 +77,6 @@ fn step_at_index_of_path_to_value<'a>(
         PathTo::Item(parent, i) => found_or_last_step(
             step_at_index_of_trail(parent, index),
             PathStep::Index(i),
-        ),
-        PathTo::Member(path_to_object, key) => found_or_last_step(
-            step_at_index_of_path_to_object(path_to_object, index),
-            PathStep::Name(key.as_str()),
         ),
     }
 }

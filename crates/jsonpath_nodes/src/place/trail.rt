@@ -36,12 +36,12 @@ pub enum HeldPathToContainer<'a> {
     Item(Rc<Trail<'a>>, u32),
 }
 
-// What leads to a value, lent. It shares nothing and takes no memory.
+// What leads to a value, lent: the trail to it, or the trail to the array that has it as an item, and its index there.
+// It shares nothing and takes no memory.
 #[derive(Clone, Copy)]
 pub enum PathTo<'b, 'a> {
     Whole(&'b Trail<'a>),
     Item(&'b Rc<Trail<'a>>, usize),
-    Member(PathToObject<'b, 'a>, &'a String),
 }
 
 // A trail to the same place.
@@ -71,43 +71,25 @@ pub(crate) fn member_trail_of_path_to_object<'a>(
     }
 }
 
-// A trail of its own to the value where a path to it, which is lent, leads.
-#[inline]
-pub(crate) fn trail_of_path_to_value<'a>(path_to: PathTo<'_, 'a>) -> Result<Trail<'a>, AllocError>
-    ensures { IfOk result (λ trail. location_at trail ≡ path_location path_to.entry) }
-{
-    match path_to {
-        PathTo::Whole(trail) => clone_trail(trail),
-        PathTo::Item(parent, i) => Ok(Trail::Item(parent.clone()?, i)),
-        PathTo::Member(path_to_object, key) => member_trail_of_path_to_object(path_to_object, key),
-    }
-}
-
-// A trail to the value where a path leads, for its children to share.
-pub(crate) fn shared_trail_of_path_to_value<'a>(
+// A trail to the same value, for its children to share.
+pub(crate) fn shared_trail<'a>(
     alloc: Global,
-    path_to: PathTo<'_, 'a>,
+    trail: &Trail<'a>,
 ) -> Result<Rc<Trail<'a>>, NoMemory>
-    ensures { IfOk result (λ here. location_at here.value ≡ path_location path_to.entry) }
+    ensures { IfOk result (λ here. location_at here.value ≡ location_at trail.now) }
 {
-    Ok(Rc::new(alloc, trail_of_path_to_value(path_to)?)?)
+    Ok(Rc::new(alloc, clone_trail(trail)?)?)
 }
 
-// A path to an item of an array, as a `PathToObject`, also where the item is itself an array. None where it leads to no
+// A trail to an item of an array, as a `PathToObject`, also where the item is itself an array. None where it leads to no
 // item, and where the index takes more than 32 bits.
 #[inline]
-pub(crate) fn as_path_to_object_in_array<'b, 'a>(
-    path_to: PathTo<'b, 'a>,
-) -> Option<PathToObject<'b, 'a>>
-    ensures { IfSome result (λ path_to_object. object_path_location path_to_object ≡ path_location path_to.entry) }
+fn as_path_to_object_in_array<'b, 'a>(trail: &'b Trail<'a>) -> Option<PathToObject<'b, 'a>>
+    ensures { IfSome result (λ path_to_object. object_path_location path_to_object ≡ location_at trail.now) }
 {
-    match path_to {
-        PathTo::Item(parent, i) => path_to_object_at_index(parent, i),
-        PathTo::Whole(Trail::Item(parent, i)) => path_to_object_at_index(parent, *i),
-        PathTo::Whole(Trail::Root) => None,
-        PathTo::Whole(Trail::Member(_, _)) => None,
-        PathTo::Whole(Trail::ItemMember(_, _, _)) => None,
-        PathTo::Member(_, _) => None,
+    match trail {
+        Trail::Item(parent, i) => path_to_object_at_index(parent, *i),
+        _ => None,
     }
 }
 
@@ -125,18 +107,18 @@ fn path_to_object_at_index<'b, 'a>(
     }
 }
 
-// The path to an array or object, to which `path_to` leads, held for what stands in it to share.
+// The path to an array or object, to which the trail leads, held for what stands in it to share.
 #[inline]
 pub(crate) fn held_path_to_container<'a>(
     alloc: Global,
-    path_to: PathTo<'_, 'a>,
+    trail: &Trail<'a>,
 ) -> Result<HeldPathToContainer<'a>, NoMemory>
-    ensures { IfOk result (λ here. held_path_location here ≡ path_location path_to.entry) }
+    ensures { IfOk result (λ here. held_path_location here ≡ location_at trail.now) }
 {
-    match as_path_to_object_in_array(path_to) {
+    match as_path_to_object_in_array(trail) {
         Some(PathToObject::Item(parent, i)) => Ok(HeldPathToContainer::Item(parent.clone()?, i)),
         Some(PathToObject::Whole(parent)) => Ok(HeldPathToContainer::Whole(parent.clone()?)),
-        None => Ok(HeldPathToContainer::Whole(shared_trail_of_path_to_value(alloc, path_to)?)),
+        None => Ok(HeldPathToContainer::Whole(shared_trail(alloc, trail)?)),
     }
 }
 
@@ -196,19 +178,19 @@ pub(crate) fn lend_path_to_object<'b, 'a>(here: &'b HeldPathToContainer<'a>) -> 
     }
 }
 
-// A trail to the member of this name of the object where a path to a value leads. A trail to the object is made for it;
-// where the object is an item of an array, the trail to the array is shared instead.
+// A trail to the member of this name of the object where a trail leads, which is made anew for it; where the object is
+// an item of an array, the trail to the array is shared instead.
 #[inline]
-pub(crate) fn member_trail_of_path_to_value<'a>(
+pub(crate) fn member_trail<'a>(
     alloc: Global,
-    path_to: PathTo<'_, 'a>,
+    trail: &Trail<'a>,
     key: &'a String,
 ) -> Result<Trail<'a>, NoMemory>
-    ensures { IfOk result (λ trail. location_at trail ≡ path_location path_to.entry ++ by_name (string_bytes key.now) ∷ []) }
+    ensures { IfOk result (λ longer. location_at longer ≡ location_at trail.now ++ by_name (string_bytes key.now) ∷ []) }
 {
-    match as_path_to_object_in_array(path_to) {
+    match as_path_to_object_in_array(trail) {
         Some(path_to_object) => Ok(member_trail_of_path_to_object(path_to_object, key)?),
-        None => Ok(Trail::Member(shared_trail_of_path_to_value(alloc, path_to)?, key)),
+        None => Ok(Trail::Member(shared_trail(alloc, trail)?, key)),
     }
 }
 
@@ -229,19 +211,6 @@ pub(crate) fn len_of_path_to_value(path_to: PathTo<'_, '_>) -> usize
     match path_to {
         PathTo::Whole(trail) => len_of_trail(trail),
         PathTo::Item(parent, _) => len_of_trail(parent).saturating_add(1),
-        PathTo::Member(path_to_object, _) => len_of_path_to_object(path_to_object).saturating_add(
-            1,
-        ),
-    }
-}
-
-// How many steps a path to an object has. More than `usize::MAX` count as that.
-fn len_of_path_to_object(path_to_object: PathToObject<'_, '_>) -> usize
-    ensures { result ≡ min (length (object_path_location path_to_object.entry)) (2 ^ 64 - 1) }
-{
-    match path_to_object {
-        PathToObject::Whole(parent) => len_of_trail(parent),
-        PathToObject::Item(parent, _) => len_of_trail(parent).saturating_add(1),
     }
 }
 
@@ -269,27 +238,6 @@ pub(crate) fn add_steps_of_path_to_value(
         PathTo::Item(parent, i) => {
             add_steps_of_trail(parent, steps)?;
             steps.push(LocStep::Index(i))?;
-        }
-        PathTo::Member(path_to_object, key) => {
-            add_steps_of_path_to_object(path_to_object, steps)?;
-            steps.push(LocStep::Name(key.clone()?))?;
-        }
-    }
-    Ok(())
-}
-
-// Adds the steps of a path to an object, from the root down, to a list of owned ones.
-fn add_steps_of_path_to_object(
-    path_to_object: PathToObject<'_, '_>,
-    steps: &mut Vec<LocStep>,
-) -> Result<(), NoMemory>
-    ensures { OnOk result (owned_steps steps.new.items ≡ owned_steps steps.old.items ++ object_path_location path_to_object.entry) }
-{
-    match path_to_object {
-        PathToObject::Whole(parent) => add_steps_of_trail(parent, steps)?,
-        PathToObject::Item(parent, i) => {
-            add_steps_of_trail(parent, steps)?;
-            steps.push(LocStep::Index(i as usize))?;
         }
     }
     Ok(())

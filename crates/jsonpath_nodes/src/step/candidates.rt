@@ -47,7 +47,6 @@ pub(crate) fn add_flattened<M: Descends>(
 
 // Adds what is no array and is reached through arrays alone from each item of the array where the descent is: the item
 // itself, where it is no array.
-#[cycle(flat)]
 fn add_flattened_items<M: Descends>(
     items: <M::Tree as Tree>::Array,
     way: &mut M::Way,
@@ -63,31 +62,14 @@ fn add_flattened_items<M: Descends>(
     let mut i = 0;
     while let Some(item) = <M::Tree as Tree>::next_item(&mut left) {
         if let Some(inner) = item.as_array() {
-            add_flattened_array::<M>(inner, DownStep::Item(i), way, out)?;
+            M::go_to_item(way, i)?;
+            add_flattened_items::<M>(inner, way, out)?;
+            M::go_back(way);
         } else {
             M::push_item(&here, i, item, out)?;
         }
         i += 1;
     }
-    Ok(())
-}
-
-// Adds what is no array and is reached through arrays alone from an array, which is a child of the container where the
-// descent is.
-#[cycle(flat)]
-#[inline(always)]
-fn add_flattened_array<M: Descends>(
-    items: <M::Tree as Tree>::Array,
-    step: DownStep<<M::Tree as Tree>::Name>,
-    way: &mut M::Way,
-    out: &mut Vec<M>,
-) -> Result<(), NoMemory>
-    ensures gains { OnOk result (MarksGain M.located M.stand M.content (λ d. flat_items 0 (M.Tree.items items)) (way_stand M.located (M.start way.old) (M.steps way.old ++ down_step M.Tree.name_bytes step ∷ [])) (array (M.Tree.items items)) out.old.items out.new.items) }
-    ensures stays { OnOk result (Stays M.located (M.start way.old) (M.steps way.old) (M.start way.new) (M.steps way.new)) }
-{
-    go_down::<M>(way, step)?;
-    add_flattened_items::<M>(items, way, out)?;
-    M::go_back(way);
     Ok(())
 }
 
@@ -107,7 +89,9 @@ fn add_flattened_members<M: Descends>(
     let mut left = <M::Tree as Tree>::each_member(members);
     while let Some((name, member)) = <M::Tree as Tree>::next_member(&mut left) {
         if let Some(inner) = member.as_array() {
-            add_flattened_array::<M>(inner, DownStep::Member(name), way, out)?;
+            M::go_to_member(way, name)?;
+            add_flattened_items::<M>(inner, way, out)?;
+            M::go_back(way);
         } else {
             M::push_member(&here, name, member, out)?;
         }

@@ -1,8 +1,8 @@
 //! Looking up children of a value: whether it may have any, and the one at an index or of a name; indexes also as a
 //! path writes them.
 
-ghost use Rattle.std.specs.Prelude.{◌≡◌, ◌≤◌, option_map, unwrap_or, string_bytes, IfSome};
-ghost use Rattle.serde_json.specs.Find.{get, at as item_at};
+ghost use Rattle.std.specs.Prelude.{◌≡◌, ◌≤◌, option_map, unwrap_or};
+ghost use Rattle.serde_json.specs.Find.{at as item_at};
 ghost use Rattle.serde_json.specs.View.{view};
 ghost use Rattle.jsonpath_nodes.specs.plan.Containers.{is_container};
 ghost use Rattle.jsonpath_nodes.specs.step.Steps.{abs_index as index_from_front};
@@ -55,18 +55,5 @@ pub(crate) fn range_bound(n: Option<i64>, missing: usize, len: usize) -> usize
     match n {
         Some(m) => abs_index(m, len),
         None => missing,
-    }
-}
-
-// The member of this name, as a pair of the name as the object has it and the value; None where the value is no object
-// that has one.
-#[inline]
-pub(crate) fn member_of_value<'a>(value: &'a Value, name: &str) -> Option<(&'a String, &'a Value)>
-    ensures key { IfSome result (λ p. string_bytes p.0.now ≡ name.now) }
-    ensures value { option_map (λ p. view p.1.now) result ≡ get name.now (view value.now) }
-{
-    match value {
-        Value::Object(members) => <&Value as Tree>::member_named(members, name),
-        _ => None,
     }
 }

@@ -1,14 +1,12 @@
 //! The location of a descent on its way down. It is shared only if a step may find something.
 
-ghost use Rattle.std.specs.Prelude.{◌≡◌, [], ◌∷◌, ◌++◌, ◌+◌, ◌-◌, ◌<◌, ◌≤◌, take, string_bytes, vec_len, IfOk, OnOk};
-ghost use Rattle.jsonpath_nodes.specs.place.Location.{name, index as by_index};
+ghost use Rattle.std.specs.Prelude.{◌≡◌, [], ◌∷◌, ◌++◌, ◌+◌, ◌-◌, ◌<◌, ◌≤◌, take, vec_len, IfOk, OnOk};
 ghost use Rattle.jsonpath_nodes.specs.place.SpotPlace.{location_at, held_path_location};
 ghost use Rattle.jsonpath_nodes.specs.plan.DescentPath.{location_after, descent_location, IsDescentPath, IsKeptAt};
-ghost use Rattle.jsonpath_nodes.specs.plan.Way.{without_last};
 
 use crate::memory::NoMemory;
 use crate::place::trail::{
-    HeldPathToContainer, PathTo, Trail, clone_held_path, held_path_to_container, held_path_to_item,
+    HeldPathToContainer, Trail, clone_held_path, held_path_to_container, held_path_to_item,
     lend_path_to_object, member_trail_of_path_to_object, trail_of_held_path,
 };
 use crate::step::descend::DownStep;
@@ -19,7 +17,7 @@ use std::rc::Rc;
 // The location of a descent: where it began, and the steps down from there.
 #[derive(Drop)]
 pub struct DescentPath<'a> {
-    path: SharedPath<'a>,
+    pub(crate) path: SharedPath<'a>,
 }
 
 impl<'a> Model for DescentPath<'a> {
@@ -48,48 +46,6 @@ impl<'a> DescentPath<'a> {
             },
         }
     }
-
-    // Goes on by a step to an item. Nothing is shared for it yet.
-    #[inline]
-    pub(crate) fn go_to_item(&mut self, index: usize) -> Result<(), NoMemory>
-        ensures { OnOk result (self.new ≡ (self.old.0, self.old.1 ++ by_index index ∷ [])) }
-    {
-        self.path.go_step_down(DownStep::Item(index))
-    }
-
-    // Goes on by a step to a member. Nothing is shared for it yet.
-    #[inline]
-    pub(crate) fn go_to_member(&mut self, key: &'a String) -> Result<(), NoMemory>
-        ensures { OnOk result (self.new ≡ (self.old.0, self.old.1 ++ name (string_bytes key.now) ∷ [])) }
-    {
-        self.path.go_step_down(DownStep::Member(key))
-    }
-
-    // Takes the last step back, with what was shared for where it leads.
-    #[inline]
-    pub(crate) fn go_back(&mut self)
-        ensures { self.new ≡ (self.old.0, without_last self.old.1) }
-    {
-        self.path.go_step_up();
-    }
-
-    // A trail to the array where the descent is, for its items to share.
-    #[inline]
-    pub(crate) fn trail_for_items(&mut self) -> Result<Rc<Trail<'a>>, NoMemory>
-        ensures leads { IfOk result (λ shared. location_at shared.value ≡ self.old.0 ++ self.old.1) }
-        ensures stays { OnOk result (self.new ≡ self.old) }
-    {
-        self.path.trail_for_items()
-    }
-
-    // The path to the object where the descent is, held for its members to share.
-    #[inline]
-    pub(crate) fn held_path_for_members(&mut self) -> Result<HeldPathToContainer<'a>, NoMemory>
-        ensures leads { IfOk result (λ held. held_path_location held ≡ self.old.0 ++ self.old.1) }
-        ensures stays { OnOk result (self.new ≡ self.old) }
-    {
-        self.path.held_path_for_members()
-    }
 }
 
 // The steps down from where a descent began, with what of the path is shared: what leads to the start first, and then
@@ -105,7 +61,7 @@ pub struct SharedPath<'a> {
 impl<'a> SharedPath<'a> {
     // Goes on with the path by a step to an item or a member. Nothing is shared for it yet.
     #[inline]
-    fn go_step_down(&mut self, step: DownStep<&'a String>) -> Result<(), NoMemory>
+    pub(crate) fn go_step_down(&mut self, step: DownStep<&'a String>) -> Result<(), NoMemory>
         requires { IsDescentPath self.old }
         ensures start { OnOk result (location_at self.new.start ≡ location_at self.old.start) }
         ensures steps { OnOk result (self.new.steps.items ≡ self.old.steps.items ++ step.entry ∷ []) }
@@ -117,7 +73,7 @@ impl<'a> SharedPath<'a> {
 
     // Takes the last step back, with what was shared for where it leads.
     #[inline]
-    fn go_step_up(&mut self)
+    pub(crate) fn go_step_up(&mut self)
         requires { IsDescentPath self.old }
         ensures start { location_at self.new.start ≡ location_at self.old.start }
         ensures steps { self.new.steps.items ≡ take (vec_len self.old.steps - 1) self.old.steps.items }
@@ -128,7 +84,7 @@ impl<'a> SharedPath<'a> {
     }
 
     // A trail to the array where the descent is, for its items to share.
-    fn trail_for_items(&mut self) -> Result<Rc<Trail<'a>>, NoMemory>
+    pub(crate) fn trail_for_items(&mut self) -> Result<Rc<Trail<'a>>, NoMemory>
         requires { IsDescentPath self.old }
         ensures leads { IfOk result (λ shared. location_at shared.value ≡ descent_location self.old) }
         ensures stays { OnOk result (IsKeptAt self.old self.new) }
@@ -140,7 +96,7 @@ impl<'a> SharedPath<'a> {
     }
 
     // The path to the object where the descent is, held for its members to share.
-    fn held_path_for_members(&mut self) -> Result<HeldPathToContainer<'a>, NoMemory>
+    pub(crate) fn held_path_for_members(&mut self) -> Result<HeldPathToContainer<'a>, NoMemory>
         requires { IsDescentPath self.old }
         ensures leads { IfOk result (λ held. held_path_location held ≡ descent_location self.old) }
         ensures stays { OnOk result (IsKeptAt self.old self.new) }
@@ -179,7 +135,7 @@ impl<'a> SharedPath<'a> {
     {
         let count = self.shared.len();
         if count == 0 {
-            return held_path_to_container(self.alloc, PathTo::Whole(&self.start));
+            return held_path_to_container(self.alloc, &self.start);
         }
         match self.steps[count - 1] {
             DownStep::Item(index) => {

@@ -16,7 +16,7 @@ returns-in_ok-here-in-Some c =
     let i = c.args.index in
     let spot : Spot = record { value = c.in-Some.item; trail = Item c.in_ok-here-in-Some.here i } in
     let where_at : location_of spot ≡ location_of self ++ index i ∷ [] =
-    at-Item c.in_ok-here-in-Some.here i ∙ ap (λ (l : Location). l ++ index i ∷ []) (c.in_ok-here-in-Some.ensures ∙ c.lent_path.ensures) in
+    at-Item c.in_ok-here-in-Some.here i ∙ ap (λ (l : Location). l ++ index i ∷ []) c.in_ok-here-in-Some.ensures in
     leads (single_steps (nth (pos i))) self (spot ∷ [])
     (ap (λ (l : Location). (l, Some (view c.in-Some.item.now)) ∷ []) where_at
     ∙ sym (nth_there i (location_of self) (value_of self) (view c.in-Some.item.now) (sym c.in-Some.ensures)))

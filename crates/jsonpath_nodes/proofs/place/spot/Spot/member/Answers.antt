@@ -1,26 +1,21 @@
-use Rattle.std.proofs.Common.{◌≡◌, ℕ, List, [], ◌∷◌, ◌++◌, Some, sym, ap, ap₂, ◌∙◌}
-use Rattle.serde_json.specs.View.{view}
-use Rattle.jsonpath_nodes.specs.place.Location.{Location, name}
-use Rattle.jsonpath_nodes.specs.step.Steps.{single_steps, named}
-use Rattle.jsonpath_nodes.specs.place.SpotPlace.{location_of, value_of}
+use Rattle.std.proofs.Common.{◌≡◌, ◌≤◌, ◌-◌, List, ◌++◌, map, length, take, vec_len, sym, ap, ◌∙◌, arith}
+use Rattle.std.specs.Prelude.{option_to_list}
+use Rattle.std.proofs.lemmas.List.{length-map}
 use Rattle.jsonpath_nodes.specs.declared.place.spot.Spot.{Spot}
-use Rattle.jsonpath_nodes.proofs.place.LeadLemmas.{named_there, named_nowhere}
+use Rattle.jsonpath_nodes.specs.place.SpotPlace.{location_of, value_of, look_from, sight_of}
+use Rattle.jsonpath_nodes.specs.step.Steps.{single_steps, named}
+use Rattle.jsonpath_nodes.proofs.place.LeadLemmas.{named_few}
 use Rattle.jsonpath_nodes.proofs.place.KeptLemmas.{leads}
 use Rattle.jsonpath_nodes.proofs.place.spot.Spot.member.Goals as goal
 
-pub returns-in_ok-member_trail_of_path_to_value-in-Some : goal.returns-in_ok-member_trail_of_path_to_value-in-Some
-returns-in_ok-member_trail_of_path_to_value-in-Some c =
+pub returns : goal.returns
+returns c =
     let self = c.args.self.now in
-    let k = c.args.name.now in
-    let spot : Spot = record { value = c.in-Some.member; trail = c.in_ok-member_trail_of_path_to_value-in-Some.field-0 } in
-    let where_at : location_of spot ≡ location_of self ++ name k ∷ [] =
-    c.in_ok-member_trail_of_path_to_value-in-Some.ensures ∙ ap₂ (λ (l : Location) (m : List ℕ). l ++ name m ∷ []) c.lent_path.ensures c.in-Some.ensures.key in
-    leads (single_steps (named k)) self (spot ∷ [])
-    (ap (λ (l : Location). (l, Some (view c.in-Some.member.now)) ∷ []) where_at
-    ∙ sym (named_there k (location_of self) (value_of self) (view c.in-Some.member.now) (sym c.in-Some.ensures.value)))
-
-pub returns-in-None : goal.returns-in-None
-returns-in-None c =
-    let self = c.args.self.now in
-    let k = c.args.name.now in
-    leads (single_steps (named k)) self [] (sym (named_nowhere k (location_of self) (value_of self) (sym c.in-None.ensures.value)))
+    let ls = single_steps (named c.args.name.now) (value_of self) in
+    let look = look_from (location_of self) (value_of self) in
+    let found = c.add_named_member.new.out in
+    let seen : map sight_of found.items ≡ map look ls = rw c.new-found.ensures.items at c.in_ok-add_named_member.ensures in
+    let few : vec_len found - 1 ≡ 0 =
+    omega (arith, found.ok.0, length-map found.items sight_of, ap length seen, length-map ls look, named_few c.args.name.now (value_of self)) in
+    let all : found.items ≡ option_to_list c.pop.result = c.pop.ensures.items ∙ ap (λ (rest : List Spot). rest ++ option_to_list c.pop.result) (c.pop.ensures.rest ∙ ap (λ n. take n found.items) few) in
+    leads (single_steps (named c.args.name.now)) self (option_to_list c.pop.result) (ap (map sight_of) (sym all) ∙ seen)

@@ -6,10 +6,10 @@ use Rattle.jsonpath_nodes.proofs.place.KeptLemmas.{seen_items, items_end, of_kid
 use Rattle.jsonpath_nodes.proofs.place.SightLemmas.{items_flat-sights}
 use Rattle.jsonpath_nodes.proofs.place.WayLemmas.{stays-stand}
 use Rattle.jsonpath_nodes.proofs.step.ChildLemmas.{item_kids}
-use Rattle.jsonpath_nodes.proofs.step.candidates.+flat.Goals as goal
+use Rattle.jsonpath_nodes.proofs.step.candidates.+add_flattened_items.Goals as goal
 
-pub add_flattened_items-returns-clause-gains : goal.add_flattened_items-returns-clause-gains
-add_flattened_items-returns-clause-gains g t c =
+pub returns-clause-gains : goal.returns-clause-gains
+returns-clause-gains g t c =
     let b = g.M.Descends.located in
     let all = g.M.Tree.Tree.items c.args.items in
     let first = c.items_here.new.way in

@@ -1,20 +1,17 @@
-use Rattle.std.proofs.Common.{◌≡◌, ◌≤◌, ◌+◌, ◌*◌, ◌++◌, map}
+use Rattle.std.proofs.Common.{◌≡◌, ◌≤◌, ◌+◌, ◌++◌, map}
 use Rattle.serde_json.specs.Data.{items_depth}
 use Rattle.serde_json.specs.Events.{items_len}
 use Rattle.jsonpath_nodes.specs.place.Location.{flat}
 use Rattle.jsonpath_nodes.specs.place.Mark.{shown}
 use Rattle.jsonpath_nodes.specs.plan.Way.{way_stand, Stays}
 use Rattle.jsonpath_nodes.proofs.place.KeptLemmas.{seen_items}
-use Rattle.jsonpath_nodes.proofs.step.candidates.+flat.Given as goal
+use Rattle.jsonpath_nodes.proofs.step.candidates.+add_flattened_items.Given as goal
 
 abbrev pub decreases-add_flattened_items : goal.decreases-add_flattened_items
-decreases-add_flattened_items g l = 2 * items_depth (g.M.Tree.Tree.items l.items)
+decreases-add_flattened_items g l = items_depth (g.M.Tree.Tree.items l.items)
 
-abbrev pub decreases-add_flattened_array : goal.decreases-add_flattened_array
-decreases-add_flattened_array g l = 2 * items_depth (g.M.Tree.Tree.items l.items) + 1
-
-abbrev pub invariant-add_flattened_items-loop-item : goal.invariant-add_flattened_items-loop-item
-invariant-add_flattened_items-loop-item g l =
+abbrev pub invariant-loop-item : goal.invariant-loop-item
+invariant-loop-item g l =
     let b = g.M.Descends.located in
     let left = g.M.Tree.Tree.items_left l.left in
     let all = g.M.Tree.Tree.items l.fn.items in
@@ -28,5 +25,5 @@ invariant-add_flattened_items-loop-item g l =
       within : items_depth left ≤ items_depth all;
     }
 
-abbrev pub decreases-add_flattened_items-loop-item : goal.decreases-add_flattened_items-loop-item
-decreases-add_flattened_items-loop-item g l = items_len (g.M.Tree.Tree.items_left l.left)
+abbrev pub decreases-loop-item : goal.decreases-loop-item
+decreases-loop-item g l = items_len (g.M.Tree.Tree.items_left l.left)
