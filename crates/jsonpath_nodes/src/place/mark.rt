@@ -17,11 +17,11 @@ use serde_json::Value;
 use std::alloc::Global;
 use std::rc::Rc;
 
-/// Trait for a selected node: either `&Value` (no location) or `Spot` (value with location), so that evaluation code
-/// is written once.
+/// Trait for a selected node: either `&Value` (no location) or `Spot` (value with location), so that evaluation code is
+/// written once.
 ///
-/// The clauses of one contract hold for both types: a list of `Mark`s is at some locations of a document if each has
-/// the value there, and a `Spot` also has that location.
+/// The same contracts hold for both types: `Mark`s are at some locations of a document, one by one, if each has the
+/// value at its location, and if a `Spot` has that location too.
 ///
 /// ```text
 /// let last = steps_on_marks::plain_step_from_each(alloc, &[Spot::root(alloc, &document)], &PlainStep::Nth(-1))?;
@@ -29,9 +29,9 @@ use std::rc::Rc;
 /// assert!(rt; last[0].value().is_array());
 /// ```
 pub trait Mark<'a>: Drop + Sized {
-    /// The part of their location that the items of one array share.
+    /// The part of the location that all items of one array share.
     type Items: Drop;
-    /// The part of their location that the members of one object share.
+    /// The part of the location that all members of one object share.
     type Members: Drop;
 
     // Whether a mark keeps its location.
@@ -49,15 +49,15 @@ pub trait Mark<'a>: Drop + Sized {
     fn value(&self) -> &'a Value
         ensures { view result.now ≡ content self.now };
 
-    /// For a node that is an array: its location, in the form from which `push_item` makes those of its items.
+    /// The location of this node, an array, in the form from which `push_item` makes the locations of its items.
     fn shared_by_items(&self, alloc: Global) -> Result<Self::Items, NoMemory>
         ensures { IfOk result (λ here. items_stand here ≡ stand self.now) };
 
-    /// For a node that is an object: its location, in the form from which `push_member` makes those of its members.
+    /// The location of this node, an object, in the form from which `push_member` makes the locations of its members.
     fn shared_by_members(&self, alloc: Global) -> Result<Self::Members, NoMemory>
         ensures { IfOk result (λ here. members_stand here ≡ stand self.now) };
 
-    /// Adds an item of an array to a list; `here` is the result of `shared_by_items` on the array.
+    /// Appends an item of an array to `out`; `here` is the result of `shared_by_items` on the array.
     fn push_item(
         here: &Self::Items,
         index: usize,
@@ -66,7 +66,7 @@ pub trait Mark<'a>: Drop + Sized {
     ) -> Result<(), NoMemory>
         ensures { OnOk result (MarksGainOne located stand content (items_stand here.now ++ by_index index ∷ []) (view value.now) out.old.items out.new.items) };
 
-    /// Adds a member of an object to a list; `here` is the result of `shared_by_members` on the object.
+    /// Appends a member of an object to `out`; `here` is the result of `shared_by_members` on the object.
     fn push_member(
         here: &Self::Members,
         key: &'a String,
@@ -75,8 +75,8 @@ pub trait Mark<'a>: Drop + Sized {
     ) -> Result<(), NoMemory>
         ensures { OnOk result (MarksGainOne located stand content (members_stand here.now ++ by_name (string_bytes key.now) ∷ []) (view value.now) out.old.items out.new.items) };
 
-    /// Adds a single member of the value to a list, if no other member is to share the location of the value with
-    /// it. It needs no `shared_by_members`.
+    /// Appends one member of this node to `out`, without `shared_by_members`: for use if no other member of the node is
+    /// needed, so that the location need not be shared.
     fn push_single_member(
         &self,
         alloc: Global,

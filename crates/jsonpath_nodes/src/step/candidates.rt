@@ -1,6 +1,6 @@
-//! How the candidates of a filter are found once for each location, if the filter uses a relative query with at
-//! least one segment: whether two of some nodes can share a candidate, and the first node at each location. They are
-//! found in `references` and `spots`, and defined at `ValueWalker::walk_dedup_all`.
+//! The candidates of a filter that uses a relative query with at least one segment, each location once: whether two of
+//! some nodes can share a candidate, and the first node at each location. `ValueWalker::walk_dedup_all` says what these
+//! candidates are; `references` and `spots` find them.
 
 ghost use Rattle.std.specs.Prelude.{◌≡◌, ◌++◌, ◌∷◌, [], map, true, Some, IsTrue, IfOk, OnOk, if◌then◌else◌};
 ghost use Rattle.jsonpath_nodes.specs.plan.Ascending.{first_difference_ascends, Ascend};

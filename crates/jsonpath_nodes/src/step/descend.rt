@@ -30,7 +30,7 @@ use std::alloc::Global;
 /// assert_eq!(rt; found.len(), 4);
 /// ```
 pub trait Descends<'a>: Mark<'a> {
-    /// Adds what a step selects in the value and in all its descendants, each before its children.
+    /// Appends what a step selects in the value and in all its descendants, each of which comes before its children.
     fn add_selected_at_or_below(
         &self,
         alloc: Global,
@@ -39,13 +39,13 @@ pub trait Descends<'a>: Mark<'a> {
     ) -> Result<(), NoMemory>
         ensures { OnOk result (MarksGain Self.located Self.stand Self.content (deep (plain_step_of plain.now)) (Self.stand self.now) (Self.content self.now) out.old.items out.new.items) };
 
-    /// Adds the non-array values left after flattening nested arrays: the value itself, if it is no array.
+    /// Appends the non-array values left after flattening nested arrays: the value itself, if it is no array.
     fn add_flattened(&self, alloc: Global, out: &mut Vec<Self>) -> Result<(), NoMemory>
         ensures { OnOk result (MarksGain Self.located Self.stand Self.content flat (Self.stand self.now) (Self.content self.now) out.old.items out.new.items) };
 
-    /// Adds the candidates of a filter after `..` that uses a relative query with at least one segment: the non-array
-    /// values left after flattening nested arrays among the descendants, each once. Its contract also says that the
-    /// names ascend in each object there, which is so for every value.
+    /// Appends the candidates of a filter after `..` that uses a relative query with at least one segment: the
+    /// non-array values left after flattening nested arrays among the descendants, each once. The contract also says
+    /// that the names ascend in each object at or below the value, which is so for every value.
     fn add_candidates_below(&self, alloc: Global, out: &mut Vec<Self>) -> Result<(), NoMemory>
         ensures gains { OnOk result (MarksGain Self.located Self.stand Self.content candidates_below (Self.stand self.now) (Self.content self.now) out.old.items out.new.items) }
         ensures document { OnOk result (IsDocument (Self.content self.now)) };
