@@ -33,8 +33,8 @@ pub struct Document<'a> {
 
 impl<'a> Document<'a> {
     /// Reads a document from its text, for paths whose filters compare what `compared` says. The document's tree
-    /// borrows the text, and `scratch`, which has the texts whose escapes were resolved. Errors: `NotADocument` if the
-    /// text is no JSON document, `HugeExponent` if an exponent is too long to compare, or `OutOfMemory`.
+    /// borrows the text and `scratch`, which stores unescaped copies of texts with escapes. Errors: `NotADocument` if
+    /// the text is no JSON document, `HugeExponent` if an exponent is too long to compare, or `OutOfMemory`.
     pub fn read(
         alloc: Global,
         text: &'a str,
