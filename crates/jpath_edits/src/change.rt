@@ -18,7 +18,7 @@ use std::alloc::Global;
 pub enum Change<'c> {
     /// Replaces each selected value by this JSON text.
     Put(&'c str),
-    /// Removes each selected member or item, with the blanks around it and one comma.
+    /// Removes each selected member or item, with its comma and the blanks before it.
     Take,
 }
 

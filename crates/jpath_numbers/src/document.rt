@@ -1,4 +1,4 @@
-//! A document, as it is in its text and as paths are run on it.
+//! A document: its exact tree, as its text has it, and its image, on which paths are run.
 
 ghost use Rattle.std.specs.Prelude.{◌≡◌, true, false, Some, IfOk, IfErr};
 ghost use Rattle.std.specs.List.{All};

@@ -35,7 +35,7 @@ pub enum Asked {
 }
 
 impl Action {
-    /// The action that is meant by a word of the command line, such as `select`; `None` for any other word.
+    /// The action that a word of the command line names, such as `select`; `None` if the word names none.
     pub fn of(word: &str) -> Option<Action> {
         match word {
             "select" => Some(Action::Ask(Asked::Values)),

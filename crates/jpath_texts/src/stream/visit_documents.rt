@@ -55,7 +55,7 @@ pub enum How<S> {
     Whole,
     /// The visitor wanted no more documents.
     Enough,
-    /// The stream could not be read further, for this reason.
+    /// The stream could not be read further; the field says why.
     ReadFailed(ReadFailure),
     /// The visitor returned this error.
     Stopped(S),

@@ -20,8 +20,8 @@ use std::rc::Rc;
 /// Trait for a selected node: either `&Value` (no location) or `Spot` (value with location), so that evaluation code is
 /// written once.
 ///
-/// The same contracts hold for both types: `Mark`s are at some locations of a document, one by one, if each has the
-/// value at its location, and if a `Spot` has that location too.
+/// The same contracts hold for both types: in them, a list of `Mark`s is at a list of locations if each `Mark` has the
+/// value at its location and, if it is a `Spot`, this location.
 ///
 /// ```text
 /// let last = steps_on_marks::plain_step_from_each(alloc, &[Spot::root(alloc, &document)], &PlainStep::Nth(-1))?;

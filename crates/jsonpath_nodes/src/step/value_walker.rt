@@ -193,9 +193,9 @@ impl ValueWalker {
         Ok(found)
     }
 
-    /// The candidates of a filter that uses a relative query with at least one segment: each of the given nodes that
-    /// is no array, and of each given array the non-array values left after flattening nested arrays. Each location
-    /// is returned once, where it comes first. Named as in the Rust crate `jsonpath_lib`.
+    /// The candidates of a filter that uses a relative query with at least one segment: each of the given nodes that is
+    /// no array, and of each given array the non-array values left after flattening nested arrays. Each location is
+    /// returned once, at its first occurrence. Named as in the Rust crate `jsonpath_lib`.
     ///
     /// ```text
     /// let candidates = ValueWalker::walk_dedup_all(alloc, &root)?;
@@ -212,9 +212,9 @@ impl ValueWalker {
         Ok(kept)
     }
 
-    /// The candidates of a filter after `..` that uses a relative query with at least one segment: the non-array
-    /// values left after flattening nested arrays, from the descendants of each node. Each location is returned
-    /// once, where it comes first.
+    /// The candidates of a filter after `..` that uses a relative query with at least one segment: the non-array values
+    /// left after flattening nested arrays, from the descendants of each node. Each location is returned once, at its
+    /// first occurrence.
     ///
     /// ```text
     /// let candidates = ValueWalker::candidates_below(alloc, &root)?;

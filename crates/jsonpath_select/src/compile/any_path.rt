@@ -162,8 +162,8 @@ pub trait AnyPath {
         list_to_typed(alloc, found.as_slice())
     }
 
-    /// The number of values that the path selects in the document, duplicates included. The call builds their list and
-    /// counts it. The only error is `OutOfMemory`.
+    /// The number of values that the path selects in the document, duplicates included. The call builds the list of
+    /// these values and returns its length. The only error is `OutOfMemory`.
     ///
     /// ```text
     /// let document = read_document(alloc, b"[1, 2, 3]")?;

@@ -10,8 +10,8 @@ use serde_json::Value;
 use std::alloc::Global;
 use std::rc::Rc;
 
-/// A selector by a compiled path, in a borrowed value. Path and value are optional; each is the one that was set last.
-/// A select call changes neither, whether it succeeds or not, and stores no answer.
+/// A selector with a compiled path and a borrowed value to search. Both are optional; each is the one that was set
+/// last. A select call changes neither, whether it succeeds or not, and stores no answer.
 ///
 /// ```text
 /// let document = read_document(alloc, b"[1, 2, 3]")?;
@@ -21,9 +21,9 @@ use std::rc::Rc;
 /// ```
 pub type JsonSelector<'a> = HeldPair<Rc<PathParser<'a>>, &'a Value>;
 
-/// Changes an owned document by a `PathParser`, which borrows its text and may be shared. Path and document are
-/// optional; each is the one set last. An update changes the document alone, and leaves it unchanged on any error but
-/// the closure's own.
+/// Changes its own document at what a `PathParser` selects; this path borrows its text and may be shared. Path and
+/// document are optional; each is the one set last. An update changes the document alone, and leaves it unchanged on
+/// any error but the closure's own.
 ///
 /// ```text
 /// let document = read_document(alloc, b"[1, 2, 3]")?;

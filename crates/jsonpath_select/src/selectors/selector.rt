@@ -13,9 +13,9 @@ use crate::selectors::walked_path::{OfNode, WalkedPath};
 use serde_json::Value;
 use std::alloc::Global;
 
-/// A selector by a path text or a `Node`, a compiled path that owns its text, in a borrowed value. Path and value are
-/// optional; each is the one that was set last, by whichever call. A select call changes neither, whether it succeeds
-/// or not, and stores no answer.
+/// A selector with a compiled path, set as a path text or a `Node`, and a borrowed value to search. Both are optional;
+/// each is the one that was set last, by whichever call. A select call changes neither, whether it succeeds or not, and
+/// stores no answer.
 ///
 /// ```text
 /// let document = read_document(alloc, b"[1, 2, 3]")?;
@@ -27,7 +27,7 @@ use std::alloc::Global;
 /// ```
 pub type Selector<'a, 'b> = HeldPair<WalkedPath<'b>, &'a Value>;
 
-/// Changes an owned document at what a path selects. Path and document are optional; each is the one set last, by
+/// Changes its own document at what a path selects. Path and document are optional; each is the one set last, by
 /// whichever call. An update changes the document alone, and leaves it unchanged on any error but the closure's own.
 ///
 /// ```text
