@@ -24,7 +24,7 @@ pub enum Task<'a> {
     Lines(Vec<Query<'a>>, Shown),
     /// Writes one JSON array for each document, with all values that the paths select.
     Array(Vec<Query<'a>>),
-    /// Writes the number of values that the paths select in all documents of each file.
+    /// Writes, for each file, the number of values that the paths select in all its documents.
     Count(Vec<Query<'a>>),
     /// Writes nothing: only the exit status says whether the paths select any value.
     Quiet(Vec<Query<'a>>),

@@ -217,7 +217,7 @@ fn take_byte(state: &mut State, byte: u8) -> Found
 }
 
 /// Searches the next bytes of a stream, `piece`, for the end of the document that is being read, or for its first wrong
-/// byte; it may also continue after them. `state` is the recognizer's state before these bytes; it is updated.
+/// byte; if neither is found, returns `GoesOn`. `state` is the recognizer's state before these bytes; it is updated.
 pub fn find_end(state: &mut State, piece: &[u8]) -> Found
     requires depth { state.old.depth ≤ max_depth }
     requires open { is_over state.old ≡ false }

@@ -67,8 +67,8 @@ pub fn replaces_selected_location<F: FnMut(Value) -> Option<Value>>(closure: &F)
     updates_put_one_answer_in_turn(closure);
 }
 
-/// Lemma: masking by several paths, which puts null in place of all values that they select, depends only on the set of
-/// paths, not on their order or on repeats.
+/// Lemma: the result of masking by several paths, which puts null at all values that they select, depends only on the
+/// set of paths, not on their order or on repeats.
 ///
 /// ```text
 /// laws::masks_in_any_order();
@@ -81,8 +81,8 @@ pub fn masks_in_any_order()
     nulling_and_taking_ignore_order();
 }
 
-/// Lemma: removing all values that several paths select depends only on the set of paths, not on their order or on
-/// repeats.
+/// Lemma: the result of removing all values that several paths select depends only on the set of paths, not on their
+/// order or on repeats.
 ///
 /// ```text
 /// laws::removes_in_any_order();

@@ -94,8 +94,8 @@ pub fn putting_at_one_location()
     ensures nowhere { ChangesNothing }
 {}
 
-/// Lemma: a run of single updates by a closure that always returns the same value puts that value at each location in
-/// turn. The call does nothing: the closure is not called.
+/// Lemma: a run of single updates by a closure that always returns the same result applies this at each location in
+/// turn: `Some` puts the value there, `None` removes what is there. The call does nothing: the closure is not called.
 ///
 /// ```text
 /// let on = &mut |_old: Value| Some(Value::Bool(true));

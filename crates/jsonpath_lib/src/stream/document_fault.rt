@@ -25,7 +25,8 @@ use std::fmt;
 pub enum FaultKind {
     /// A byte is wrong: no document can continue with it. The error's position is that of this byte.
     WrongByte,
-    /// The stream ends inside a document. The position is its last byte's, or column 0 of a new line after a line end.
+    /// The stream ends inside a document. The error's position is that of the stream's last byte; if this is a line
+    /// end, it is column 0 of the next line.
     CutShort,
     /// `serde_json` rejects the document, for example if a number is too large. The error's position is `serde_json`'s.
     Unread,
@@ -33,8 +34,7 @@ pub enum FaultKind {
     ReadFailed,
     /// Memory ran out.
     OutOfMemory,
-    /// The stream has more bytes than 64 bits can count. The position is just after the last document that was
-    /// returned.
+    /// The stream has more bytes than 64 bits can count. The position is just after the last returned document.
     TooLong,
 }
 
@@ -55,8 +55,7 @@ pub struct DocumentFault {
     pub kind: FaultKind,
     /// The line of the error in the whole stream, counted from 1.
     pub line: usize,
-    /// The column of the error, in bytes from 1, as `serde_json` counts; 0 if the stream ends in a document at a line
-    /// end.
+    /// The column of the error, in bytes from 1, as `serde_json` counts; 0 for a document cut short after a line end.
     pub column: usize,
     /// `Serde`, whose message ends with the line and column, as `serde_json`'s messages do; or `OutOfMemory`.
     pub error: JsonPathError,
