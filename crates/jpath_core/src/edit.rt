@@ -32,11 +32,11 @@ pub struct Edited {
     pub selects_root: bool,
 }
 
-/// The edited text of a document, for an edit by one path: `change` is made, all at once, at each selected value below
-/// the root that lies in no other selected value below the root. `text` is the text that the document was read from. To
-/// replace a value, its own text is replaced; to remove it, the whole member or item is removed, with its name and
-/// colon, the blanks around it, and one comma, before or after it, if there is one. If an object has the name several
-/// times, each of these members is removed. Every other byte of the text stays.
+/// The text of a document after an edit by one path: `change` is made, all at once, at each selected value below the
+/// root, except at those inside another such value. `text` is the text from which the document was read. To replace a
+/// value, its own text is replaced; to remove it, the whole member or item is removed, with its name and colon, its
+/// comma (after it, or before it if nothing is left after it), and the blanks before these. If an object has the name
+/// several times, each of these members is removed. Every other byte of the text stays.
 ///
 /// The edited text is read again before it is returned. Errors: `EditNests` if it nests too deep to be read;
 /// `EditDiffers` if what is read is not the changed document, which would be a fault of this library; or `OutOfMemory`.

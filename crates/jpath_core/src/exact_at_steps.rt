@@ -9,8 +9,8 @@ ghost use Rattle.jpath_edits.specs.ExactAt.{exact_child, exact_at};
 use json::Value as Exact;
 use jsonpath_nodes::{PathStep, Steps};
 
-/// The value at the location that these steps lead to in an exact tree, the tree of a JSON text that keeps each number
-/// as it is written; `None` if there is no value. It takes no memory.
+/// The value to which these steps lead in an exact tree, which is the tree of a JSON text with each number as it is
+/// written; `None` if there is no such value. It takes no memory.
 pub fn exact_value_at_steps<'v, 'a>(
     root: &'v Exact<'a>,
     steps: Steps<'_, '_>,
@@ -23,9 +23,9 @@ pub fn exact_value_at_steps<'v, 'a>(
     }
 }
 
-/// The value at the location that these steps lead to in an exact tree, the tree of a JSON text that keeps each number
-/// as it is written; `None` if there is no value. The numbers of the tree have to be numbers of JSON, as those of any
-/// text are; the contract says that those of the value are, too, so that it can be printed.
+/// The value to which these steps lead in an exact tree, which is the tree of a JSON text with each number as it is
+/// written; `None` if there is no such value. Precondition: the numbers of the tree are numbers of JSON, as in the tree
+/// of any text. Those of the value then are, too, so that it can be printed.
 pub fn printable_value_at_steps<'v, 'a>(
     root: &'v Exact<'a>,
     steps: Steps<'_, '_>,

@@ -1,4 +1,4 @@
-//! Which of a list of locations are changed: those below the root that are below no other of the list.
+//! Which of a list of locations are changed: those below the root that are below no other such location of the list.
 
 ghost use Rattle.std.specs.Prelude.{◌≡◌, map, option_map, IfOk};
 ghost use Rattle.jsonpath_nodes.specs.step.SameMembers.{is_at_or_below, topmost};
@@ -7,8 +7,8 @@ ghost use Rattle.jpath_edits.specs.Changed.{below_root};
 use jsonpath_nodes::Location;
 use std::alloc::{AllocError, Global};
 
-/// The locations of a list without the root. The list is in document order, each once, so only its first can be the
-/// root.
+/// The locations of a list except the root's. The list must be in document order, each location once, so that only its
+/// first can be the root's.
 pub fn locations_below_root(places: &[Location]) -> &[Location]
     ensures { result.now ≡ below_root places.now }
 {

@@ -7,50 +7,50 @@ ghost use Rattle.jpath_files.specs.Calls.{Does, Tells, IsKnown, IsFront};
 use crate::file_facts::FileFacts;
 use std::io;
 
-/// A system call of an edit in place: on the file that is edited, on a new file beside it (same folder) or on the
+/// A system call of an edit in place: on the edited file, on a new file beside it (in the same folder), or on the
 /// folder.
 #[derive(Clone, Copy, Drop)]
 pub enum Call<'a> {
-    /// Writes these bytes into the file that is edited, at this byte position.
+    /// Writes these bytes into the edited file, at this byte position.
     WriteAt(&'a [u8], u64),
-    /// Cuts the file that is edited to this number of bytes, or lengthens it to that by zeros.
+    /// Truncates the edited file to this number of bytes, or extends it with zeros to this number.
     SetLen(u64),
     SyncFile,
     OpenFolder,
-    /// Removes the file at the path of the new file, which is beside the one that is edited.
+    /// Removes the file at the path of the new file, which is beside the edited file.
     Remove,
-    /// Creates the new file beside the one that is edited, if there is none, and opens it. Its owner alone may read and
+    /// Creates the new file beside the edited file and opens it; fails if there is one. Its owner alone may read and
     /// write it.
     Create,
-    /// Changes the owner and the group of the new file to these, by their numbers.
+    /// Changes the owner and the group of the new file to this user id and this group id.
     Give(u32, u32),
     /// Appends these bytes to the new file.
     Write(&'a [u8]),
     /// Sets the permissions of the new file to this mode.
     SetMode(u32),
     SyncNewFile,
-    /// Renames the new file to the name of the file that is edited, and so replaces that.
+    /// Renames the new file to the name of the edited file, which it thereby replaces.
     Rename,
     SyncFolder,
 }
 
-/// Which file of an edit in place is asked for its facts (owner, size and so on).
+/// The file of an edit in place whose facts (owner, size and so on) are asked for.
 #[derive(Clone, Copy, Drop)]
 pub enum Place {
-    /// The file at the path of the one that is edited.
+    /// The file at the path of the edited file.
     Path,
-    /// The file at the path of the new one, beside the one that is edited.
+    /// The file at the path of the new file, which is beside the edited file.
     Beside,
-    /// The new file that is open.
+    /// The new file, which is open.
     NewFile,
 }
 
-/// The system calls of an edit in place: on the file that is edited, and on the new file beside it. The clauses say
-/// what each call does to both files.
+/// The system calls of an edit in place: on the edited file, and on the new file beside it. The contracts say what each
+/// call does to both files.
 pub trait Disk {
     ghost state: { Self → DiskState };
 
-    /// Makes a system call on the file that is edited, on the new file beside it, or on their folder.
+    /// Makes a system call on the edited file, on the new file beside it, or on their folder.
     fn call(&mut self, call: Call<'_>) -> io::Result<()>
         ensures { Does call.entry (is_ok result) (state self.old) (state self.new) };
 
@@ -62,7 +62,7 @@ pub trait Disk {
     fn size_limit(&mut self) -> u64
         ensures { state self.new ≡ state self.old };
 
-    /// Reads the first bytes of the file that is edited, as many as the buffer is long.
+    /// Fills the buffer with the first bytes of the edited file.
     fn read(&mut self, buffer: &mut [u8]) -> io::Result<()>
         ensures { MatchResult result (λ _. Tells (IsFront buffer.new) (state self.old) (state self.new)) (λ _. state self.new ≡ state self.old) };
 }

@@ -21,14 +21,14 @@ pub enum EditFault {
     Changed,
     /// The edited text is longer than a file may be (`ulimit -f`).
     TooLong,
-    /// The new file, which should replace the edited one, can't have that one's owner, group and mode.
+    /// The new file, which was to replace the edited file, can't have the edited file's owner, group and mode.
     OwnerLost,
     /// A write into the file failed: a part of the edited text is in it, and its old text can't be restored.
     Torn(io::Error),
-    /// The edited text is in the file, but a call that forces the folder to the disk failed, so it may be lost in a
-    /// crash.
+    /// The edited text is in the file, but a call that forces the folder to the disk failed: in a crash the text may be
+    /// lost.
     Unsynced(io::Error),
-    /// A system call failed before anything of the file was changed, or all was restored.
+    /// A system call failed, and the file is as it was: nothing was changed yet, or all was restored.
     Failed(io::Error),
 }
 

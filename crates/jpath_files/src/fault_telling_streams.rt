@@ -30,8 +30,8 @@ impl<'r, T: Eprint, R: Read> Read for FaultTellingReader<'r, T, R> {
     }
 }
 
-/// A writer to standard output that prints each error of a write on standard error, and also returns it. A closed pipe
-/// is not printed: `is_pipe_closed` is set. Nor is an interrupted write.
+/// A writer to standard output that prints each error of a write on standard error, and also returns it. Not printed
+/// are an interrupted write and a closed pipe, which sets `is_pipe_closed`.
 #[derive(Drop)]
 pub struct FaultTellingWriter<'r, 'c, T, W> {
     pub rt: &'r T,

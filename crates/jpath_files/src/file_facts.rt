@@ -1,4 +1,4 @@
-//! What the system knows of a file, as far as an edit in place goes by it.
+//! What an edit in place needs of what the system knows of a file.
 
 ghost use Rattle.std.specs.Prelude.{◌≡◌, ◌↔◌, bit_and, IsTrue};
 ghost use Rattle.std.specs.Fs.{file_type, metadata_len, metadata_mode, IsFile};
@@ -56,8 +56,8 @@ impl FileFacts {
         self.owner == other.owner && self.group == other.group
     }
 
-    /// Whether `self` and `other` are facts of one file: they have the same device and inode. The file may have been
-    /// changed between the two.
+    /// Whether `self` and `other` are facts of one file: they have the same device and inode. Its other facts may
+    /// differ, as after a change.
     pub fn is_same_file(&self, other: &FileFacts) -> bool
         ensures { IsTrue result ↔ ((self.now.device ≡ other.now.device) × (self.now.inode ≡ other.now.inode)) }
     {

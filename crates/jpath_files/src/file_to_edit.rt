@@ -24,7 +24,7 @@ pub enum Way {
     IntoFile,
 }
 
-/// A regular file that is open to be edited in place. While it is open it is locked for other edits.
+/// A regular file that is open to be edited in place. While it is open, it is locked against other edits.
 #[derive(Drop)]
 pub struct FileToEdit<'r> {
     pub disk: HostDisk<'r>,
@@ -34,8 +34,8 @@ pub struct FileToEdit<'r> {
 }
 
 /// Opens a file to be edited in place, as `way` says, and locks it; for a symbolic link, the file that it leads to. If
-/// another edit has the file locked, waits until that is done, some ten seconds at most. An error if it is no regular
-/// file, if it has several names and `way` is `NewFile`, if it stays locked, or if it can't be opened or locked.
+/// another edit has locked the file, waits until that is done, some ten seconds at most. Errors: the file is not
+/// regular; it has several names and `way` is `NewFile`; it stays locked; or it can't be opened or locked.
 pub fn open_to_edit<'r>(
     rt: &'r HostRuntime,
     name: &str,

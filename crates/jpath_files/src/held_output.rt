@@ -28,9 +28,9 @@ impl<W: Output> HeldOutput<W> {
         }
     }
 
-    /// Appends a text to the output buffer: all of it, or nothing if memory runs out. If the buffer is empty, the two
-    /// `Vec`s are swapped and no byte is copied; else `text` keeps its bytes. So the caller clears `text` before the
-    /// next one.
+    /// Appends a text to the output buffer: all of it, or nothing if memory runs out. If the buffer is empty, it is
+    /// swapped with `text` and no byte is copied; else `text` keeps its bytes. So the caller has to clear `text` before
+    /// reusing it.
     pub fn hold_text(&mut self, text: &mut Vec<u8>) -> Result<(), AllocError>
         ensures ok { OnOk result (W.written self.new.writer ++ self.new.bytes.items ≡ (W.written self.old.writer ++ self.old.bytes.items) ++ text.old.items) }
         ensures err { OnErr result (W.written self.new.writer ++ self.new.bytes.items ≡ W.written self.old.writer ++ self.old.bytes.items) }
@@ -42,8 +42,8 @@ impl<W: Output> HeldOutput<W> {
         self.bytes.extend_from_slice(text.as_slice())
     }
 
-    /// Writes the output buffer to the writer if it has `ROOM` bytes (64 KB) or more. If that fails, what was not
-    /// written is still in the buffer.
+    /// Writes the output buffer to the writer if it has `ROOM` bytes (64 KB) or more. If a write fails, the bytes that
+    /// were not written are still in the buffer.
     pub fn flush_if_full(&mut self) -> Result<(), IoFailed>
         ensures same { W.written self.new.writer ++ self.new.bytes.items ≡ W.written self.old.writer ++ self.old.bytes.items }
         ensures relieved { OnOk result (length self.new.bytes.items < ROOM) }
@@ -56,7 +56,8 @@ impl<W: Output> HeldOutput<W> {
         self.flush()
     }
 
-    /// Writes the output buffer to the writer. If that fails, what was not written is still in the buffer.
+    /// Writes the output buffer to the writer. If a write fails, the bytes that were not written are still in the
+    /// buffer.
     pub fn flush(&mut self) -> Result<(), IoFailed>
         ensures same { W.written self.new.writer ++ self.new.bytes.items ≡ W.written self.old.writer ++ self.old.bytes.items }
         ensures flushed { OnOk result (self.new.bytes.items ≡ []) }

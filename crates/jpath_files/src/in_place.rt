@@ -11,12 +11,13 @@ use std::alloc::Global;
 use std::io::{self, ErrorKind};
 
 /// Replaces the content of a file that is open to be edited by these bytes, and forces them to the disk. `found` has
-/// the facts of the file when it was opened. As `way` says, either a new file beside it replaces it, once that is
-/// complete and on the disk, with the same owner, group and mode; or the bytes are written into the file itself.
+/// the facts of the file when it was opened. `way` says how: a new file, with the same owner, group and mode, is
+/// written beside the file, forced to the disk, and then replaces the file; or the bytes are written into the file
+/// itself.
 ///
-/// It is an error if the file was changed since it was opened, if a new file can't have its owner, group and mode, or
-/// if a system call fails. The file is then as it was and nothing is left beside it, except with `Torn` and `Unsynced`.
-/// The contract holds provided that what the system calls reported of both files was true.
+/// Errors: the bytes are more than a file may have, the file was changed since it was opened, a new file can't have its
+/// owner, group and mode, or a system call failed. The file is then as it was, except with `Torn` and `Unsynced`; the
+/// new file is removed if that is possible. The contract assumes that the system calls reported both files truly.
 pub fn put_in_place<D: Disk>(
     alloc: Global,
     disk: &mut D,

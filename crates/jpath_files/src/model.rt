@@ -1,4 +1,4 @@
-//! The files of an edit in place as clauses see them. They are known to proofs alone, and take no memory.
+//! The files of an edit in place as contracts see them. They are known to proofs alone, and take no memory.
 
 ghost use Rattle.std.specs.Prelude.{◌≡◌, true};
 ghost use Rattle.jpath_files.specs.DiskState.{DiskState};
@@ -8,8 +8,8 @@ use crate::disk::{Call, Place};
 use crate::file_facts::FileFacts;
 use std::marker::Model;
 
-/// What is known of the file that is edited in place and of the new file beside it, for proofs alone: at run time the
-/// type has no size.
+/// What is known of the edited file and of the new file beside it during an edit in place. It is for proofs alone: at
+/// run time the type has no size.
 #[derive(Drop)]
 pub struct DiskModel {
     ghost state: { DiskState },

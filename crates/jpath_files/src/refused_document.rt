@@ -13,13 +13,13 @@ use json_recognizer::{
 };
 use std::fmt::{self, Display, Formatter};
 
-/// Why a document of a file has an error.
+/// What is wrong with a document of a file.
 #[derive(Clone, Copy, Debug, Drop, PartialEq, Eq)]
 pub enum Reason {
     /// A byte of the document is wrong; the field says what could have been in its place.
     Wrong(Wanted),
     EndsTooEarly,
-    /// The document can't be used, for this reason, or memory ran out.
+    /// The document can't be used, or memory ran out; the field says which, and why.
     Other(DocumentRefusal),
 }
 
@@ -47,8 +47,8 @@ impl Display for Reason {
     }
 }
 
-/// The error of a document of a file: the file's name, the line and column, and the reason. It prints as the line on
-/// standard error that reports it.
+/// The error of a document of a file: the file's name, the line and column, and the reason. `Display` prints the line
+/// that reports it on standard error.
 #[derive(Clone, Copy, Debug, Drop)]
 pub struct RefusedDocument<'n> {
     /// The name of the file that has the document.
@@ -68,9 +68,9 @@ impl Display for RefusedDocument<'_> {
 }
 
 impl<'n> RefusedDocument<'n> {
-    /// The error of a piece of a file's stream, which begins at `place`. It is at the first byte with which no document
-    /// goes on, with what could have been there; or at the piece's end, if a document is cut short there; or else, with
-    /// the reason `refusal`, at the first byte of the piece that is no blank.
+    /// The error `refusal` of the document or wrong bytes in `bytes`, which begin at `place` in a file. For
+    /// `NotADocument` it is at the first wrong byte, if there is one, with what was expected there, or at the end of
+    /// the bytes, if these cut a document short. Otherwise it is at the first byte that is no blank.
     pub fn of_piece(
         name: &'n str,
         bytes: &[u8],

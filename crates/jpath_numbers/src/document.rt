@@ -1,4 +1,4 @@
-//! A document, as it is in its text and as paths are run on it.
+//! A document: its exact tree, as its text has it, and its image, on which paths are run.
 
 ghost use Rattle.std.specs.Prelude.{◌≡◌, true, false, Some, IfOk, IfErr};
 ghost use Rattle.std.specs.List.{All};
@@ -33,8 +33,8 @@ pub struct Document<'a> {
 
 impl<'a> Document<'a> {
     /// Reads a document from its text, for paths whose filters compare what `compared` says. The document's tree
-    /// borrows the text, and `scratch`, which has the texts whose escapes were resolved. Errors: `NotADocument` if the
-    /// text is no JSON document, `HugeExponent` if an exponent is too long to compare, or `OutOfMemory`.
+    /// borrows the text and `scratch`, which stores unescaped copies of texts with escapes. Errors: `NotADocument` if
+    /// the text is no JSON document, `HugeExponent` if an exponent is too long to compare, or `OutOfMemory`.
     pub fn read(
         alloc: Global,
         text: &'a str,

@@ -5,15 +5,15 @@ ghost use Rattle.jpath_numbers.specs.NumberKey.{OneKey};
 ghost use Rattle.jpath_numbers.specs.NumberPlaces.{KeepsTextOrder, is_alike};
 ghost use Rattle.jpath_numbers.specs.declared.numbers_in_copy.Numbers.{Numbers};
 
-/// Lemma: a number has one `NumberKey`, whatever zeros, point and exponent it is written with: so equal numbers have
+/// Lemma: a number has one `NumberKey`, with whatever zeros, point and exponent it is written. So equal numbers have
 /// equal ranks.
 pub fn one_number_one_key()
     ensures { OneKey }
 {}
 
-/// Lemma: a copy of a document with other numbers keeps the order of its numbers: the copies of any two of them compare
-/// as these two do, however many digits they are written with. This excludes copies made in the mode `Alike`, in which
-/// all numbers are made equal.
+/// Lemma: a copy of a document in which the numbers are replaced keeps their order: any two numbers compare as their
+/// copies do, however many digits they are written with. This excludes copies made in the mode `Alike`, in which all
+/// numbers are made equal.
 pub fn copies_keep_order()
     ensures { (numbers : Numbers) → is_alike numbers ≡ false → KeepsTextOrder numbers }
 {}

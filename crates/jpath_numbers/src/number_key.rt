@@ -12,9 +12,9 @@ use jsonpath_paths::Decimal;
 use std::alloc::{AllocError, Global};
 use std::cmp::Ordering;
 
-/// A key by which numbers compare: keys are in the order of their numbers, and equal if the numbers are. The digits
-/// have no 0 in front and none at the end, and the number is 0.DIGITS times ten to the exponent. For a negative number,
-/// the exponent is negated, each digit is subtracted from 9, and a last digit above all others is added.
+/// A key by which numbers compare: keys are ordered as their numbers are, and equal if these are equal. The number is
+/// 0.DIGITS times ten to the exponent; the digits neither begin nor end with 0. For a negative number, the exponent is
+/// negated, each digit is subtracted from 9, and a last digit above all others is added.
 #[derive(Debug, Drop, PartialEq, Eq, PartialOrd, Ord)]
 pub struct NumberKey {
     side: i8,
@@ -23,8 +23,8 @@ pub struct NumberKey {
 }
 
 impl NumberKey {
-    /// Makes the key of the number that a JSON text writes; `None` if its exponent doesn't fit 128 bits. It fails if
-    /// memory runs out.
+    /// Makes the key of the number that is written in a JSON text; `None` if its exponent doesn't fit in 128 bits. The
+    /// only error is out of memory.
     pub fn read(alloc: Global, text: &str) -> Result<Option<NumberKey>, AllocError>
         ensures { IfOk result (λ o. IfSome o (IsKeyOf text.now)) }
     {

@@ -29,9 +29,9 @@ pub enum Numbers {
     AsRead,
     /// The copy has each number times ten to this power, which makes each an integer.
     Scaled(u32),
-    /// The copy has, for each number, its rank among these keys, which ascend.
+    /// The copy has, in place of each number, its rank among these keys, which ascend.
     Ranked(Vec<NumberKey>),
-    /// The copy has the same number everywhere, since no filter compares numbers.
+    /// The copy has one and the same number in place of each, since no filter compares numbers.
     Alike,
 }
 
@@ -86,8 +86,8 @@ impl Numbers {
         }
     }
 
-    /// The token list of a path in which each number that a filter compares is replaced as the numbers of the
-    /// document's copy are: it is multiplied by the power of ten, or replaced by its rank.
+    /// The token list of a path in which each number that a filter compares is replaced as in the document's copy:
+    /// multiplied by the power of ten (`Scaled`), replaced by its rank (`Ranked`), else unchanged.
     pub fn tokens_with_literals_placed(
         &self,
         alloc: Global,

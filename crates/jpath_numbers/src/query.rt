@@ -20,10 +20,10 @@ pub struct Query<'a> {
     compares: bool,
 }
 
-/// What the filters of some paths compare: whether they compare any numbers, and which numbers the path texts contain.
+/// What the filters of some paths compare: whether they compare numbers, and which literal numbers they compare.
 #[derive(Drop)]
 pub struct Compared {
-    /// Whether some filter of the paths compares what may be numbers; not if a side is a literal text or boolean.
+    /// Whether a filter has a comparison that may be of numbers. One with a literal text or boolean as a side is not.
     pub is_any: bool,
     /// The literal numbers that the filters of the paths compare.
     pub literals: Vec<Decimal>,
@@ -68,7 +68,7 @@ impl<'a> Query<'a> {
 }
 
 impl Compared {
-    /// What the filters of these paths compare: whether numbers, and which literal ones. The only error is
+    /// What the filters of these paths compare: whether they compare numbers, and which literal ones. The only error is
     /// `OutOfMemory`.
     pub fn of_queries(alloc: Global, queries: &[Query<'_>]) -> Result<Compared, TokenError>
         ensures any { IfOk result (λ compared. All (λ q. q.compares ≡ true → compared.is_any ≡ true) queries.now) }
@@ -85,8 +85,7 @@ impl Compared {
         Ok(compared)
     }
 
-    /// Adds to what the filters of some paths compare what those of one more path compare. The only error is
-    /// `OutOfMemory`.
+    /// Adds what the filters of one more path compare. The only error is `OutOfMemory`.
     pub fn add_query(&mut self, query: &Query<'_>) -> Result<(), TokenError>
         ensures any { OnOk result (self.new.is_any ≡ (self.old.is_any || query.now.compares)) }
         ensures kept { OnOk result (KeepsLiterals self.old.literals.items self.new.literals.items) }

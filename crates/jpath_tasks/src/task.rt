@@ -24,7 +24,7 @@ pub enum Task<'a> {
     Lines(Vec<Query<'a>>, Shown),
     /// Writes one JSON array for each document, with all values that the paths select.
     Array(Vec<Query<'a>>),
-    /// Writes the number of values that the paths select in all documents of each file.
+    /// Writes, for each file, the number of values that the paths select in all its documents.
     Count(Vec<Query<'a>>),
     /// Writes nothing: only the exit status says whether the paths select any value.
     Quiet(Vec<Query<'a>>),
@@ -44,7 +44,7 @@ pub struct Table<'a> {
     pub has_header: bool,
 }
 
-/// An edit by `jpath`: a path, and by what the values that it selects are replaced, or that they are removed.
+/// An edit by `jpath`: a path, and whether the values that it selects are replaced, and by what, or are removed.
 #[derive(Drop)]
 pub struct Edit<'a> {
     pub query: Query<'a>,
@@ -58,7 +58,7 @@ pub struct Edit<'a> {
 #[derive(Drop)]
 pub struct Wanted<'a> {
     pub task: Task<'a>,
-    /// What the filters of all paths on the command line compare: whether numbers, and which literal ones.
+    /// What the filters of all paths on the command line compare: whether they compare numbers, and which literal ones.
     pub compared: Compared,
     pub look: Look,
     pub files: Vec<&'a str>,
@@ -114,9 +114,9 @@ impl<T: Drop> From<AllocFailed<T>> for Refused {
     }
 }
 
-/// Everything that the command line of `jpath` asks for: paths compiled, the task, the layout of lines and the files.
-/// `Refused` if the options contradict each other, if a path has a syntax error, which is printed here with its
-/// position, or if only the paths were to be checked.
+/// Everything that the command line of `jpath` asks for: compiled paths, the task, the layout of lines and the files.
+/// Errors: the options contradict each other, a path has a syntax error, which is printed here with its position, only
+/// the paths were to be checked, or memory ran out.
 pub fn wanted_of_words<'a>(
     rt: &(impl Eprint + Alloc<A = Global>),
     words: &Words<'a>,

@@ -11,8 +11,8 @@ pub enum DocumentRefusal {
     HugeExponent,
     /// The edited document would nest too deep to be read again.
     EditNests,
-    /// What an edit would replace in a text is not the values that its path selects, or the edited text, read again, is
-    /// not the changed document. This would be a fault of the program: it never comes.
+    /// The parts of the text that an edit would replace are not the values that its path selects, or the edited text,
+    /// read again, is not the changed document. Only a fault of the program could cause this error.
     EditDiffers,
     /// Memory ran out.
     OutOfMemory,

@@ -88,18 +88,18 @@ const EDITS: [EditOption; 4] = [
 /// An edit option of the command line, with its arguments.
 #[derive(Clone, Copy, Debug, Drop)]
 pub enum EditWords<'a> {
-    /// `--set PATH JSON`: the value of a JSON text in place of each value that the path selects.
+    /// `--set PATH JSON`: puts the value of a JSON text in place of each value that the path selects.
     Set(&'a str, &'a str),
-    /// `--set-text PATH TEXT`: a text in place of each value that the path selects.
+    /// `--set-text PATH TEXT`: puts a text in place of each value that the path selects.
     SetText(&'a str, &'a str),
-    /// `--null PATH`: null in place of each value that the path selects.
+    /// `--null PATH`: puts null in place of each value that the path selects.
     Null(&'a str),
     /// `--remove PATH`: removes each value that the path selects.
     Remove(&'a str),
 }
 
 impl<'a> EditWords<'a> {
-    /// The path text of this edit option: what it selects is edited.
+    /// The path text of this edit option, which selects what is edited.
     pub fn path(&self) -> &'a str
         ensures { result.now ≡ path_of self.now }
     {
@@ -157,7 +157,7 @@ pub struct Words<'a> {
 pub enum ParseOutcome<'a> {
     /// The options and words of the command line, parsed.
     Words(Words<'a>),
-    /// The program is to exit with this status: help or the version was asked for and is printed, or an option was
+    /// The program has to exit with this status: help or the version was asked for and is printed, or an option was
     /// wrong and the error is printed.
     Ended(u8),
 }

@@ -6,7 +6,7 @@ use std::alloc::{AllocError, Global};
 use unicode_width::UnicodeWidthStr;
 
 /// Prints on standard error why a path text is no path: the text, a caret under the position of the syntax error, and a
-/// hint, if there is one. If the error is that memory ran out, it prints that instead.
+/// hint, if there is one. For the error `OutOfMemory` it prints `out of memory` instead.
 pub fn tell_refused_path(rt: &(impl Eprint + Alloc<A = Global>), path: &str, error: &TokenError) {
     if let TokenError::OutOfMemory = error {
         let _ = eprintln!(rt; "jpath: out of memory");

@@ -1,5 +1,5 @@
-//! A recognizer of JSON, fed bytes as they come: whether a document goes on with them, where it ends, or which byte is the
-//! first that no document goes on with, and what was wanted in the place of that.
+//! A recognizer of JSON that takes the bytes as they are read: whether a document continues, where it ends, or which
+//! byte is the first with which no document can continue, and what was expected in place of that byte.
 #![tactic(auto)]
 
 mod buffer;

@@ -60,8 +60,8 @@ fn first_in(is_object: bool) -> Mode
     }
 }
 
-/// Takes the next byte of a JSON text, given by its class, into the recognizer's state, and returns true. Returns false
-/// if no JSON text goes on with that byte; the state is then unchanged.
+/// Updates the recognizer's state by the next byte of a JSON text, given by its class, and returns true. If no JSON
+/// text can continue with this byte, returns false, and the state is unchanged.
 #[inline(always)]
 pub fn take(state: &mut State, class: Class) -> bool
     requires { state.old.depth ≤ max_depth }

@@ -11,14 +11,14 @@ use crate::class::{Class, class_of};
 use crate::machine::{Mode, NumberPart, TextPart};
 use crate::state::{self, State, start};
 
-/// The result of looking through the next bytes of a stream: whether the document that is being read ends in them.
+/// The result of searching the next bytes of a stream for the end of the document that is being read.
 #[derive(Clone, Copy, Debug, Drop)]
 pub enum Found {
-    /// The bytes of this call don't end the document: it goes on after them.
+    /// The document does not end in the bytes of this call; it may continue after them.
     GoesOn,
     /// The document ends after this number of the bytes of this call.
     Ends(usize),
-    /// The byte after this number of the bytes of this call is wrong: the first with which no document goes on.
+    /// The byte at this index, from 0, in the bytes of this call is wrong: no document can continue with it.
     Refused(usize),
 }
 
@@ -216,8 +216,8 @@ fn take_byte(state: &mut State, byte: u8) -> Found
     found_behind(state)
 }
 
-/// Looks through the next bytes of a stream, `piece`: whether the document that is being read ends in them, or has its
-/// first wrong byte there, or goes on after them. `state` is the recognizer's state before these bytes; it is updated.
+/// Searches the next bytes of a stream, `piece`, for the end of the document that is being read, or for its first wrong
+/// byte; if neither is found, returns `GoesOn`. `state` is the recognizer's state before these bytes; it is updated.
 pub fn find_end(state: &mut State, piece: &[u8]) -> Found
     requires depth { state.old.depth ≤ max_depth }
     requires open { is_over state.old ≡ false }
@@ -241,8 +241,8 @@ pub fn find_end(state: &mut State, piece: &[u8]) -> Found
     Found::GoesOn
 }
 
-/// The number of bytes of the first document of a text, with the blanks before it; of the whole text, if it has no
-/// document.
+/// The number of bytes of the first document of a text, with the blanks before it; the length of the whole text if it
+/// has no such document.
 pub fn first_document_len(text: &[u8]) -> usize
     ensures { result ≡ end_or (length text.now) (found_in text.now) }
 {

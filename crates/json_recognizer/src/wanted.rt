@@ -128,8 +128,8 @@ fn in_text(part: TextPart, is_name: bool, class: Class) -> Wanted
 }
 
 /// The reason, for an error message, why a byte of class `class` is wrong in the mode `mode` of the recognizer: what
-/// was expected in its place, or what is wrong with it. Each byte that the reason names would have been accepted; it
-/// need not name all of them.
+/// was expected in its place, or what is wrong with it. Every byte that the reason names would have been accepted;
+/// others may be, too.
 pub fn what_was_wanted(mode: Mode, top: Top, class: Class) -> Wanted
     ensures { (c : Class) → names result c ≡ true → move mode top c ≢ Wrong }
 {
@@ -159,9 +159,9 @@ pub fn what_was_wanted(mode: Mode, top: Top, class: Class) -> Wanted
     }
 }
 
-/// The reason, for an error message, why the byte `byte` is wrong in this state of the recognizer: what was expected
-/// there, or what is wrong. Each byte that it names would have been right there, except for a bracket that opens too
-/// many arrays and objects in one another.
+/// The reason, for an error message, why the byte `byte` is wrong in this state of the recognizer: what was expected in
+/// its place, or what is wrong with it. Every byte that the reason names would have been accepted, except for a bracket
+/// that would nest too deep.
 pub fn wanted_at(state: &State, byte: u8) -> Wanted
     requires { state.now.depth ≤ max_depth }
     ensures { (c : Class) → names result c ≡ true → move state.now.mode (top_of (frames state.now.depth state.now.kinds)) c ≢ Wrong }

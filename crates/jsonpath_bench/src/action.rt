@@ -19,7 +19,7 @@ pub enum Action {
     Compile,
 }
 
-/// What is asked of a compiled path in a document; the time of the answer is measured.
+/// A question about what a compiled path selects in a document; the time of the answer is measured.
 #[derive(Clone, Copy)]
 pub enum Asked {
     /// The values that the path selects.
@@ -35,7 +35,7 @@ pub enum Asked {
 }
 
 impl Action {
-    /// The action that is meant by a word of the command line, such as `select`; `None` for any other word.
+    /// The action that a word of the command line names, such as `select`; `None` if the word names none.
     pub fn of(word: &str) -> Option<Action> {
         match word {
             "select" => Some(Action::Ask(Asked::Values)),
@@ -51,9 +51,9 @@ impl Action {
     }
 }
 
-/// Makes the call that `action` means `count` times, and returns the total time and the number of results of one call:
-/// of selected values or nodes, also for an update; 0 or 1 for the first value and for whether any value is selected;
-/// 1 for compiling. Each update changes a fresh copy of the document; the time does not include making the copies.
+/// Makes the call of `action` `count` times. Returns the total time, and the number of results of one call: of selected
+/// values or nodes, also for an update; 0 or 1 for `First` and `Exists`; 1 for compiling. Each update changes a fresh
+/// copy of the document; making the copies is not timed.
 pub fn measure(
     rt: &HostRuntime,
     action: Action,

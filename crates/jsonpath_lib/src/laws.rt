@@ -1,6 +1,6 @@
-//! The lemmas that callers cite, each the contract of a function that does nothing. A caller's proof has a lemma if
-//! the caller's body calls it, as `laws::one_selection_per_text();`; the call does nothing when it runs. The crates
-//! below have more, in modules of this name.
+//! Lemmas for callers' proofs. Each is the contract of a function that does nothing: if a caller's body has the call
+//! `laws::one_selection_per_text();`, its proof can use that lemma. The crates `jsonpath_paths`, `jsonpath_nodes` and
+//! `jsonpath_select` have more, in their modules `laws`.
 
 ghost use Rattle.std.specs.Prelude.{◌≡◌, ℕ, List, Option, option_map};
 ghost use Rattle.std.specs.Fn.{Called};
@@ -30,9 +30,9 @@ pub use jsonpath_select::laws::{
 };
 use serde_json::Value;
 
-/// Lemma: if a path selects one location alone and that exists, deleting by the path is the single update that puts
-/// null there, and removing is the one that removes the value there. Both leave all else as it is, and at the root they
-/// change nothing; `putting_at_one_location` says what a single update leaves.
+/// Lemma: let a path select one location alone, or nothing if that location doesn't exist. Then deleting by the path is
+/// the single update that puts null there, and removing by it is the single update that removes the value there. All
+/// else stays, and at the root nothing changes; `putting_at_one_location` says what a single update leaves.
 ///
 /// ```text
 /// laws::deletes_and_removes_selected_location();
@@ -49,9 +49,9 @@ pub fn deletes_and_removes_selected_location()
     putting_at_one_location();
 }
 
-/// Lemma: replacing by a path that selects one location alone, with a closure that always returns the same, is the
-/// single update there: `Some` replaces the value, `None` removes it, and all else stays. At the root it changes
-/// nothing. This call does nothing: its closure is not called.
+/// Lemma: let a path select one location alone, or nothing if that location doesn't exist. Then replacing by the path,
+/// with a closure that always returns the same result, is the single update there: `Some` replaces the value, `None`
+/// removes it, and all else stays. At the root nothing changes. The lemma's call does not call `closure`.
 ///
 /// ```text
 /// laws::replaces_selected_location(on);
@@ -67,8 +67,8 @@ pub fn replaces_selected_location<F: FnMut(Value) -> Option<Value>>(closure: &F)
     updates_put_one_answer_in_turn(closure);
 }
 
-/// Lemma: the result of masking by several paths, that is, of putting null at all values that they select, depends on
-/// the set of paths alone, neither on their order nor on repeats.
+/// Lemma: the result of masking by several paths, which puts null at all values that they select, depends only on the
+/// set of paths, not on their order or on repeats.
 ///
 /// ```text
 /// laws::masks_in_any_order();
@@ -81,8 +81,8 @@ pub fn masks_in_any_order()
     nulling_and_taking_ignore_order();
 }
 
-/// Lemma: the result of removing all values that several paths select depends on the set of paths alone, neither on
-/// their order nor on repeats.
+/// Lemma: the result of removing all values that several paths select depends only on the set of paths, not on their
+/// order or on repeats.
 ///
 /// ```text
 /// laws::removes_in_any_order();

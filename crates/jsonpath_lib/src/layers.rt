@@ -1,5 +1,5 @@
-//! What the library is made of, for code that builds on it: characters, tokens, token lists and syntax trees of path
-//! texts and their visitors; steps, comparisons and single updates on documents; readers and writers.
+//! The lower layers of the library, for code that builds on them: characters, tokens, token lists, syntax trees and
+//! visitors of path texts; steps, comparisons and single updates of documents; readers and writers.
 
 pub use jsonpath_nodes::{
     Atom, Cmp, CmpEq, CmpGe, CmpGt, CmpLe, CmpLt, CmpNe, ValueWalker, abs_index, compute_paths,

@@ -1,4 +1,4 @@
-//! What a comparison sees, and which pairs satisfy it.
+//! `Atom`, what a comparison uses of a value, and which pairs of values satisfy a comparison.
 
 pub(crate) mod atom;
 pub(crate) mod cmp;

@@ -1,9 +1,9 @@
-//! Lemmas about documents, locations, steps and updates. Each is the contract of a function that does nothing else.
+//! Lemmas about documents, locations, steps and updates. Each is the contract of a function that changes nothing.
 //!
-//! The candidates meant here are those of a filter that uses a relative query with at least one segment (an `@`, in
-//! no deeper filter, that is followed by a step): the non-array values left after flattening nested arrays; from a
-//! list of locations each is listed once. Locations are disjoint if none is equal to another or below another. They
-//! are apart if no two are equal, and none leads to another by indexes alone.
+//! The candidates meant here are those of a filter that uses a relative query with at least one segment (an `@`, in no
+//! deeper filter, that is followed by a step): the non-array values left after flattening nested arrays, each location
+//! once. Locations are disjoint if no two are equal and none is below another. They are apart if no two are equal and
+//! no index steps lead from one to another.
 
 ghost use Rattle.std.specs.Prelude.{◌≡◌, List, map, Option, option_map};
 ghost use Rattle.std.specs.Fn.{Called};
@@ -61,7 +61,7 @@ pub fn equal_locations_are_same()
     ensures { (l m : Location) → location_cmp l m ≡ Equal → l ≡ m }
 {}
 
-/// Lemma: if a list of nodes is at a list of locations of a document, in order, the nodes' own locations are that list.
+/// Lemma: if nodes are at the locations of a list, one by one, then that is the list of the nodes' own locations.
 ///
 /// ```text
 /// laws::spots_show_their_locations();
@@ -71,7 +71,7 @@ pub fn spots_show_their_locations()
 {}
 
 /// Lemma: putting null at a list of locations puts it at each that exists, is below the root and has no ancestor in the
-/// list, and changes nothing else. It is the same as putting null at each location in turn.
+/// list but the root. Nothing else changes. It is the same as putting null at each location in turn.
 ///
 /// ```text
 /// laws::nulling_at_topmost();
@@ -94,8 +94,8 @@ pub fn putting_at_one_location()
     ensures nowhere { ChangesNothing }
 {}
 
-/// Lemma: a run of single updates by a closure that always returns the same value puts that value at each location in
-/// turn. The call does nothing: the closure is not called.
+/// Lemma: a run of single updates by a closure that always returns the same result applies this at each location in
+/// turn: `Some` puts the value there, `None` removes what is there. The call does nothing: the closure is not called.
 ///
 /// ```text
 /// let on = &mut |_old: Value| Some(Value::Bool(true));
@@ -117,8 +117,8 @@ pub fn taking_at_once_is_in_turn()
     ensures { TakesFromTheBack }
 {}
 
-/// Lemma: the results of putting null at a list of locations, and of removing the values there, depend on the set of
-/// locations alone, neither on their order nor on repeats.
+/// Lemma: the results of putting null at a list of locations, and of removing the values there, depend only on the set
+/// of locations, not on their order or on repeats.
 ///
 /// ```text
 /// laws::nulling_and_taking_ignore_order();
@@ -127,10 +127,10 @@ pub fn nulling_and_taking_ignore_order()
     ensures { SetsAlone }
 {}
 
-/// Lemma: the set of nodes that steps and descents lead to, and the set of a filter's candidates, depend on the set
-/// of locations that they start from alone, neither on their order nor on repeats; so do the set of locations that
-/// pass a test, and whether any does. Two lists of the same locations become equal when they are put in document
-/// order, each location once.
+/// Lemma: the set of nodes that steps and descents select, and the set of a filter's candidates, depend only on the set
+/// of locations from which they start, not on their order or on repeats; so do the set of locations that pass a test,
+/// and whether any passes. Two lists of the same locations become equal when they are put in document order, each
+/// location once.
 ///
 /// ```text
 /// laws::steps_ignore_order_and_repeats();
@@ -167,8 +167,8 @@ pub fn replacements_stay_in_place()
     ensures { RunsInPlace }
 {}
 
-/// Lemma: for disjoint locations of a document, the candidates of a filter after `..` are found by one descent from
-/// each location after the other, each once: no two descents find the same.
+/// Lemma: from disjoint locations of a document, the candidates of a filter after `..` are found by one descent from
+/// each location in turn. Each is found once: no two descents find the same one.
 ///
 /// ```text
 /// laws::candidates_of_disjoint_in_descents();
@@ -178,9 +178,9 @@ pub fn candidates_of_disjoint_in_descents()
 {}
 
 /// Lemma: locations are disjoint if no two are the same and none is below another; so distinct ones of equal depth are
-/// disjoint. Disjoint locations are apart: all different, and none leads to another by indexes alone. No location is at
-/// or below two disjoint ones. From disjoint locations, a step that selects no child of a value twice leads to disjoint
-/// ones (`*` if the names ascend in each object there), and so do a filter and its candidates.
+/// disjoint. Disjoint locations are apart: no two equal, and no index steps lead from one to another. No location is at
+/// or below two disjoint ones. From disjoint locations, a step that selects no child twice leads to disjoint ones (`*`
+/// if the names ascend in each object there). A filter's candidates, and those it selects, are then disjoint too.
 ///
 /// ```text
 /// laws::steps_keep_locations_disjoint();
@@ -194,9 +194,9 @@ pub fn steps_keep_locations_disjoint()
     ensures candidates { CandidatesStayDisjoint }
 {}
 
-/// Lemma: locations are apart if all are different and none leads to another by indexes alone. Then no candidate of a
-/// filter is found from two of them. A single location is apart, and so are the candidates that are found from any
-/// locations, each taken once.
+/// Lemma: locations are apart if no two are equal and no index steps lead from one to another. Then no candidate of a
+/// filter is found from two of them. A single location is apart. The candidates that are found from any locations are
+/// apart, if each is taken once.
 ///
 /// ```text
 /// laws::apart_locations_meet_candidates_once();
@@ -208,10 +208,10 @@ pub fn apart_locations_meet_candidates_once()
     ensures no_repeat { ApartHasNoRepeat }
 {}
 
-/// Lemma: which steps lead to locations that are apart: all different, and none leads to another by indexes alone. From
-/// any distinct locations: a name, or a list of different names. From one location: `..` before a name. From locations
-/// that are apart: an index, a slice, and a list of different indexes that count from the front. Those of them that
-/// meet a filter's condition are apart, too.
+/// Lemma: these steps lead to locations that are apart (no two equal, and no index steps lead from one to another).
+/// From any distinct locations: a name, or a list of different names. From one location: `..` before a name. From
+/// locations that are apart: an index, a slice, and a list of different indexes that count from the front. If locations
+/// are apart, those of them that meet a filter's condition are, too.
 ///
 /// ```text
 /// laws::steps_keep_locations_apart();

@@ -106,8 +106,8 @@ pub fn add_named_member<'a, M: Mark<'a>>(
     Ok(())
 }
 
-/// Applies a step without a condition, such as `[0]`, to each node and to all its descendants, each before its
-/// children, as `..` does. The only error is `NoMemory`.
+/// Applies a step without a condition, such as `[0]`, to each node and to all its descendants, as `..` does; each value
+/// comes before its children. The only error is `NoMemory`.
 ///
 /// ```text
 /// let found = steps_on_marks::plain_step_from_all_below(alloc, &[&document], &PlainStep::Named("a"))?;
@@ -192,8 +192,8 @@ pub fn flattened_from_mark<'a, M: Mark<'a>>(alloc: Global, mark: &M) -> Result<V
 }
 
 /// The candidates, from one node, of a filter after `..` that uses a relative query with at least one segment: the
-/// non-array values left after flattening nested arrays among the descendants, each once, where it comes first,
-/// found in one descent.
+/// non-array values left after flattening nested arrays among the descendants. Each comes once, where a single descent
+/// reaches it first.
 ///
 /// ```text
 /// let found = steps_on_marks::candidates_below_mark(alloc, &&document)?;

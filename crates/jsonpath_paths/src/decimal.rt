@@ -1,4 +1,4 @@
-//! `Decimal`, the number of a literal, an index or a document: whole multiples of 10^-18, made of parts and read as
+//! `Decimal`, a number of a path or a document, kept as a whole multiple of 10^-18: how it is made of parts and read as
 //! units.
 
 ghost use Rattle.std.specs.Prelude.{◌≡◌, ◌<◌, ◌^◌, ◌&&◌, Some, None, nat_le, nat_lt, pos, if◌then◌else◌};

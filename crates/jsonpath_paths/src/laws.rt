@@ -1,4 +1,4 @@
-//! Lemmas about path texts and their syntax trees. Each is the contract of a function that does nothing else.
+//! Lemmas about path texts and their syntax trees. Each is the contract of a function that does nothing.
 
 ghost use Rattle.std.specs.Prelude.{◌≡◌, ◌⊎◌, ℕ, suc, List, ◌∷◌, ◌++◌, length, Some, None, true, false};
 ghost use Rattle.std.specs.Str.{IsUtf8};
@@ -20,8 +20,8 @@ ghost use Rattle.jsonpath_paths.specs.declared.token.tokens.Kind.{Kind};
 ghost use Rattle.jsonpath_paths.specs.declared.token.tokens.Token.{Token};
 ghost use Rattle.jsonpath_paths.specs.declared.token.tokens.TokenError.{TokenError};
 
-/// Lemma: the first token of a text is its longest prefix that is a token of some kind, and it is of that kind
-/// alone; if there is none, no prefix is a token. A text has at most one first token, and so one position after it.
+/// Lemma: the first token of a text is the longest prefix of the text that is a token, and it has one kind alone. If
+/// there is no first token, no prefix is a token. A text has at most one first token, and so one position after it.
 ///
 /// ```text
 /// laws::longest_front();
@@ -62,8 +62,8 @@ pub fn one_tree_per_token_list()
     ensures { (p q : Path) → IsPath p → IsPath q → path_tokens p ≡ path_tokens q → p ≡ q }
 {}
 
-/// Lemma: a text parses to exactly the syntax tree that is computed from it, so the tree of a fixed text is proved
-/// by `refl`.
+/// Lemma: a text parses to a syntax tree exactly if `tree_of_text` computes this tree from it, so the tree of a fixed
+/// text is proved by `refl`.
 ///
 /// ```text
 /// laws::spelled_tree();
@@ -73,7 +73,7 @@ pub fn spelled_tree()
     ensures only { (text : List ℕ) (p : Path) → Spells text p → tree_of_text text ≡ Some p }
 {}
 
-/// Lemma: a syntax error is at the text's end or at a position that is at most the text's length.
+/// Lemma: a syntax error is `Eof`, or `Position` with a byte position that is at most the text's length.
 ///
 /// ```text
 /// laws::refused_within_text();
@@ -82,8 +82,8 @@ pub fn refused_within_text()
     ensures { (text : List ℕ) (error : TokenError) → IsUtf8 text → RefusedAt text error → MatchPlace error (length text) }
 {}
 
-/// Lemma: if `$[?(a)]` and `$[?(b)]` are paths, the tree of `$[?((a) && (b))]` joins their two conditions, unchanged
-/// but for their positions in the text; the same of `||`.
+/// Lemma: if `$[?(a)]` and `$[?(b)]` are paths, the tree of `$[?((a) && (b))]` joins the conditions of these two, which
+/// change only in their positions in the text. The same holds for `||`.
 ///
 /// ```text
 /// laws::connective_joins_conditions();

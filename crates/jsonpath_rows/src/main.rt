@@ -1,6 +1,6 @@
 //! Replays the rows of the files on its command line through `run`, those that select also through `JsonSelector`,
-//! `Selector` (its values and its nodes) and `select_tokens`, and prints which of them hold. A file `.md` is a page
-//! whose tables have the rows, any other has a row as JSON on each line.
+//! `Selector` (its values and its nodes) and `select_tokens`, and prints which of them pass. In a file `.md`, a page,
+//! the rows are in its tables; any other file has a row as JSON on each line.
 #![tactic(auto)]
 
 mod page;

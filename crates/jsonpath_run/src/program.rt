@@ -25,10 +25,10 @@ use std::mem::forget;
 /// Runs the program `jsonpath_run` on its arguments, without its name: compiles the paths, reads the input to its end
 /// if the command needs it, and writes the answer with a line end. Returns the exit status 0.
 ///
-/// Errors: `Usage` exactly if the arguments are no valid command line, and then nothing is read; `Refused` if a path
-/// isn't in the grammar, and then nothing is read, if the input is no document or the answer can't be printed, or if
-/// memory ran out. In all these cases nothing is written. `Io` if a read failed, and then nothing is written; or if a
-/// write failed, and then a beginning of the answer, possibly empty, is written.
+/// Errors: `Usage` exactly if the arguments are no valid command line (then nothing is read); `Refused` if a path isn't
+/// in the grammar (then nothing is read), if the input is no document or the answer can't be printed, or if memory ran
+/// out. In all these cases nothing is written. `Io` if a read failed (then nothing is written), or if a write failed
+/// (then a beginning of the answer, possibly empty, is written).
 ///
 /// ```text
 /// let mut reader = Checked::new(r#"{"a":1}"#.as_bytes());

@@ -1,5 +1,5 @@
-//! Comparisons: at which candidates one holds, and whether some left and some right value satisfy it, with no look at
-//! each pair.
+//! Comparisons: the candidates at which one holds, and whether some left and some right value satisfy it, found without
+//! comparing every pair.
 
 pub(crate) mod atoms;
 pub(crate) mod comparer;

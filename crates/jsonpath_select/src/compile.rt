@@ -1,4 +1,4 @@
-//! Compiled paths, the verbs of every one, token lists, and the visitor of a path that owns its text.
+//! Compiled paths, the methods of every one, token lists, and the visitor of a path that owns its text.
 
 pub(crate) mod any_path;
 pub(crate) mod compile_path;

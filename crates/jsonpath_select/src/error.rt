@@ -32,7 +32,7 @@ pub enum JsonPathError {
     /// after the wrong token. For an error of `Parser` the message is the path text, a line end and a row of `^`.
     /// Printed as `path error: `, a line end, the message and a line end.
     Path(String),
-    /// A text is no JSON, a value can't be made a value of the wanted type, or a number that has to be printed or typed
+    /// A text is no JSON, a value can't be deserialized to the wanted type, or a number to be printed or deserialized
     /// is neither an `i64` nor a `u64`. Printed as `serde error: `, a line end, the message and a line end.
     Serde(String),
     /// Out of memory. Printed as `out of memory`.
@@ -70,9 +70,9 @@ impl fmt::Debug for JsonPathError {
 impl Error for JsonPathError {}
 
 impl JsonPathError {
-    /// The byte position of a syntax error: that after the wrong token or character. `None` if the path text ends
-    /// too early, and for any other error. For an error of `Parser`, whose message shows the position by a row of
-    /// `^`, it is where the row ends: after the text's last byte if that ends too early.
+    /// The byte position just after the wrong token or character of a syntax error; `None` for any other error. If the
+    /// path text ends too early, it is `None` too, except for an error of `Parser`, whose message shows the position by
+    /// a row of `^`: then it is the text's length.
     ///
     /// ```text
     /// match compile_path(alloc, "$.a[b]") {
@@ -89,9 +89,9 @@ impl JsonPathError {
         }
     }
 
-    /// Shows a syntax error in this path text: the text, a line end and a row of `^` that ends below the last byte
-    /// of the wrong token, or below the last byte of the text if that ends too early. For an error of `Parser` that
-    /// is its message. `None` for any other error.
+    /// Shows a syntax error in this path text. Returns the text, a line end and a row of `^` that ends below the last
+    /// byte of the wrong token, or below the last byte of the text if the text ends too early. For an error of `Parser`
+    /// this is its message. `None` if this error is no syntax error.
     ///
     /// ```text
     /// let refused = compile_path(alloc, "$.a[b]")
@@ -148,8 +148,8 @@ fn path_with_carets_of_message(
     path_with_caret_row(alloc, path, carets)
 }
 
-/// Converts a token error: to `Path`, with `Eof` or `Position:` and the byte position as its message, or to
-/// `OutOfMemory`, also if memory runs out for the message.
+/// Converts a token error: `Eof` and `Position` to `Path`, with the message `Eof` or `Position:` and the byte position;
+/// `OutOfMemory` to itself. If memory runs out for the message, the result is `OutOfMemory`.
 ///
 /// ```text
 /// let error = path_error(alloc, &TokenError::Position(3));
@@ -169,8 +169,8 @@ pub fn path_error(alloc: Global, error: &TokenError) -> JsonPathError
     }
 }
 
-/// Converts an error of `Parser`: to `Path` with its text as the message, or to `OutOfMemory`, also if memory runs
-/// out for the message.
+/// Converts an error of `Parser`: `Text` to `Path` with a copy of its message, `OutOfMemory` to itself. If memory runs
+/// out for the copy, the result is `OutOfMemory`.
 ///
 /// ```text
 /// match Parser::compile(alloc, "$[") {
@@ -190,7 +190,7 @@ pub fn error_of_parse_fault(alloc: Global, fault: &ParseFault) -> JsonPathError
     }
 }
 
-/// An error of `Parser` becomes `Path` with its text as the message, or `OutOfMemory`. It takes no memory.
+/// Converts an error of `Parser`: `Text` to `Path` with the same message, `OutOfMemory` to itself. It takes no memory.
 impl From<ParseFault> for JsonPathError {
     ghost use Rattle.jsonpath_select.specs.JsonPathErrors.{error_of};
     ghost use Rattle.std.specs.Prelude.{◌≡◌};

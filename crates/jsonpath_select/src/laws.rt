@@ -1,5 +1,5 @@
-//! Lemmas about selections, over the definitions alone. A lemma is the contract of a function that does nothing; a
-//! body whose proof needs it calls it.
+//! Lemmas about selections, which follow from the definitions alone. Each is the contract of a function that does
+//! nothing; a function whose proof needs the lemma calls it.
 ghost use Rattle.jsonpath_select.specs.SelectionLaws.{OneListOfLocations, OneListOfValues, OneListOfSights, SelectsOnce, OrderIsFree, LocationsInBothOrders, ValuesInBothOrders, SelectsItself, SelectsNames, AnswersPlace, SelectsByTree, NeverRefused, AnswersEach};
 ghost use Rattle.jsonpath_select.specs.comparison.Extremes.{EndsDecidePairs};
 ghost use Rattle.jsonpath_select.specs.SetMeaning.{SelectsOneSet, SelectsOneOrderedSet, HoldsAlike, FollowsWhatLeadsOn, FirstOfTwoPieces};
@@ -12,7 +12,7 @@ use jsonpath_paths::laws::{
     connective_joins_conditions, longest_front, one_tree_per_text, word_is_first_token,
 };
 
-/// Lemma: a path text selects one list in a document, whichever selector is used, and however often.
+/// Lemma: a path text always selects the same list in a document, whichever selector is used.
 ///
 /// ```text
 /// laws::one_selection_per_text();
@@ -25,8 +25,8 @@ pub fn one_selection_per_text()
     one_tree_per_text();
 }
 
-/// Lemma: a path whose steps outside filters have no `..` and no list of names or indexes selects no location of a
-/// document twice.
+/// Lemma: a path selects no location of a document twice if its steps outside filters have no `..` and no list of names
+/// or indexes.
 ///
 /// ```text
 /// laws::paths_without_repeats_select_once();
@@ -47,10 +47,10 @@ pub fn swapped_sides_select_alike()
 {}
 
 /// Lemma: for two condition texts `a` and `b`, the paths `$[?((a) && (b))]` and `$[?((b) && (a))]` select the same
-/// list, and so do those with `||`. It is assumed that both are in the grammar, and `$[?(a)]` and `$[?(b)]` too; so
-/// `a` can't be a text like `@.x) || (@.y`, whose parentheses close and open again. The inner parentheses are needed,
-/// since here `&&` and `||` have the same precedence and group to the right: without them, if `a` is `@.x && @.y`, `a
-/// || b` means `@.x && (@.y || b)`.
+/// list, and so do those with `||`. The lemma assumes that these paths are in the grammar, and `$[?(a)]` and `$[?(b)]`
+/// too; so `a` can't be a text like `@.x) || (@.y`, whose parentheses close and open again. The inner parentheses are
+/// needed, since here `&&` and `||` have the same precedence and group to the right: without them, if `a` is `@.x &&
+/// @.y`, `a || b` means `@.x && (@.y || b)`.
 ///
 /// ```text
 /// laws::swapped_condition_texts_select_alike();
@@ -63,9 +63,8 @@ pub fn swapped_condition_texts_select_alike()
     connective_joins_conditions();
 }
 
-/// Lemma: the text of a location, as `{}` prints it, is a path of the grammar. It selects this location alone in
-/// each document where that exists, and nothing in the others. Each name is UTF-8 text, and each index is below
-/// 2^63.
+/// Lemma: the text of a location, as `{}` prints it, is a path of the grammar. In a document that has the location, the
+/// path selects it alone, else nothing. The lemma assumes that each name is UTF-8 text and each index is below 2^63.
 ///
 /// ```text
 /// laws::location_text_selects_itself();
@@ -76,9 +75,9 @@ pub fn location_text_selects_itself()
     longest_front();
 }
 
-/// Lemma: a path of names after dots, as `$.store.book`, selects only the location to which they lead from the root
-/// in each document where that exists, and nothing in the others. Each name is a word of ASCII characters, which need
-/// no quotes in a path, and doesn't begin with a dollar sign.
+/// Lemma: a path of names after dots, as `$.store.book`, selects the location whose steps are these names, and nothing
+/// else; if the document doesn't have it, nothing. The lemma assumes that each name is a word of ASCII characters,
+/// which needs no quotes in a path, and doesn't begin with a dollar sign.
 ///
 /// ```text
 /// laws::dotted_names_select_one_location();
@@ -90,7 +89,7 @@ pub fn dotted_names_select_one_location()
     longest_front();
 }
 
-/// Lemma: a path that selects one location alone selects one value, that there, or none if the location doesn't exist.
+/// Lemma: a path that selects one location alone selects the value at that location, or none if it doesn't exist.
 ///
 /// ```text
 /// laws::one_location_answers_one_value();
@@ -121,7 +120,7 @@ pub fn refused_for_memory_alone()
     ensures { NeverRefused }
 {}
 
-/// Lemma: each location that a path selects in a document has a value there: the path selects as many values as
+/// Lemma: a document has a value at each location that a path selects in it: the path selects as many values as
 /// locations, in the same order.
 ///
 /// ```text
@@ -158,9 +157,9 @@ pub fn extremes_and_sets_decide_pairs()
 {}
 
 /// Lemma: a path selects the same set, and a condition holds at the same candidates, if duplicates are dropped after
-/// each step, inside conditions too, and if each `..` begins at any nodes from which it finds the same, as those
-/// with no ancestor among them. So a condition depends on the location and the document alone, and can be decided
-/// once for each location.
+/// each step, inside conditions too, and if each `..` starts from other nodes with the same set of nodes at or below
+/// them, such as those without an ancestor in the list. So a condition depends on the location and the document alone,
+/// and can be decided once for each location.
 ///
 /// ```text
 /// laws::dropping_repeats_keeps_the_set();
@@ -186,8 +185,8 @@ pub fn what_leads_on_suffices()
     equal_locations_are_same();
 }
 
-/// Lemma: the first node that some steps select from a list in two pieces, in the path's order, is the first that they
-/// select from the first piece or, if that is none, from the second. So it can be found piece by piece.
+/// Lemma: if a list of nodes is split in two, the first node that some steps select from the list, in the path's order,
+/// is the first that they select from its first part or, if they select none from it, from its second part.
 ///
 /// ```text
 /// laws::first_is_of_first_piece();

@@ -1,5 +1,5 @@
-//! Compiled paths, which token lists are a path's, what a path selects in a document, updates of what it selects,
-//! selectors and update types that hold both, how documents are read, and how answers and errors are printed.
+//! Compiled paths, checks of token lists, what a path selects in a document, updates of what it selects, selectors and
+//! update types, which store a path and a value, and JSON texts and errors, read and printed.
 #![tactic(auto)]
 
 mod answer;

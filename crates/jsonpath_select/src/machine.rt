@@ -1,5 +1,5 @@
-//! The machine that runs token lists, and how the nodes that its plain steps select lie to each other; whole paths
-//! are run in `filters`.
+//! The machine that runs token lists, and how the locations that its plain steps select are related; whole paths are
+//! run in `filters`.
 
 pub(crate) mod execute_instruction;
 pub(crate) mod instruction;

@@ -14,7 +14,7 @@ use jsonpath_lib::{
 use serde_json::Value;
 use std::alloc::Global;
 
-/// The value of the member `price`, if the value is an object that has one, else nothing; found by the path `$.price`.
+/// Selects by `$.price`: the value of the member `price` if `json` is an object that has one, else an empty list.
 pub fn price<'a>(alloc: Global, json: &'a Value) -> Result<Vec<&'a Value>, JsonPathError>
     ensures { IfOk result (λ found. map (λ v. view v.now) found.items
         ≡ option_to_list (get (codes "price") (view json.now))) }
@@ -24,8 +24,8 @@ pub fn price<'a>(alloc: Global, json: &'a Value) -> Result<Vec<&'a Value>, JsonP
     select(alloc, json, "$.price")
 }
 
-/// The value at the location, or nothing; found by the location's text used as a path. Each index of the location is
-/// below 2^63, as in paths.
+/// The value at the location, or an empty list if it doesn't exist. The path is the location's text, so each index of
+/// the location must be below 2^63.
 pub fn value_at<'a>(
     alloc: Global,
     json: &'a Value,
@@ -43,7 +43,7 @@ pub fn value_at<'a>(
     select(alloc, json, text.as_str())
 }
 
-/// The values that the path selects as the text of a JSON array: by `$[*].name`, say, the names in a list of records.
+/// The text of a JSON array of the values that the path selects: for `$[*].name`, say, the names in a list of records.
 pub fn column_text(alloc: Global, json: &Value, path: &str) -> Result<String, JsonPathError>
     ensures { IfOk result (λ text. (values : List Data) × Selects path.now (view json.now) values × (list_text values ≡ Some (string_bytes text))) }
 {
@@ -64,7 +64,7 @@ pub fn selects_exactly(
     Ok(found.len() == count)
 }
 
-/// What the path selects by a `JsonSelector`, and what it selects by a `Selector`: the two lists are equal.
+/// Selects by the path with a `JsonSelector` and with a `Selector`, and returns the two lists, which are equal.
 pub fn select_by_both_selectors<'a>(
     alloc: Global,
     json: &'a Value,
@@ -83,8 +83,8 @@ pub fn select_by_both_selectors<'a>(
     Ok((first, second))
 }
 
-/// What `$[?((@.isbn) && (@.price < 1000))]` selects in an array of books, and what it selects with the two conditions
-/// in the other order: the two lists are equal.
+/// Selects in an array of books by `$[?((@.isbn) && (@.price < 1000))]` and by the path with these two conditions in
+/// the other order, and returns the two lists, which are equal.
 pub fn select_with_both_condition_orders<'a>(
     alloc: Global,
     books: &'a Value,

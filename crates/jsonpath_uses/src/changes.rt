@@ -13,8 +13,8 @@ use jsonpath_lib::{
 use serde_json::Value;
 use std::alloc::Global;
 
-/// Puts null at what two paths select: in one value by the first and the second path, in the other by the second and
-/// the first. The two values are equal before and after. `None` if a path is wrong or memory runs out.
+/// Masks two equal values by two paths: `one` by `first` and `second`, `other` by `second` and `first`. Returns the two
+/// results, which are equal, or `None` if a text is no path or memory runs out.
 pub fn mask_in_either_order(
     alloc: Global,
     one: Value,
@@ -35,7 +35,7 @@ pub fn mask_in_either_order(
     Some((one, other))
 }
 
-/// The document `config` with true at `$.log.on`, if it has a value there. All else stays.
+/// The document `config` with true in place of the value at `$.log.on`, if it has one there. All else stays.
 pub fn with_log_switched_on(alloc: Global, config: Value) -> Result<Value, JsonPathError>
     ensures on { IfOk result (λ changed. IsSome (at (view config) (name (codes "log") ∷ name (codes "on") ∷ []))
         → at (view changed) (name (codes "log") ∷ name (codes "on") ∷ []) ≡ Some (boolean true)) }
@@ -49,7 +49,7 @@ pub fn with_log_switched_on(alloc: Global, config: Value) -> Result<Value, JsonP
     replace_with(alloc, config, "$.log.on", on)
 }
 
-/// Removes the member `price`, if the value is an object that has one, by two calls: the second changes nothing.
+/// Removes by `$.price`, twice: the first call removes the member `price`, if there is one, the second changes nothing.
 pub fn remove_price_twice(alloc: Global, json: &mut Value) -> Result<(), JsonPathError>
     ensures { OnOk result (view json.new ≡ update (name (codes "price") ∷ []) None (view json.old)) }
 {
@@ -63,8 +63,8 @@ pub fn remove_price_twice(alloc: Global, json: &mut Value) -> Result<(), JsonPat
     Ok(())
 }
 
-/// The document without the values that any of these paths selects. All of them select before anything is removed. If a
-/// text is no path, that is the error, and the document is dropped.
+/// The document without the values that any of these paths selects. All paths select before anything is removed. The
+/// error is that of a text that is no path, or `OutOfMemory`; the document is then dropped.
 pub fn without_secrets(alloc: Global, json: Value, secrets: &[&str]) -> Result<Value, JsonPathError>
     ensures { IfOk result (λ left. AreRemoved (map (λ p. p.now) secrets.now) (view json) (view left)) }
 {

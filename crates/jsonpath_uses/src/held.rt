@@ -1,4 +1,4 @@
-//! What selectors and update types hold, call after call, as callers state and prove it.
+//! What selectors and update types store, call after call, as callers state and prove it.
 ghost use Rattle.std.specs.Prelude.{◌≡◌, Some, map, true, false, IfOk, IfSome, OnOk, OnErr};
 ghost use Rattle.serde_json.specs.View.{view};
 ghost use Rattle.jsonpath_select.specs.Targets.{IsDeleted};
@@ -26,7 +26,7 @@ pub fn set_parser_in_pair<'a, V: HeldValue>(
     Ok(())
 }
 
-/// Compiles a path text into a `Selector` or `SelectorMut` by `set_path`. After an error its path is the one before.
+/// Sets the path of a `Selector` or `SelectorMut` by `set_path`. After an error it has the path that it had before.
 pub fn set_path_in_pair<P: OfNode + Drop, V: HeldValue>(
     alloc: Global,
     held: &mut HeldPair<P, V>,
@@ -55,7 +55,7 @@ pub fn select_by_second_path<'a>(
     held.select(alloc)
 }
 
-/// What one path, set in a selector once, selects in a first document and then in a second.
+/// Sets a path in a selector, once, and returns what it selects in a first document and what in a second.
 pub fn select_in_two_documents<'a>(
     alloc: Global,
     path: &str,
@@ -74,8 +74,8 @@ pub fn select_in_two_documents<'a>(
     Ok((first, second))
 }
 
-/// The document with null in place of what the path selects below the root, by a `SelectorMut` whose calls are not
-/// chained. `None` would mean that the `SelectorMut` has no document.
+/// The document with null in place of what the path selects below the root. The calls on the `JsonSelectorMut` that
+/// does this are not chained; `None` would mean that it has no document.
 pub fn delete_in_statements(
     alloc: Global,
     json: Value,
@@ -89,7 +89,7 @@ pub fn delete_in_statements(
     Ok(held.take())
 }
 
-/// Removes what the path of the `SelectorMut` selects from its document, and returns whether that was done. After an
+/// Removes from the document of a `SelectorMut` what its path selects, and returns whether that succeeded. After an
 /// error the document is as it was.
 pub fn remove_or_leave(alloc: Global, held: &mut SelectorMut) -> bool
     ensures removed { result ≡ true → RemovesHeld held.old.path (document held.old) (document held.new) }

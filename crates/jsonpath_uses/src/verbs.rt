@@ -1,5 +1,5 @@
-//! The verbs of `AnyPath` at a `PathParser`, with clauses that name the path itself, while those of the trait name
-//! its `spelling`; and that the spelling of every other compiled path is its own text, so that the same holds of it.
+//! The methods of `AnyPath` at a `PathParser`. Their contracts name the path itself, those of the trait its `spelling`.
+//! For every other compiled path, its spelling is its own text, so the same holds of it.
 ghost use Rattle.std.specs.Prelude.{◌≡◌, Ok, map, option_map, string_bytes, vec_len, IfOk, IfErr, OnOk, OnErr};
 ghost use Rattle.serde_json.specs.View.{view};
 ghost use Rattle.jsonpath_select.specs.answer.Counted.{IsCountOf, IsFirstOf, TellsIfAny};
@@ -142,7 +142,7 @@ pub fn set_in(
     path.set_in(alloc, value, new)
 }
 
-/// Replaces in the document what the path selects by the closure's results.
+/// Replaces each value that the path selects in the document by the closure's result for it, or removes it at `None`.
 pub fn replace_in<F: FnMut(Value) -> Option<Value>>(
     alloc: Global,
     value: &mut Value,
@@ -159,8 +159,8 @@ pub fn replace_in<F: FnMut(Value) -> Option<Value>>(
     path.replace_in(alloc, value, fun)
 }
 
-/// Replaces in the document what the path selects by the results of a closure. The closure's first error ends the
-/// updates; those before it remain.
+/// Replaces each value that the path selects in the document by the closure's result for it, or removes it at `None`.
+/// The closure's first error ends the updates; those before it remain.
 pub fn try_replace_in<E, F: FnMut(&Value) -> Result<Option<Value>, E>>(
     alloc: Global,
     value: &mut Value,

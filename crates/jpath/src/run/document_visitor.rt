@@ -18,7 +18,7 @@ pub enum Stop {
     Output,
     /// A match was found, and the option `--quiet` needs no more than one.
     Found,
-    /// A document has an error, which is already printed, and the run does not go on after errors.
+    /// A document has an error, which is already printed, and the option `--keep-going` is not set.
     Document,
     /// Memory ran out.
     OutOfMemory,

@@ -35,8 +35,8 @@ pub struct ExactOutcome {
 }
 
 /// Whether a path may be evaluated on the exact tree of a document, without an image (a copy with `serde_json`'s
-/// numbers): it begins at the root, and consists of names, `[*]` and filters on members of a candidate. Some documents
-/// need an image for it all the same.
+/// numbers): it begins at the root, and consists of names, `[*]` and filters on members of a candidate. Even for such a
+/// path some documents need an image.
 pub fn may_answer_by_exact_tree(query: &Query<'_>) -> bool {
     let path = query.path().tree();
     for step in &path.steps {
@@ -52,9 +52,9 @@ pub fn may_answer_by_exact_tree(query: &Query<'_>) -> bool {
     path.absolute
 }
 
-/// Writes a line for each value that a path selects in an exact tree, in the path's order, or no line if `line` is
-/// `None`, and returns how many values there are. `None` if the path or the document can only be evaluated on an image
-/// (a copy with `serde_json`'s numbers): a part of the lines may then be written, as after an error.
+/// Writes a line to `out` for each value that a path selects in an exact tree, in the path's order, but no lines if
+/// `line` is `None`. Returns how many values there are, or `None` if the path or the document can only be evaluated on
+/// an image (a copy with `serde_json`'s numbers); then, as after an error, `out` may end with a part of the lines.
 pub fn add_lines_by_exact_tree(
     alloc: Global,
     exact: &Exact<'_>,

@@ -45,7 +45,7 @@ pub fn add_lines_for_path(
     Ok(spots.len())
 }
 
-/// The number of values that several paths select in a document, duplicates included, added up over the paths.
+/// The total number of values that several paths select in a document, duplicates included.
 pub fn count_matches(
     alloc: Global,
     document: &Document<'_>,

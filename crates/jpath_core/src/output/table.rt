@@ -12,9 +12,9 @@ use serde_json::Value;
 use std::alloc::Global;
 
 /// Appends to `out` a row of a table for each value that the path `rows` selects in a document, and returns how many
-/// rows there are. A column is a path that begins at that value instead of the document's root. Its field in the row is
-/// the first value that it selects, a text without quotes and anything else as compact JSON, and empty if it selects
-/// nothing. After an error `out` may end with a part of the rows.
+/// rows there are. A column is a path that begins at the row's value instead of the document's root. Its field has the
+/// first value that it selects there, a text without quotes and anything else as compact JSON, or is empty if it
+/// selects nothing. After an error `out` may end with a part of the rows.
 pub fn add_rows(
     alloc: Global,
     document: &Document<'_>,

@@ -12,8 +12,8 @@ use std::mem;
 pub enum Separated {
     /// CSV: fields are separated by commas; a field with a comma, a quote or a line end is quoted.
     ByCommas,
-    /// TSV: fields are separated by tabs; a tab, a line end or a backslash in a field is written by a backslash and a
-    /// letter or a second backslash.
+    /// TSV: fields are separated by tabs; a tab, a line end, a carriage return or a backslash in a field is escaped by
+    /// a backslash.
     ByTabs,
 }
 

@@ -14,13 +14,13 @@ use std::alloc::Global;
 pub struct Taken {
     /// How many matches the visited document has.
     pub count: usize,
-    /// Whether to visit no more documents of the stream, since the visitor needs none.
+    /// Whether the visits should stop, since the visitor needs no more documents of the stream.
     pub is_enough: bool,
 }
 
 /// A visitor of the documents of a stream, one after another.
 pub trait Visitor {
-    /// The error by which the visitor ends the visits of a stream.
+    /// The error that the visitor returns to end the visits of a stream.
     type Stop: Drop;
 
     // What was written so far, handed on or not.
@@ -48,18 +48,18 @@ pub trait Visitor {
         ensures stay { StayGiven (gives self.old) (gives self.new) };
 }
 
-/// Why a run over the documents of a stream ended, which calls a visitor for each.
+/// Why `visit_documents`, which calls a visitor for each document of a stream, has ended.
 #[derive(Clone, Copy, Debug, Drop, PartialEq, Eq)]
 pub enum How<S> {
     /// The stream was read to its end, and each document was visited.
     Whole,
     /// The visitor wanted no more documents.
     Enough,
-    /// The stream could not be read further, for this reason.
+    /// The stream could not be read further; the field says why.
     ReadFailed(ReadFailure),
     /// The visitor returned this error.
     Stopped(S),
-    /// The stream took more turns of the loop than 64 bits can count.
+    /// The loop over the stream was run more often than 64 bits can count.
     Endless,
 }
 
@@ -72,12 +72,11 @@ pub struct Ended<S> {
     pub how: How<S>,
 }
 
-/// Visits the documents of a stream, one after another, each as soon as its bytes are read, until the stream ends, a
-/// read fails, or the visitor wants no more or returns an error. If a byte comes with which no document goes on, the
-/// bytes up to and with it are visited at once, as a piece that is no document; if the visitor goes on, the next piece
-/// begins after the line on which that one begins. Returns how many matches the visited documents have together, and
-/// why the visits ended. The visitor's outputs are in the order of the documents. A byte order mark at the beginning is
-/// skipped.
+/// Visits the documents of a stream in order, each as soon as its bytes are read, and so writes the visitor's output
+/// for them in order. Returns how many matches they have together, and why the visits ended: the stream ended, a read
+/// failed, or the visitor wanted no more documents or returned an error. Wrong bytes are visited, too, as soon as the
+/// first byte is read with which no document can continue; the next document is looked for after the line on which the
+/// wrong bytes begin. A byte order mark at the beginning is skipped.
 pub fn visit_documents<R: Input, V: Visitor>(
     alloc: Global,
     reader: &mut R,

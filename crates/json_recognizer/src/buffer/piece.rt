@@ -5,8 +5,8 @@
 pub enum Kind {
     /// A JSON document, perhaps with blanks before it.
     Document,
-    /// The bytes up to and with the first with which no document goes on, or a document that the stream's end cuts
-    /// short.
+    /// Wrong bytes in place of a document: up to and including the first byte with which no document can continue, or
+    /// up to the stream's end if that cuts a document short.
     Refused,
     /// Blanks alone, after the last document of the stream.
     Blanks,

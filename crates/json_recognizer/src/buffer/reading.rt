@@ -32,8 +32,8 @@ impl From<AllocError> for ReadFailure {
 }
 
 impl StreamBuffer {
-    /// Reads the stream until its next piece (mostly a document) is found, and returns what the piece is. An error if a
-    /// read fails or memory runs out.
+    /// Reads the stream until its next piece is found, and returns what that is: a document, wrong bytes in place of
+    /// one, or blanks at the stream's end. An error if a read fails or memory runs out.
     pub fn read_next_piece<R: Input>(&mut self, reader: &mut R) -> Result<Kind, ReadFailure>
         requires { IsReady self.old }
         ensures sound { IsSound self.new }

@@ -18,8 +18,8 @@ use std::alloc::Global;
 /// The bytes of a byte order mark in UTF-8.
 pub const MARK: [u8; 3] = [0xef, 0xbb, 0xbf];
 
-/// The bytes of a stream of documents that were read and not yet passed: those of the current piece (a document, or
-/// wrong bytes in place of one), and what was read after it.
+/// The bytes of a stream of documents that were read and not yet skipped: the current piece (a document, or wrong bytes
+/// in place of one), and the bytes read after it.
 #[derive(Drop)]
 pub struct StreamBuffer {
     pub(super) bytes: Vec<u8>,
@@ -36,7 +36,7 @@ pub struct StreamBuffer {
 }
 
 impl StreamBuffer {
-    /// The buffer of a stream of which nothing is read yet.
+    /// An empty buffer, for a stream of which nothing was read yet.
     pub fn new(alloc: Global) -> StreamBuffer
         ensures ready { IsReady result }
         ensures empty { left result ≡ [] }
@@ -55,8 +55,8 @@ impl StreamBuffer {
         }
     }
 
-    /// The bytes of the stream's current piece, the document or the wrong bytes that were found last, with the blanks
-    /// before.
+    /// The bytes of the stream's current piece: the document or the wrong bytes that were found last, and the blanks
+    /// before them.
     pub fn current_piece(&self) -> &[u8]
         requires { IsSound self.now }
         ensures { result.now ≡ piece_of self.now }
@@ -71,8 +71,8 @@ impl StreamBuffer {
         self.place
     }
 
-    /// Whether the stream ends within the current piece, which is no document: it is cut short, and not wrong at a
-    /// byte.
+    /// For a current piece that is no document: whether the stream ends within the piece, so that it has no wrong byte
+    /// but is cut short.
     pub fn is_cut_short(&self) -> bool
         ensures cut { result ≡ true → wrong_in self.now ≡ Found.GoesOn }
         ensures byte { result ≡ false → wrong_in self.now ≡ Found.Refused (self.now.seen - self.now.start) }
@@ -80,8 +80,8 @@ impl StreamBuffer {
         self.end <= self.seen
     }
 
-    /// The line and column in the stream of the first wrong byte of the current piece, which is no document. If the
-    /// stream ends within the piece, those of its last byte, with column 0 if that is a line end.
+    /// For a current piece that is no document: the line and column in the stream of its first wrong byte. If the
+    /// stream ends within the piece, those of its last byte, or column 0 of a new line after a line end.
     pub fn place_of_refusal(&self) -> LineColumn
         requires { IsSound self.now }
         ensures { (passed stream : List ℕ) → StandsBehind self.now passed → (wrong_in self.now ≡ Found.GoesOn → piece_of self.now ≡ stream) → ((more : List ℕ) × (stream ≡ left self.now ++ more)) → result ≡ place_of (wrong_in self.now) passed stream }
@@ -96,7 +96,7 @@ impl StreamBuffer {
         }
     }
 
-    /// The line and column after all bytes of the stream that were read so far.
+    /// The line and column just after all bytes of the stream that were read so far.
     pub fn place_behind_all(&self) -> LineColumn
         requires { self.now.start ≤ length self.now.bytes.items }
         ensures { (passed : List ℕ) → StandsBehind self.now passed → result ≡ place_behind (passed ++ left self.now) }
@@ -128,8 +128,8 @@ impl StreamBuffer {
         }
     }
 
-    /// Looks in the bytes that were read for the end of the next document, or for its first wrong byte, and returns
-    /// what the piece up to there is; None if more bytes have to be read to know.
+    /// Searches the bytes that were read for the end of the next document, or for its first wrong byte, and returns
+    /// what the bytes up to there are; None if more bytes have to be read to know.
     pub fn find_next_piece(&mut self) -> Option<Kind>
         requires { IsReady self.old }
         ensures sound { IsSound self.new }
@@ -179,8 +179,7 @@ impl StreamBuffer {
         }
     }
 
-    /// Forgets how far the stream's current piece was searched for its end, and begins the search anew, at the piece's
-    /// first byte.
+    /// Begins the search for the end of the stream's current piece anew, at the piece's first byte.
     pub fn begin_piece(&mut self)
         requires { self.old.start ≤ length self.old.bytes.items }
         ensures ready { IsReady self.new }
@@ -216,8 +215,8 @@ impl StreamBuffer {
         self.begin_piece_at(behind);
     }
 
-    /// Skips the bytes of the stream up to and with the first line end, or all that were read if there is none. Returns
-    /// whether the line was skipped to its end: there is a line end, or the stream has ended.
+    /// Skips the bytes of the stream up to and including the first line end, or all bytes that were read if they have
+    /// none. Returns whether the whole line was skipped: the line end was found, or the stream has ended.
     pub fn pass_line(&mut self) -> bool
         requires { IsReady self.old }
         ensures ready { IsReady self.new }

@@ -9,10 +9,9 @@ use serde_json::Value;
 use std::alloc::Global;
 use std::marker::Model;
 
-/// A compiled path that is stored and used for many documents. There are two types of it:
-/// [`Compiled`](crate::Compiled) owns the path text, [`PathCompiled`](crate::PathCompiled) borrows it, and clones of
-/// a `PathCompiled` share one compiled path. Beside `select`, `delete` and `replace_with` it has the methods of
-/// [`AnyPath`](crate::AnyPath).
+/// A compiled path, stored for use on many documents. It has two aliases: [`Compiled`](crate::Compiled) owns the path
+/// text; [`PathCompiled`](crate::PathCompiled) borrows it, and its clones share one compiled path. Besides `select`,
+/// `delete` and `replace_with` it has the methods of [`AnyPath`](crate::AnyPath).
 ///
 /// ```text
 /// let path: KeptPath<Node> = Compiled::compile(alloc, "$[1:]")?;
@@ -61,8 +60,8 @@ impl<P: AnyPath> KeptPath<P> {
         self.path.select(alloc, value)
     }
 
-    /// The document with null in place of each value below the root that this path selects and that lies in no other
-    /// selected one. The only error is `OutOfMemory`; the document is then dropped.
+    /// The document with each selected value below the root replaced by null, except those inside another such value.
+    /// The only error is `OutOfMemory`; the document is then dropped.
     ///
     /// ```text
     /// let document = read_document(alloc, b"[1, 2, 3]")?;
@@ -81,7 +80,7 @@ impl<P: AnyPath> KeptPath<P> {
 
     /// Calls the closure once for each selected location below the root, in document order, with the value that the
     /// earlier updates left there, and returns the document with the results: `Some` replaces the value, `None` removes
-    /// it. A location that no longer exists is skipped. The only error is `OutOfMemory`, before any call.
+    /// it. A location that no longer exists is skipped. The only error, before any call, is `OutOfMemory`.
     ///
     /// ```text
     /// let document = read_document(alloc, b"[1, 2, 3]")?;

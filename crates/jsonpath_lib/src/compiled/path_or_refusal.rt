@@ -1,5 +1,5 @@
-//! A path text compiled for many documents, whether it is a path or not: an error is stored and returned by each
-//! call.
+//! `CompiledPath`, the result of compiling a path text for many documents: the path, or an error that each call
+//! returns.
 ghost use Rattle.std.specs.Prelude.{◌≡◌, Ok, MatchResult, map, IfOk, IfErr};
 ghost use Rattle.serde_json.specs.View.{view};
 ghost use Rattle.jsonpath_select.specs.JsonPathErrors.{IsFaultError};
@@ -57,12 +57,11 @@ impl CompiledPath {
         }
     }
 
-    /// The values that the path selects in the document, in the path's order, with duplicates. They borrow the
-    /// document alone.
+    /// The values that the path selects in the document, in the path's order, with duplicates. They borrow the document
+    /// alone.
     ///
-    /// If the text was no path, each call returns `Path`, with the message of `Parser`; if memory ran out while the
-    /// text was compiled, each returns `OutOfMemory`. It is also `OutOfMemory` if memory runs out now, for the
-    /// values or for the message.
+    /// Errors: `Path`, with `Parser`'s message, if the text was no path; `OutOfMemory` if memory ran out when the text
+    /// was compiled, or runs out in this call.
     ///
     /// ```text
     /// let document = read_document(alloc, b"[1, 2, 3]")?;

@@ -23,7 +23,7 @@ use std::fmt;
 pub struct PathsFault {
     /// The index, from 0, of the first text of the list that is no path; `None` if memory ran out.
     pub index: Option<usize>,
-    /// The error of the first text that is no path, `Path` with a message, or `OutOfMemory`.
+    /// `Path`, with a message, for the first text that is no path; or `OutOfMemory`.
     pub fault: JsonPathError,
 }
 
@@ -46,7 +46,7 @@ impl fmt::Debug for PathsFault {
 
 impl Error for PathsFault {}
 
-/// Keeps the error of compiling the path text; the index of that text is lost.
+/// Converts to the field `fault`; the index is dropped.
 impl From<PathsFault> for JsonPathError {
     ghost from_gives = { λ refused error. error ≡ refused.fault };
 
@@ -69,8 +69,8 @@ pub(crate) fn write_paths_fault<W: fmt::Write>(
     }
 }
 
-/// Compiles each of the path texts, in order. The error has the index of the first text that is no path; if memory ran
-/// out, it has none.
+/// Compiles each of the path texts, in order. The error has the index of the first text that is no path, or `None` if
+/// memory ran out.
 ///
 /// ```text
 /// match compile_paths(alloc, &["$[0]", "$["]) {

@@ -8,8 +8,8 @@ use jsonpath_select::{AnyPath, JsonPathError, compile_path};
 use serde_json::Value;
 use std::alloc::Global;
 
-/// The document with null in place of each selected value below the root that lies in no other selected one. Errors:
-/// `Path` exactly if the text is no path, or `OutOfMemory`; the document is then dropped.
+/// The document with each selected value below the root replaced by null, except those inside another such value.
+/// Errors: `Path` exactly if the text is no path, or `OutOfMemory`; the document is then dropped.
 ///
 /// ```text
 /// let document = read_document(alloc, b"[1, 2.5]")?;

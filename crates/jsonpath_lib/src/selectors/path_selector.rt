@@ -12,7 +12,7 @@ use serde_json::Value;
 use std::alloc::Global;
 use std::marker::PhantomData;
 
-/// A borrowed document, in which one path text after another selects.
+/// A borrowed document in which values are selected by one path text after another.
 ///
 /// ```text
 /// let document = read_document(alloc, b"[1, 2, 3]")?;
@@ -57,7 +57,7 @@ impl<'a> PathSelector<'a> {
     }
 }
 
-/// A borrowed document in which one path text after another selects values, which are deserialized to a `T`.
+/// A borrowed document in which values are selected by one path text after another, and deserialized to a `T`.
 ///
 /// ```text
 /// let document = read_document(alloc, b"[[1], [2, 3]]")?;
@@ -70,7 +70,7 @@ pub struct PathSelectorAs<'a, T> {
     typed: PhantomData<T>,
 }
 
-/// A selector for this document that deserializes what path texts select to a `T`. It takes no memory.
+/// A selector for this document that deserializes each selected value to a `T`. It takes no memory.
 ///
 /// ```text
 /// let document = read_document(alloc, b"[1, 2, 3]")?;

@@ -23,18 +23,18 @@ use std::fmt;
 /// ```
 #[derive(Clone, Copy, Debug, Drop, PartialEq, Eq)]
 pub enum FaultKind {
-    /// A byte with which no document goes on. The error's position is that of this byte.
+    /// A byte is wrong: no document can continue with it. The error's position is that of this byte.
     WrongByte,
-    /// The stream ends within a document. The error is at its last byte, in column 0 if that is a line end.
+    /// The stream ends inside a document. The error's position is that of the stream's last byte; if this is a line
+    /// end, it is column 0 of the next line.
     CutShort,
     /// `serde_json` rejects the document, for example if a number is too large. The error's position is `serde_json`'s.
     Unread,
-    /// A read of the input failed. The error's position is that after all bytes that were read.
+    /// A read of the input failed. The error's position is just after the last byte that was read.
     ReadFailed,
     /// Memory ran out.
     OutOfMemory,
-    /// The stream has more bytes than 64 bits can count. The error's position is the end of the last document before
-    /// it.
+    /// The stream has more bytes than 64 bits can count. The position is just after the last returned document.
     TooLong,
 }
 
@@ -55,13 +55,13 @@ pub struct DocumentFault {
     pub kind: FaultKind,
     /// The line of the error in the whole stream, counted from 1.
     pub line: usize,
-    /// The column of the error: a byte of that line, counted from 1, as `serde_json` does; 0 after a line end.
+    /// The column of the error, in bytes from 1, as `serde_json` counts; 0 for a document cut short after a line end.
     pub column: usize,
-    /// `Serde`, with a message that ends with the error's line and column, as `serde_json`'s do, or `OutOfMemory`.
+    /// `Serde`, whose message ends with the line and column, as `serde_json`'s messages do; or `OutOfMemory`.
     pub error: JsonPathError,
 }
 
-/// Prints the text of the field `error`, which has the line and column.
+/// Prints the field `error`: a message with the line and column, or `out of memory`.
 impl fmt::Display for DocumentFault {
     ghost output = { λ fault. Some (error_text fault.error) };
 
@@ -81,7 +81,7 @@ impl fmt::Debug for DocumentFault {
 
 impl Error for DocumentFault {}
 
-/// Keeps the field `error`; line and column are then in its message alone.
+/// Converts to the field `error`; the line and column are then only in its message.
 impl From<DocumentFault> for JsonPathError {
     ghost from_gives = { λ fault error. error ≡ fault.error };
 

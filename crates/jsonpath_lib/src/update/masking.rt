@@ -11,10 +11,10 @@ use serde_json::Value;
 use std::alloc::Global;
 
 /// The document with null in place of each value below the root that any of the paths selects. All paths are applied to
-/// the original document, so their order does not matter; with no path at all it is returned as it is.
+/// the original document, so their order does not matter; without paths the document is returned unchanged.
 ///
-/// The paths are compiled in order before anything else. The error has the index of the first path that is outside the
-/// grammar, or, if memory ran out, none. The error also has the original document, unchanged.
+/// All paths are compiled first, in order. The error has the unchanged document, and the index of the first text that
+/// is no path, or no index if memory ran out.
 ///
 /// ```text
 /// let document = read_document(alloc, b"[1, [2, 3]]")?;

@@ -34,7 +34,7 @@ use std::fmt;
 pub struct MaskFault {
     /// The index, from 0, of the first path text that is no path; `None` for out of memory.
     pub index: Option<usize>,
-    /// The error of the first path text that is no path, `Path` with a message, or `OutOfMemory`.
+    /// `Path`, with a message, for the first text that is no path; or `OutOfMemory`.
     pub fault: JsonPathError,
     /// The document that was to be changed, as it was before the call.
     pub value: Value,
@@ -59,7 +59,7 @@ impl fmt::Debug for MaskFault {
 
 impl Error for MaskFault {}
 
-/// Keeps the error of compiling the path text; the index of that text is lost, and the document is dropped.
+/// Converts to the field `fault`; the index and the document are dropped.
 impl From<MaskFault> for JsonPathError {
     ghost from_gives = { λ refused error. error ≡ refused.fault };
 

@@ -1,4 +1,4 @@
-//! `Atom`, what a comparison sees of a value.
+//! `Atom`, what a comparison uses of a value.
 
 ghost use Rattle.std.specs.Prelude.{◌≡◌, option_map};
 ghost use Rattle.serde_json.specs.View.{view, number_view};

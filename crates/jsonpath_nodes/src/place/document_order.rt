@@ -77,7 +77,7 @@ fn clone_spots<'a>(alloc: Global, spots: &[Spot<'a>]) -> Result<Vec<Spot<'a>>, N
     Ok(same)
 }
 
-/// The indexes, from 0, of those nodes of a first list whose location is also that of a node of a second list. The only
+/// The indexes, from 0, of the nodes in `spots` whose location is also the location of a node in `others`. The only
 /// error is `NoMemory`.
 ///
 /// ```text
@@ -127,8 +127,8 @@ fn ordered_spots<'a>(
     Ok(placed)
 }
 
-/// A list of nodes without those that are at or below the last one kept before them. If the list is in document order,
-/// those kept are the nodes with no ancestor in it. The only error is `NoMemory`.
+/// Drops each node of a list that is at or below the last node kept before it. If the list is in document order, the
+/// nodes kept are those with no ancestor in it. The only error is `NoMemory`.
 ///
 /// ```text
 /// let below = Spot::root(alloc, &document).below(alloc)?;

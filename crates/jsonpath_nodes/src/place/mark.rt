@@ -18,11 +18,11 @@ use crate::step::{candidates, children, descend};
 use serde_json::Value;
 use std::alloc::Global;
 
-/// Trait for a selected node: either `&Value` (no location) or `Spot` (value with location), so that evaluation code
-/// is written once.
+/// Trait for a selected node: either `&Value` (no location) or `Spot` (value with location), so that evaluation code is
+/// written once.
 ///
-/// The clauses of one contract hold for both types: a list of `Mark`s is at some locations of a document if each has
-/// the value there, and a `Spot` also has that location. The only error of each call is `NoMemory`.
+/// The same contracts hold for both types: in them, a list of `Mark`s is at a list of locations if each `Mark` has the
+/// value at its location and, if it is a `Spot`, this location. The only error of each call is `NoMemory`.
 ///
 /// ```text
 /// let mut found = Vec::new(alloc);
@@ -41,7 +41,7 @@ pub trait Mark<'a>: Drop + Sized {
     fn value(&self) -> &'a Value
         ensures { view result.now ≡ content self.now };
 
-    /// Adds to a list the children that a step selects.
+    /// Appends the children that a step selects.
     fn add_selected_children(
         &self,
         alloc: Global,
@@ -50,7 +50,7 @@ pub trait Mark<'a>: Drop + Sized {
     ) -> Result<(), NoMemory>
         ensures { OnOk result (MarksGain located stand content (single_steps (plain_step_of plain.now)) (stand self.now) (content self.now) out.old.items out.new.items) };
 
-    /// Adds to a list the member of this name, if the node is an object that has one. The name is taken literally.
+    /// Appends the member of this name, if the node is an object that has one. The name is taken literally.
     fn add_named_member(
         &self,
         alloc: Global,
@@ -59,7 +59,7 @@ pub trait Mark<'a>: Drop + Sized {
     ) -> Result<(), NoMemory>
         ensures { OnOk result (MarksGain located stand content (single_steps (named name.now)) (stand self.now) (content self.now) out.old.items out.new.items) };
 
-    /// Adds what a step selects in the value and in all its descendants, each before its children.
+    /// Appends what a step selects in the value and in all its descendants, each of which comes before its children.
     fn add_selected_at_or_below(
         &self,
         alloc: Global,
@@ -68,13 +68,13 @@ pub trait Mark<'a>: Drop + Sized {
     ) -> Result<(), NoMemory>
         ensures { OnOk result (MarksGain located stand content (deep (plain_step_of plain.now)) (stand self.now) (content self.now) out.old.items out.new.items) };
 
-    /// Adds the non-array values left after flattening nested arrays: the value itself, if it is no array.
+    /// Appends the non-array values left after flattening nested arrays: the value itself, if it is no array.
     fn add_flattened(&self, alloc: Global, out: &mut Vec<Self>) -> Result<(), NoMemory>
         ensures { OnOk result (MarksGain located stand content flat (stand self.now) (content self.now) out.old.items out.new.items) };
 
-    /// Adds the candidates of a filter after `..` that uses a relative query with at least one segment: the non-array
-    /// values left after flattening nested arrays among the descendants, each once. Its contract also says that the
-    /// names ascend in each object there, which is so for every value.
+    /// Appends the candidates of a filter after `..` that uses a relative query with at least one segment: the
+    /// non-array values left after flattening nested arrays among the descendants, each once. The contract also says
+    /// that the names ascend in each object at or below the value, which is so for every value.
     fn add_candidates_below(&self, alloc: Global, out: &mut Vec<Self>) -> Result<(), NoMemory>
         ensures gains { OnOk result (MarksGain located stand content candidates_below (stand self.now) (content self.now) out.old.items out.new.items) }
         ensures document { OnOk result (IsDocument (content self.now)) };

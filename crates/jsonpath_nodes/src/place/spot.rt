@@ -53,8 +53,8 @@ pub struct Spot<'a> {
     pub(crate) trail: Trail<'a>,
 }
 
-/// The steps from the root to a node. It takes no memory. A `for` goes through them from the root down, and
-/// `split_last` from the last step up.
+/// The steps from the root to a node. A `for` loop goes through them from the root down, and `split_last` takes off the
+/// last one. The type borrows from the node and takes no memory.
 ///
 /// ```text
 /// let below = root.below(alloc)?;
@@ -112,7 +112,7 @@ impl<'a> Spot<'a> {
         }
     }
 
-    /// The location of the node, as a `Location` of its own. The only error is `NoMemory`.
+    /// The location of the node, copied into a `Location`. The only error is `NoMemory`.
     ///
     /// ```text
     /// let document = read_document(alloc, br#"{"store": {"book": [{"price": 1995}]}}"#)?;
@@ -194,7 +194,7 @@ impl<'a> Spot<'a> {
     }
 }
 
-/// A clone of a node has the same value and location. It fails only if the location is shared too often to be counted.
+/// A clone of a node has the same value and location. It fails only if too many nodes to count share the location.
 impl<'a> Clone for Spot<'a> {
     ghost is_clone = { λ spot copy. sight_of copy ≡ sight_of spot };
 

@@ -28,8 +28,8 @@ pub(crate) fn item_of_value<'a>(value: &'a Value, index: usize) -> Option<&'a Va
     }
 }
 
-/// Converts an index of a path to one from the front of an array of `len` items. An index below zero counts from the
-/// end, and gives 0 if it is before the first item; one past the end gives `len`.
+/// Converts an index of a path to one from the front of an array of `len` items. A negative index counts from the end,
+/// and gives 0 if it is before the first item; an index past the end gives `len`.
 ///
 /// ```text
 /// assert_eq!(rt; abs_index(-1, 3), 2);

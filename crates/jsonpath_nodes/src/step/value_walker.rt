@@ -1,7 +1,6 @@
-//! The steps of a path on lists of nodes. The names are the Rust crate's, or follow its own: `next_` leads to
-//! children, `all` to those of a node and all its descendants (but for `all_with_strs`), and so does `below_`; `str`
-//! is a name, `num` an index. `below` gives the nodes with all their descendants; `walk_dedup_all` and
-//! `candidates_below` give candidates of filters.
+//! The steps of a path on lists of nodes. The names are the Rust crate's, or made like these: `next_` selects children,
+//! `all` children of the nodes and of all their descendants (but for `all_with_strs`); `str` is a name, `num` an index.
+//! `below` returns the nodes with all their descendants, `walk_dedup_all` and `candidates_below` candidates of filters.
 
 ghost use Rattle.std.specs.Prelude.{map, IfOk};
 ghost use Rattle.jsonpath_nodes.specs.place.SpotPlace.{LeadsBy};
@@ -80,8 +79,8 @@ impl ValueWalker {
         plain_step_from_each(alloc, spots, &PlainStep::Listed(names))
     }
 
-    /// An index as a path writes it: the item there of each array among the nodes that has one. Below zero it counts
-    /// from the end; an index from the end that lies before the first item means the first.
+    /// An index: from each node that is an array the item at this index, if there is one. A negative index counts from
+    /// the end; one before the first item selects the first item.
     ///
     /// ```text
     /// let last = ValueWalker::next_with_num(alloc, items.as_slice(), -1)?;
@@ -194,9 +193,9 @@ impl ValueWalker {
         Ok(found)
     }
 
-    /// The candidates of a filter that uses a relative query with at least one segment: each of the given nodes that
-    /// is no array, and of each given array the non-array values left after flattening nested arrays. Each location
-    /// is returned once, where it comes first. Named as in the Rust crate `jsonpath_lib`.
+    /// The candidates of a filter that uses a relative query with at least one segment: each of the given nodes that is
+    /// no array, and of each given array the non-array values left after flattening nested arrays. Each location is
+    /// returned once, at its first occurrence. Named as in the Rust crate `jsonpath_lib`.
     ///
     /// ```text
     /// let candidates = ValueWalker::walk_dedup_all(alloc, &root)?;
@@ -213,9 +212,9 @@ impl ValueWalker {
         Ok(kept)
     }
 
-    /// The candidates of a filter after `..` that uses a relative query with at least one segment: the non-array
-    /// values left after flattening nested arrays, from the descendants of each node. Each location is returned
-    /// once, where it comes first.
+    /// The candidates of a filter after `..` that uses a relative query with at least one segment: the non-array values
+    /// left after flattening nested arrays, from the descendants of each node. Each location is returned once, at its
+    /// first occurrence.
     ///
     /// ```text
     /// let candidates = ValueWalker::candidates_below(alloc, &root)?;

@@ -33,8 +33,8 @@ pub fn replace_at<F: FnMut(Value) -> Option<Value>>(
     }
 }
 
-/// Puts null at each location of a list that is below the root and has no ancestor in the list. The root and locations
-/// that don't exist are skipped. The locations may come in any order and repeat.
+/// Puts null at each location of a list. The root is skipped, and so are locations that don't exist or that are below
+/// another one of the list (other than the root). The locations may come in any order and repeat.
 ///
 /// ```text
 /// let mut document = read_document(alloc, b"[1, [2, 3]]")?;

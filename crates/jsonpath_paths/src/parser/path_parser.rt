@@ -25,8 +25,7 @@ use crate::tree::token_list::token_list;
 use std::alloc::{AllocError, Global};
 use std::marker::Model;
 
-/// A compiled path: a path text, the one syntax tree that it parses to, and the token list of that tree, which is
-/// made once.
+/// A compiled path: a path text, its syntax tree, and the token list of that tree.
 ///
 /// ```text
 /// let path = PathParser::compile(alloc, "$.store['book'][0]")?;
@@ -74,9 +73,9 @@ fn error_at_refused_token_or_character(
 }
 
 impl<'a> PathParser<'a> {
-    /// Parses a path text: Ok for exactly the texts of the grammar, unless memory runs out. A syntax error names the
-    /// first token such that no path begins with the tokens up to it, or the first character that begins no token:
-    /// `Eof` if that ends the text or the text ends too early, else `Position` with the byte at which it ends.
+    /// Parses a path text: `Ok` for exactly the texts of the grammar, unless memory runs out. A syntax error is at the
+    /// first token with which no path can continue, or at the first character that begins no token: `Position` with the
+    /// byte position after it, or `Eof` if it ends the text, or if the text ends too early.
     ///
     /// ```text
     /// let refused = PathParser::compile(alloc, "$.a[b]").err();
@@ -111,9 +110,9 @@ impl<'a> PathParser<'a> {
         }
     }
 
-    /// Passes the tokens of this path's syntax tree, in order, to `handler`, until that has failed, with a function
-    /// that returns the part of the path text at a span. It is `Ok` also if the handler failed. Nothing is parsed;
-    /// named as in the Rust crate `jsonpath_lib`.
+    /// Passes the tokens of this path's syntax tree to `handler`, in order, each with a function that returns the part
+    /// of the path text at a span. Always returns `Ok`, even if the handler has failed. Nothing is parsed: the name is
+    /// that of the Rust crate `jsonpath_lib`.
     ///
     /// ```text
     /// let path = PathParser::compile(alloc, "$..a")?;

@@ -137,8 +137,7 @@ impl<'a> StrReader<'a> {
         }
     }
 
-    /// Takes the longest run of characters for each of which `fun` is true, possibly none, and returns its span. It
-    /// is always `Ok`.
+    /// Takes characters as long as `fun` is true for them, possibly none, and returns their span. Always returns `Ok`.
     ///
     /// ```text
     /// let mut reader = StrReader::new("ab.c");
@@ -229,8 +228,8 @@ impl<'a> StrReader<'a> {
         self.text
     }
 
-    /// The part of the whole text at the span, which lies in it and cuts no character. The reader's position stays.
-    /// Named as in the Rust crate `jsonpath_lib`.
+    /// The part of the whole text at the span, which must be in the text and cut no character. The reader's position
+    /// stays. Named as in the Rust crate `jsonpath_lib`.
     ///
     /// ```text
     /// let mut reader = StrReader::new("ab.c");

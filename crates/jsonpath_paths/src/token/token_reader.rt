@@ -55,7 +55,7 @@ impl<'a> TokenReader<'a> {
     }
 
     /// Returns the next token without taking it; `next_token` then returns the same. If no token begins at the reader's
-    /// position, the error is that of `next_token`, and no character counts as looked at.
+    /// position, returns the error of `next_token`, and the position for `to_error` is then the reader's.
     ///
     /// ```text
     /// let mut reader = TokenReader::new("==1");
@@ -74,9 +74,9 @@ impl<'a> TokenReader<'a> {
         found
     }
 
-    /// Takes the next token. If no token begins at the reader's position, that stays, and each later call returns the
-    /// same error: `Eof` at the end of the text, in a quoted text that is not closed, or if a single character is left,
-    /// else `Position` with the character's first byte.
+    /// Takes the next token. If no token begins at the reader's position, this and each later call return the same
+    /// error, and the position stays: `Eof` at the end of the text, in a quoted text that is not closed, or if a single
+    /// character is left; else `Position` with the reader's position.
     ///
     /// ```text
     /// let mut reader = TokenReader::new("@ ");
@@ -95,8 +95,8 @@ impl<'a> TokenReader<'a> {
         found
     }
 
-    /// The syntax error for the position up to which the text was read or looked at: `Eof` if that is the text's end,
-    /// else `Position` with it.
+    /// The syntax error at the position up to which the text was read or looked at: `Eof` if this is the end of the
+    /// text, else `Position` with this position.
     ///
     /// ```text
     /// let mut reader = TokenReader::new("$[a]");
@@ -113,8 +113,8 @@ impl<'a> TokenReader<'a> {
         }
     }
 
-    /// The part of the path text at the span, which lies in it and cuts no character. No token is taken. Named as in
-    /// the Rust crate `jsonpath_lib`.
+    /// The part of the path text at the span, which must be in the text and cut no character. No token is taken. Named
+    /// as in the Rust crate `jsonpath_lib`.
     ///
     /// ```text
     /// let mut reader = TokenReader::new("store.book");

@@ -366,9 +366,9 @@ impl<'a> Tokenizer<'a> {
         self.reader.copy_of_place().peek_char().is_err()
     }
 
-    /// Takes the next token. If no token begins at the tokenizer's position, that stays, and each later call returns
-    /// the same error: `Eof` at the end of the text, in a quoted text that is not closed, or if a single character is
-    /// left, else `Position` with the character's first byte.
+    /// Takes the next token. If no token begins at the tokenizer's position, this and each later call return the same
+    /// error, and the position stays: `Eof` at the end of the text, in a quoted text that is not closed, or if a single
+    /// character is left; else `Position` with the tokenizer's position.
     ///
     /// ```text
     /// let mut tokenizer = Tokenizer::new("=1");

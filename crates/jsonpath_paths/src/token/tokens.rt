@@ -12,8 +12,8 @@ use std::alloc::AllocError;
 use std::error::Error;
 use std::fmt;
 
-/// The error of reading a path text: a syntax error with its position, the end of the text, or out of memory.
-/// `Display` prints `Eof`, `Position:` with the byte position after the error, or `out of memory`.
+/// The error of reading a path text: a syntax error with its position, the end of the text, or out of memory. `Display`
+/// prints `Eof`, `Position:` with the byte position, or `out of memory`.
 ///
 /// ```text
 /// let error = PathParser::compile(alloc, "$[a]")
@@ -26,9 +26,9 @@ use std::fmt;
 pub enum TokenError {
     /// The path text ends too early, or the error is at its very end.
     Eof,
-    /// A byte position in the text, at most its length: from `Tokenizer` that where the wrong character begins, from
-    /// `PathParser` that where the wrong token or character ends, from `TokenReader::to_error` that up to which the
-    /// text was read or looked at.
+    /// A byte position in the text, at most its length. From `Tokenizer` it is where the wrong character begins; from
+    /// `PathParser`, where the wrong token or character ends; from `TokenReader::to_error`, where the text that was
+    /// read or looked at ends.
     Position(usize),
     /// Memory ran out.
     OutOfMemory,
@@ -342,7 +342,7 @@ pub enum ParseToken {
     /// Begins a step after a single dot: it selects among the children of each node.
     In,
     /// Begins a step after `..`: it selects among the children of each node that the steps before selected, and among
-    /// those of all its descendants.
+    /// the children of all descendants of these nodes.
     Leaves,
     /// `*`: the step selects all children.
     All,
@@ -364,6 +364,6 @@ pub enum ParseToken {
     Number(Decimal),
     /// A boolean that is a side of a comparison.
     Bool(bool),
-    /// Never occurs in a compiled path; it is there as in the Rust crate.
+    /// Never occurs in a compiled path; it is here because the Rust crate `jsonpath_lib` has it.
     Eof,
 }

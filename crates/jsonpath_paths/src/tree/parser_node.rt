@@ -66,11 +66,11 @@ pub enum Inner {
 #[cycle(tree)]
 #[derive(Drop)]
 pub enum Condition {
-    /// A path alone, as in `[?(@.a)]`: it has to select something.
+    /// A path alone, as in `[?(@.a)]`: the condition holds if the path selects something.
     Lone(ParserNode),
     /// A comparison: the left side, the operator and the right side.
     Compare(Term, FilterToken, Term),
-    /// Two conditions joined by a connective; one without parentheses groups to the right.
+    /// Two conditions joined by a connective. Without parentheses, connectives group to the right.
     Join(FilterToken, Box<Condition>, Box<Condition>),
 }
 

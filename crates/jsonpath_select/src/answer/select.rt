@@ -41,12 +41,12 @@ pub fn select_path<'a>(
     spots_by_parts(alloc, json, path.parts())
 }
 
-/// The nodes that the path with this token list selects in the value, in the path's order, with duplicates. They
-/// borrow only the value. The only error is `OutOfMemory`.
+/// The nodes that the path with this token list selects in the value, in the path's order, with duplicates. They borrow
+/// only the value. The only error is `OutOfMemory`.
 ///
-/// The contract requires that the tokens are the token list of some path, however deeply nested, and that the text
-/// has an unquoted or a quoted name at the span of each name in them; if `tokens_fit` returned true, that is proved.
-/// The text itself need not be a path.
+/// Precondition: the tokens are the token list of some path, however deeply nested, and the text has an unquoted or a
+/// quoted name at the span of each name in them. If `tokens_fit` returned true, this is proved. The text itself need
+/// not be a path.
 ///
 /// ```text
 /// let document = read_document(alloc, br#"{"a": 1}"#)?;
@@ -78,9 +78,9 @@ pub fn select_tokens<'a>(
     }
 }
 
-/// The nodes that the path selects in the value, as a set: those of `select_path`, in any order, possibly without
-/// duplicates. The time is at most the path's length times the document's size times its depth (its depth squared, if a
-/// condition has `..`), even if several `..` reach a node in many ways. The only error is `OutOfMemory`.
+/// The nodes that the path selects in the value: the same set as that of `select_path`, in any order, with or without
+/// duplicates. The time is at most the path's length times the document's size times the document's depth (the depth
+/// squared, if a condition has `..`), even if several `..` reach a node in many ways. The only error is `OutOfMemory`.
 ///
 /// ```text
 /// let document = read_document(alloc, b"[[[1]]]")?;

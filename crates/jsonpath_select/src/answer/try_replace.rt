@@ -13,7 +13,7 @@ use std::alloc::Global;
 use std::error::Error;
 use std::fmt;
 
-/// The error of updating a document by a closure that may return an error: the closure's or the library's.
+/// The error of an update by a closure that may return an error: the closure's error, or one of the library.
 ///
 /// ```text
 /// let refuse = &mut |_old: &Value| Err::<Option<Value>, u8>(7);
@@ -24,13 +24,13 @@ use std::fmt;
 /// ```
 #[derive(Drop)]
 pub enum TryFault<E> {
-    /// An error of the library, which came before the closure was first called. The document is unchanged.
+    /// An error of the library. The closure was not called, and the document is unchanged.
     Unasked(JsonPathError),
     /// The first error that the closure returned, which ended the updates. The updates before it remain.
     Refused(E),
 }
 
-/// Prints the error that it contains: the library's, before the first call of the closure, or the closure's.
+/// Prints the error that it contains, the library's or the closure's.
 impl<E: fmt::Display> fmt::Display for TryFault<E> {
     ghost output = { try_fault_text E.output };
 
@@ -52,7 +52,7 @@ impl<E: fmt::Display> fmt::Debug for TryFault<E> {
 
 impl<E: Error> Error for TryFault<E> {}
 
-/// Becomes the error that it contains, the library's or the closure's; which of them it was is lost.
+/// Converts to the error that it contains; whether that was the library's or the closure's is lost.
 impl From<TryFault<JsonPathError>> for JsonPathError {
     ghost from_gives = { λ fault error. error ≡ error_behind fault };
 

@@ -1,5 +1,5 @@
-//! What is kept of the right-hand values of a comparison, so that left-hand ones are decided without a look at each
-//! pair.
+//! What is stored of the right-hand values of a comparison, so that each left-hand one is decided without comparing
+//! every pair.
 
 ghost use Rattle.std.specs.Prelude.{◌≡◌, IfOk, map};
 ghost use Rattle.std.specs.List.{list_any};

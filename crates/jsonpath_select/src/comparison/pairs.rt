@@ -1,4 +1,4 @@
-//! Whether some pair of what a comparison sees of two sides satisfies it.
+//! Whether some left and some right atom satisfy a comparison.
 
 ghost use Rattle.std.specs.Prelude.{◌≡◌, map, IfOk};
 ghost use Rattle.std.specs.List.{list_any};

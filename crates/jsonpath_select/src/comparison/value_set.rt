@@ -1,4 +1,4 @@
-//! Which values there are, kind by kind, to look one up.
+//! A set of values, kind by kind, in which one is looked up.
 
 ghost use Rattle.std.specs.Prelude.{◌≡◌, ◌||◌, IfOk, OnOk, map};
 ghost use Rattle.jsonpath_paths.specs.declared.token.tokens.FilterToken.TheVariants.{Equal};

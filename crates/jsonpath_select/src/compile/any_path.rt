@@ -162,8 +162,8 @@ pub trait AnyPath {
         list_to_typed(alloc, found.as_slice())
     }
 
-    /// The number of values that the path selects in the document, duplicates included. The call builds their list and
-    /// counts it. The only error is `OutOfMemory`.
+    /// The number of values that the path selects in the document, duplicates included. The call builds the list of
+    /// these values and returns its length. The only error is `OutOfMemory`.
     ///
     /// ```text
     /// let document = read_document(alloc, b"[1, 2, 3]")?;
@@ -208,8 +208,8 @@ pub trait AnyPath {
         exists_by_parts(alloc, value, self.parts())
     }
 
-    /// Replaces by null each selected value below the root that lies in no other selected one. All else stays as it
-    /// is. The only error is `OutOfMemory`, and then the document is unchanged.
+    /// Replaces each selected value below the root by null, except those inside another such value. All else stays as
+    /// it is. The only error is `OutOfMemory`, and then the document is unchanged.
     ///
     /// ```text
     /// let mut document = read_document(alloc, b"[1, [2, 3]]")?;
@@ -246,8 +246,8 @@ pub trait AnyPath {
         Ok(())
     }
 
-    /// Replaces by a copy of `new` each selected value below the root that lies in no other selected one, all at
-    /// once. All else stays as it is. The only error is `OutOfMemory`, and then the document is unchanged.
+    /// Replaces each selected value below the root by a copy of `new`, all at once, except those inside another such
+    /// value. All else stays as it is. The only error is `OutOfMemory`, and then the document is unchanged.
     ///
     /// ```text
     /// let mut document = read_document(alloc, b"[1, [2, 3]]")?;
@@ -296,7 +296,7 @@ pub trait AnyPath {
     /// Calls the closure once for each selected location, in document order, with a reference to the value that the
     /// earlier updates left there: `Some` replaces the value, `None` removes it. A location that no longer exists is
     /// skipped, and so is the root. The closure's first error ends the updates, as `Refused`; the updates before it
-    /// remain. The only other error is `Unasked`, with `OutOfMemory`.
+    /// remain. The only other error, before any call, is `Unasked` with `OutOfMemory`.
     ///
     /// ```text
     /// let mut document = read_document(alloc, b"[1, \"x\", 3]")?;

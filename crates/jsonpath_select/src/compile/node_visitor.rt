@@ -58,7 +58,7 @@ pub trait NodeVisitor {
         ensures stays_failed { has_failed self.old ≡ true → has_failed self.new ≡ true }
         ensures given { has_failed self.new ≡ false → tokens self.new ≡ tokens self.old ++ token.now ∷ [] };
 
-    /// Called after the tokens of one side of a comparison. It receives no token and does not fail.
+    /// Called after the tokens of one side of a comparison. It changes neither `tokens` nor `failed`.
     fn end_term(&mut self)
         ensures failed { has_failed self.new ≡ has_failed self.old }
         ensures tokens { tokens self.new ≡ tokens self.old }
@@ -68,7 +68,7 @@ pub trait NodeVisitor {
     fn failed(&self) -> bool
         ensures { result ≡ has_failed self.now };
 
-    /// Passes the token list of the compiled path `node` to this receiver, token by token, until it has failed.
+    /// Passes the token list of the compiled path `node` to this receiver, token by token, even after it has failed.
     final fn visit(&mut self, node: &Node)
         ensures stays_failed { has_failed self.old ≡ true → has_failed self.new ≡ true }
         ensures given { has_failed self.new ≡ false → (p : Path) → Spells node.now p → tokens self.new ≡ tokens self.old ++ path_tokens p }

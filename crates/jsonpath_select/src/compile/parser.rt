@@ -21,16 +21,16 @@ use std::fmt;
 /// ```
 #[derive(Drop)]
 pub enum ParseFault {
-    /// The text that was to be compiled is no path. The message is that text, a line end and a row of `^` that ends
-    /// below the last byte of the wrong token, or below the last byte of the text if that ends too early.
+    /// The text that was to be compiled is no path. The message is the text, a line end and a row of `^` that ends
+    /// below the last byte of the wrong token, or below the last byte of the text if the text ends too early.
     Text(String),
     /// Memory ran out. It prints `out of memory`.
     OutOfMemory,
 }
 
 impl ParseFault {
-    /// The byte position of the syntax error, below which the message's row of `^` ends: after the wrong token or
-    /// character, or after the text's last byte if the text ends too early. `None` for out of memory.
+    /// The byte position of the syntax error: just after the wrong token or character, or the text's length if the text
+    /// ends too early. The message's row of `^` has this length. `None` for `OutOfMemory`.
     ///
     /// ```text
     /// match Parser::compile(alloc, "$.a[b]") {

@@ -1,5 +1,5 @@
-//! Whether a list of tokens is that of a path, found in one pass over it with a stack of what is open or complete so
-//! far; and whether a text has names at its spans.
+//! Whether a list of tokens is the token list of a path, found in one pass over it with a stack of what is open or
+//! complete so far; and whether a text has names at its spans.
 
 ghost use Rattle.std.specs.Prelude.{◌≡◌, ◌↔◌, IsTrue, Some, IfOk, IfErr};
 ghost use Rattle.std.specs.List.{list_all};

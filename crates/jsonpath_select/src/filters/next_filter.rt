@@ -1,4 +1,4 @@
-//! The filters of a path, one after the other: what leads to the next one, and where its condition ends.
+//! The filters of a path, one after the other: the steps before the next one, and where its condition ends.
 
 ghost use Rattle.std.specs.Prelude.{◌≡◌, ◌≤◌, map, drop, length, IfNone, IfSome, IsTrue};
 ghost use Rattle.std.specs.List.{list_all};

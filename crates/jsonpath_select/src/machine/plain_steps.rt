@@ -1,5 +1,5 @@
-//! Plain steps, one after the other: what they select, how those nodes lie to each other, and the filter after them,
-//! all its candidates at once.
+//! Plain steps, one after the other: what they select, how the selected locations are related, and the filter after the
+//! steps, for all its candidates at once.
 
 ghost use Rattle.std.specs.Prelude.{◌≡◌, List, [], ◌∷◌, false, true, IfOk, IfErr, IfSome, IsTrue};
 ghost use Rattle.std.specs.List.{list_all};

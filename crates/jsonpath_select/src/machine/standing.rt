@@ -1,5 +1,5 @@
-//! How the nodes of a list lie to each other, step after step: whether a filter after the steps may find a candidate
-//! twice.
+//! How the locations of a list of nodes are related, step after step: whether a filter after the steps may find a
+//! candidate twice.
 
 ghost use Rattle.std.specs.Prelude.{◌≡◌, ◌<◌, Bool, List, false, filter, length, true, IfOk, IsTrue};
 ghost use Rattle.serde_json.specs.Data.{Data};

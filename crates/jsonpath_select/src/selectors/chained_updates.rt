@@ -13,8 +13,8 @@ use serde_json::Value;
 use std::alloc::Global;
 
 impl<P: AnyPath> HeldPair<P, Value> {
-    /// Replaces by null, in the selector's document, each value below the root that its path selects and that lies in
-    /// no other selected one. All else stays as it is.
+    /// Replaces each selected value below the root of the selector's document by null, except those inside another such
+    /// value. All else stays as it is.
     ///
     /// Errors: `EmptyPath` exactly if there is no path, `EmptyValue` exactly if there is a path and no document, else
     /// `OutOfMemory` alone; nothing has changed then.
@@ -62,7 +62,7 @@ impl<P: AnyPath> HeldPair<P, Value> {
         }
     }
 
-    /// Replaces by a copy of `new` each selected value below the root that lies in no other selected one. Errors:
+    /// Replaces each selected value below the root by a copy of `new`, except those inside another such value. Errors:
     /// `EmptyPath` (no path), `EmptyValue` (a path, no document), else `OutOfMemory`; nothing has changed then.
     ///
     /// ```text
@@ -86,8 +86,8 @@ impl<P: AnyPath> HeldPair<P, Value> {
     }
 
     /// Calls the closure once for each selected location below the root, in document order, with the value that earlier
-    /// updates left there, unless it is gone: `Some` replaces the value, `None` removes it. Errors, before any call:
-    /// `EmptyPath` if there is no path, else `EmptyValue` if there is no document, else `OutOfMemory`.
+    /// updates left there: `Some` replaces the value, `None` removes it. A location that no longer exists is skipped.
+    /// Errors, before any call: `EmptyPath` without a path, else `EmptyValue` without a document, else `OutOfMemory`.
     ///
     /// ```text
     /// let mut held = SelectorMut::new();

@@ -24,7 +24,7 @@ pub trait HeldValue {
     // The value.
     ghost held: { Self → Value };
 
-    /// Borrows the value that a selector stores, be it owned or itself borrowed.
+    /// Borrows the value that a selector stores, whether the selector owns or borrows it.
     ///
     /// ```text
     /// let document = read_document(alloc, b"7")?;
@@ -50,9 +50,9 @@ impl<'a> HeldValue for &'a Value {
     }
 }
 
-/// A path, or none, and a value, or none, each the one set last. [`JsonSelector`](crate::JsonSelector) and
-/// [`Selector`](crate::Selector) are such pairs, which borrow the value, and so are
-/// [`JsonSelectorMut`](crate::JsonSelectorMut) and [`SelectorMut`](crate::SelectorMut), which own it and change it.
+/// A selector: an optional path and an optional value, each the one that was set last.
+/// [`JsonSelector`](crate::JsonSelector) and [`Selector`](crate::Selector) borrow the value;
+/// [`JsonSelectorMut`](crate::JsonSelectorMut) and [`SelectorMut`](crate::SelectorMut) own it and change it.
 ///
 /// ```text
 /// let mut held: HeldPair<Node, Value> = HeldPair::default();

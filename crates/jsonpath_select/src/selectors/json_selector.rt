@@ -1,4 +1,4 @@
-//! By a `PathParser`, a path that borrows its text, which the selector owns or shares.
+//! Selectors by a `PathParser`, a compiled path that borrows its text; the selector owns or shares the path.
 ghost use Rattle.std.specs.Prelude.{◌≡◌, Some, None, IfOk, IfErr, OnOk, OnErr};
 ghost use Rattle.std.specs.Borrow.{sem};
 ghost use Rattle.jsonpath_select.specs.selectors.PairLends.{json_pair_lends};
@@ -10,8 +10,8 @@ use serde_json::Value;
 use std::alloc::Global;
 use std::rc::Rc;
 
-/// Selects in a borrowed value by a compiled path. It has a path or none and a value or none, each the one set last.
-/// A select call changes neither, whether it succeeds or not, and stores no answer.
+/// A selector with a compiled path and a borrowed value to search. Both are optional; each is the one that was set
+/// last. A select call changes neither, whether it succeeds or not, and stores no answer.
 ///
 /// ```text
 /// let document = read_document(alloc, b"[1, 2, 3]")?;
@@ -21,8 +21,9 @@ use std::rc::Rc;
 /// ```
 pub type JsonSelector<'a> = HeldPair<Rc<PathParser<'a>>, &'a Value>;
 
-/// Changes an owned document by a `PathParser`, which borrows its text and may be shared. It has a path or none and
-/// a document or none, each the one set last. An update changes the document alone; one that fails changes nothing.
+/// Changes its own document at what a `PathParser` selects; this path borrows its text and may be shared. Path and
+/// document are optional; each is the one set last. An update changes the document alone, and leaves it unchanged on
+/// any error but the closure's own.
 ///
 /// ```text
 /// let document = read_document(alloc, b"[1, 2, 3]")?;

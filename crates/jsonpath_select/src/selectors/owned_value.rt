@@ -28,7 +28,7 @@ impl<P: AnyPath> HeldPair<P, Value> {
         self
     }
 
-    /// Moves the document out of the selector, with all changes made so far; it then has none. It takes no memory.
+    /// Moves the document, with all changes made so far, out of the selector, which then has none. It takes no memory.
     ///
     /// ```text
     /// let mut held = SelectorMut::default();

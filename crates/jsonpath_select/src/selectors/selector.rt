@@ -1,4 +1,4 @@
-//! By a path text or a `Node`, a compiled path that owns its text.
+//! Selectors by a path text or a `Node`, a compiled path that owns its text.
 ghost use Rattle.std.specs.Prelude.{◌≡◌, Some, None, option_map, IfOk, IfErr, OnOk, OnErr};
 ghost use Rattle.std.specs.Borrow.{sem};
 ghost use Rattle.jsonpath_paths.specs.Spelling.{IsInGrammar};
@@ -13,9 +13,9 @@ use crate::selectors::walked_path::{OfNode, WalkedPath};
 use serde_json::Value;
 use std::alloc::Global;
 
-/// Selects in a borrowed value by a path text or a `Node`, a compiled path that owns its text. It has a path or none
-/// and a value or none, each the one set last, by whichever call. A select call changes neither, whether it succeeds
-/// or not, and stores no answer.
+/// A selector with a compiled path, set as a path text or a `Node`, and a borrowed value to search. Both are optional;
+/// each is the one that was set last, by whichever call. A select call changes neither, whether it succeeds or not, and
+/// stores no answer.
 ///
 /// ```text
 /// let document = read_document(alloc, b"[1, 2, 3]")?;
@@ -27,8 +27,8 @@ use std::alloc::Global;
 /// ```
 pub type Selector<'a, 'b> = HeldPair<WalkedPath<'b>, &'a Value>;
 
-/// Changes an owned document at what a path selects. It has a path or none and a document or none, each the one set
-/// last, by whichever call. An update changes the document alone; one that fails changes nothing.
+/// Changes its own document at what a path selects. Path and document are optional; each is the one set last, by
+/// whichever call. An update changes the document alone, and leaves it unchanged on any error but the closure's own.
 ///
 /// ```text
 /// let document = read_document(alloc, b"[1, 2, 3]")?;

@@ -1,4 +1,4 @@
-//! Updates of the document of an update type, as statements: each returns whether it was made.
+//! Updates of the document of an update type, as statements: each returns `Ok(())` or an error.
 ghost use Rattle.std.specs.Prelude.{◌≡◌, Ok, IfErr, OnOk, OnErr};
 ghost use Rattle.serde_json.specs.View.{view};
 ghost use Rattle.jsonpath_select.specs.selectors.Held.{document, IsSelectRefused};
@@ -12,7 +12,7 @@ use serde_json::Value;
 use std::alloc::Global;
 
 impl<P: AnyPath> HeldPair<P, Value> {
-    /// Replaces by null each selected value below the root that lies in no other selected one, as `delete` does.
+    /// Replaces each selected value below the root by null, except those inside another such value, as `delete` does.
     /// Errors: `EmptyPath` (no path), `EmptyValue` (a path, no document), else `OutOfMemory`; nothing has changed then.
     ///
     /// ```text
@@ -58,9 +58,9 @@ impl<P: AnyPath> HeldPair<P, Value> {
         path.remove_in(alloc, value)
     }
 
-    /// Replaces by a copy of `new` each selected value below the root that lies in no other selected one, all at once,
-    /// as `set` does, but returns no `&mut Self`. Errors: `EmptyPath` if there is no path, else `EmptyValue` if there
-    /// is no document, else `OutOfMemory`; nothing has changed then.
+    /// Replaces each selected value below the root by a copy of `new`, all at once, except those inside another such
+    /// value, as `set` does, but returns no `&mut Self`. Errors: `EmptyPath` if there is no path, else `EmptyValue` if
+    /// there is no document, else `OutOfMemory`; nothing has changed then.
     ///
     /// ```text
     /// let mut held = SelectorMut::new();
@@ -113,8 +113,8 @@ impl<P: AnyPath> HeldPair<P, Value> {
         path.replace_in(alloc, value, fun)
     }
 
-    /// Calls the closure once for each selected location below the root, in document order, with a reference to the
-    /// value that earlier updates left there, unless it is gone: `Some` replaces the value, `None` removes it. The
+    /// Calls the closure once for each selected location below the root that still exists, in document order, with a
+    /// reference to the value that earlier updates left there: `Some` replaces the value, `None` removes it. The
     /// closure's first error ends the updates, as `Refused`; those before it remain. Errors before any call are
     /// `Unasked`: `EmptyPath` without a path, else `EmptyValue` without a document, else `OutOfMemory`.
     ///

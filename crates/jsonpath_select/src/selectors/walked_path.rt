@@ -10,8 +10,8 @@ use jsonpath_nodes::Spot;
 use serde_json::Value;
 use std::alloc::Global;
 
-/// The compiled path of a selector, owned or borrowed. What it selects, with locations, is found by a walk over its
-/// syntax tree.
+/// The compiled path of a selector, owned or borrowed. The nodes that it selects are found by a walk over its syntax
+/// tree.
 ///
 /// ```text
 /// let path = WalkedPath::Own(Parser::compile(alloc, "$.a")?);
@@ -55,14 +55,14 @@ impl<'b> AnyPath for WalkedPath<'b> {
     }
 }
 
-/// A type of compiled path that can be made of a `Node`: then a selector with such a path can compile a path text.
+/// A type of compiled path that can be made of a `Node`. A selector whose path has such a type can compile path texts.
 ///
 /// ```text
 /// let path: WalkedPath<'_> = OfNode::of_node(Parser::compile(alloc, "$.a")?);
 /// assert!(rt; path.parts().text == "$.a");
 /// ```
 pub trait OfNode: AnyPath {
-    /// Makes a compiled path of this type from a `Node`, the compiled path that owns its text.
+    /// Makes a compiled path of this type from a `Node`, which is a compiled path that owns its text.
     ///
     /// ```text
     /// let node: Node = OfNode::of_node(Parser::compile(alloc, "$.a")?);

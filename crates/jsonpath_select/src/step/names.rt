@@ -80,8 +80,8 @@ fn inside_quotes(text: &str) -> Option<&str>
     }
 }
 
-/// The name or quoted text at a span of a path text, without its quotes, borrowed; `None` if a backslash has to be
-/// dropped, as in `'a\'b'`. A span that cuts a character or passes the end means the empty name.
+/// Borrows the name or quoted text at a span of a path text, without its quotes; `None` if a quoted text has a
+/// backslash, as in `'a\'b'`. If the span cuts a character or exceeds the text, the name is empty.
 ///
 /// ```text
 /// let name = borrowed_name_at("$['a']", StrRange::new(2, 3));

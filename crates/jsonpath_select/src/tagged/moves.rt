@@ -1,4 +1,4 @@
-//! Moves: a step applied to the node references of all candidates at once, those of each candidate by themselves.
+//! Moves: a step applied to the node references of all candidates at once, for each candidate separately.
 
 ghost use Rattle.std.specs.Prelude.{◌≡◌, [], true, OnOk, IfOk, IfErr};
 ghost use Rattle.jsonpath_nodes.specs.place.Mark.{MarksGainBy, MarksLeadBy};

@@ -1,4 +1,4 @@
-//! Lists of tags, which are the numbers of candidates: how they are gone through and added to.
+//! Lists of tags, which are the numbers of candidates: how they are iterated over and extended.
 
 ghost use Rattle.std.specs.Prelude.{◌≡◌, [], ◌∷◌, ◌+◌, ◌-◌, ◌≤◌, ◌==◌, ◌++◌, length, drop, replicate, if◌then◌else◌, OnOk};
 ghost use Rattle.std.specs.List.{prefix_len};

@@ -32,7 +32,7 @@ fn write_guarded<W: fmt::Write>(name: &str, f: &mut fmt::Formatter<W>) -> fmt::R
     Ok(())
 }
 
-/// Prints a step as a path writes it between brackets: a name between single quotes, or an index.
+/// Prints the step as in a path, in brackets: a name between single quotes, or an index.
 impl fmt::Display for LocStep {
     ghost output = { λ step. Some (encode_utf8_all (step_chars (owned_step step))) };
 
@@ -51,9 +51,9 @@ impl fmt::Display for LocStep {
     }
 }
 
-/// Prints the location as a normalized path, which selects just the node there: `$['store']['book'][0]`. Single
-/// quotes and backslashes in a name are escaped by a backslash. No path has an index of 2^63 or more: the text of
-/// such a location doesn't compile.
+/// Prints the location as a normalized path, which selects just the node there: `$['store']['book'][0]`. Single quotes
+/// and backslashes in a name are escaped by a backslash. The text doesn't compile if the location has an index of 2^63
+/// or more, which no path can have.
 impl fmt::Display for Location {
     ghost output = { λ location. Some (location_text location) };
 

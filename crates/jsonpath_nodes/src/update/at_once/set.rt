@@ -15,11 +15,11 @@ use crate::update::single::update_at_steps;
 use serde_json::Value;
 use std::alloc::Global;
 
-/// Puts a copy of `new` at each of the locations with no ancestor in the list, all at once, in place of the value
-/// there and all below it. The root and locations that don't exist are left as they are. The list is in document
-/// order, each location once, as `compute_paths` returns it.
+/// Replaces the value at each location of a list by a copy of `new`, all at once. The root is skipped, and so are
+/// locations that don't exist or that are below another one of the list (other than the root). The list must be in
+/// document order, each location once, as `compute_paths` returns it.
 ///
-/// The copies are made before anything changes: at `NoMemory` the value is unchanged.
+/// The only error is `NoMemory`, and then the value is unchanged.
 ///
 /// ```text
 /// let mut document = Value::from_str(alloc, "[1, [2, 3]]")?;

@@ -12,11 +12,11 @@ use crate::memory::NoMemory;
 use crate::place::location::{LocStep, Location};
 use serde_json::{Map, Value};
 
-/// Removes the values at all locations of a list that are below the root, all at once: the other items of an array keep
-/// their order. The root and locations that don't exist are skipped.
+/// Removes the values at all locations of a list, all at once: the other items of an array keep their order. The root
+/// and locations that don't exist are skipped.
 ///
-/// The list is in document order, each location once, as `compute_paths` returns it. Removing takes no memory, so the
-/// error that the type allows never comes.
+/// The list must be in document order, each location once, as `compute_paths` returns it. Removing takes no memory, so
+/// the call always returns `Ok`.
 ///
 /// ```text
 /// let mut document = Value::from_str(alloc, "[1, [2, 3]]")?;
