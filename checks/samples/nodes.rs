@@ -2,7 +2,7 @@
 //! what it holds is let go before the next.
 
 use jsonpath_nodes::{
-    Atom, Cmp, CmpEq, CmpGe, CmpGt, CmpLe, CmpLt, CmpNe, Descends, LocStep, Location, Mark,
+    Atom, Cmp, CmpEq, CmpGe, CmpGt, CmpLe, CmpLt, CmpNe, LocStep, Location, Mark,
     NoMemory, PathStep, PlainStep, Selection, Spot, Stride, ValueWalker, compute_paths, holds,
     holds_atoms, laws, replace_at, set_at_once, steps_on_marks, take_at_once, to_num,
     try_replace_at,

@@ -5,7 +5,7 @@ ghost use Rattle.std.specs.Prelude.{◌≡◌, List, ℕ, None, option_map, Matc
 ghost use Rattle.serde_json.specs.Data.{Data, Items, Members, array, object, no_items, item, no_members, member};
 ghost use Rattle.serde_json.specs.Events.{items_len};
 ghost use Rattle.serde_json.specs.Find.{as_array, as_object, get_item, get_member};
-ghost use Rattle.jsonpath_nodes.specs.place.Order.{Ascend};
+ghost use Rattle.jsonpath_nodes.specs.place.Order.{NamesAscend};
 
 pub(crate) mod of_value;
 
@@ -68,7 +68,7 @@ pub trait Tree: Copy + Drop {
     // The members in the order of their names' bytes, each name once.
     fn each_member(object: Self::Object) -> Self::MembersLeft
         ensures all { members_left result ≡ members object }
-        ensures ordered { Ascend (members object) };
+        ensures ordered { NamesAscend (members object) };
 
     // The next member.
     fn next_member(left: &mut Self::MembersLeft) -> Option<(Self::Name, Self)>

@@ -7,7 +7,7 @@ use Rattle.serde_json.specs.View.{items_view, members_view}
 use Rattle.serde_json.specs.declared.value.Value.{Value}
 use Rattle.serde_json.proofs.Views.{Entry}
 use Rattle.jsonpath_nodes.specs.place.Location.{name, names, step_cmp}
-use Rattle.jsonpath_nodes.specs.place.Order.{Ascend, AreDocuments, HoldDocuments}
+use Rattle.jsonpath_nodes.specs.place.Order.{NamesAscend, AreDocuments, HoldDocuments}
 
 -- ---- the items of an array
 
@@ -21,11 +21,11 @@ names_above : (e : Entry) (es : List Entry) → AllByRecursion (λ y. string_cmp
 names_above e [] h = tt
 names_above e (x ∷ es) h = (h.0, names_above e es h.1)
 
-pub names_ascend : (es : List Entry) → IsStrictlySortedBy string_cmp (keys_of es) → Ascend (members_view es)
+pub names_ascend : (es : List Entry) → IsStrictlySortedBy string_cmp (keys_of es) → NamesAscend (members_view es)
 unfolding IsStrictlySortedBy
 names_ascend [] h = tt
 names_ascend (e ∷ es) h = (names_above e es h.0, names_ascend es h.1)
 
 pub members_done : (left es : List Entry) → left ≡ [] → (HoldDocuments (members_view left) → HoldDocuments (members_view es)) → IsStrictlySortedBy string_cmp (keys_of es)
-    → Ascend (members_view es) × HoldDocuments (members_view es)
+    → NamesAscend (members_view es) × HoldDocuments (members_view es)
 members_done left es none kept ordered = (names_ascend es ordered, kept (subst (λ (xs : List Entry). HoldDocuments (members_view xs)) (sym none) tt))

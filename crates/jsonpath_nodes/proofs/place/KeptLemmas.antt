@@ -4,7 +4,7 @@ use Rattle.std.specs.Prelude.{flat_map, option_map, unwrap_or}
 use Rattle.std.proofs.lemmas.List.{map-append}
 use Rattle.serde_json.specs.Data.{Data, array, object, Items, no_items, Members, no_members}
 use Rattle.jsonpath_nodes.specs.place.Location.{Location, at, below}
-use Rattle.jsonpath_nodes.specs.place.Order.{Ascend}
+use Rattle.jsonpath_nodes.specs.place.Order.{NamesAscend}
 use Rattle.jsonpath_nodes.specs.step.Steps.{Plain, every, single_steps, from, from_each, step, all_below, deep}
 use Rattle.jsonpath_nodes.specs.place.SpotPlace.{LeadsBy, location_of, look, look_from, sight_of, value_of}
 use Rattle.jsonpath_nodes.specs.declared.place.spot.Spot.{Spot}
@@ -73,7 +73,7 @@ pub children_of_items : (b : Bool) (l : Location) (all : Items) → shown_items 
 children_of_items b l all =
     shown_kids-sights b l (item_kids 0 all) ∙ ap (map (keep b)) (items_children-sights l all) ∙ sym (seen b l (array all) (single_steps every (array all)))
 
-pub children_of_members : (b : Bool) (l : Location) (ms : Members) → Ascend ms → shown_members b l ms ≡ map (look_kept_from b l (object ms)) (single_steps every (object ms))
+pub children_of_members : (b : Bool) (l : Location) (ms : Members) → NamesAscend ms → shown_members b l ms ≡ map (look_kept_from b l (object ms)) (single_steps every (object ms))
 children_of_members b l ms h =
     shown_kids-sights b l (member_kids ms) ∙ ap (map (keep b)) (members_children-sights l ms h) ∙ sym (seen b l (object ms) (single_steps every (object ms)))
 
@@ -87,7 +87,7 @@ pub deep_of_items : (b : Bool) (p : Plain) (l : Location) (all : Items)
     → map (look_kept_from b l (array all)) (deep p (array all)) ≡ map (look_kept_from b l (array all)) (single_steps p (array all)) ++ seen_items b (deep p) l 0 all
 deep_of_items b p l all = deep_of_kids b p l (array all) (item_kids 0 all) (deep_items p l all)
 
-pub deep_of_members : (b : Bool) (p : Plain) (l : Location) (ms : Members) → Ascend ms
+pub deep_of_members : (b : Bool) (p : Plain) (l : Location) (ms : Members) → NamesAscend ms
     → map (look_kept_from b l (object ms)) (deep p (object ms)) ≡ map (look_kept_from b l (object ms)) (single_steps p (object ms)) ++ seen_members b (deep p) l ms
 deep_of_members b p l ms h = deep_of_kids b p l (object ms) (member_kids ms) (deep_members p l ms h)
 

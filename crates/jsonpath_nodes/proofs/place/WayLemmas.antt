@@ -1,15 +1,12 @@
 -- Ways that go a step down and back.
-use Rattle.std.proofs.Common.{◌≡◌, ℕ, suc, ◌+◌, ◌-◌, List, [], ◌∷◌, ◌++◌, map, length, take, Bool, true, false, Some, refl, sym, ap, ap₂, ◌∙◌, append_assoc, append-nil, arith}
+use Rattle.std.proofs.Common.{◌≡◌, ℕ, suc, ◌+◌, ◌-◌, List, [], ◌∷◌, ◌++◌, map, Bool, true, false, Some, refl, sym, ap, ap₂, ◌∙◌, append_assoc, append-nil, arith}
 use Rattle.serde_json.specs.Data.{Data, null, boolean, number, string, array, object, Items, item, Members, member}
 use Rattle.jsonpath_nodes.specs.place.Location.{Step, name, index, Location, below}
-use Rattle.jsonpath_nodes.specs.plan.Containers.{under}
+use Rattle.jsonpath_nodes.specs.plan.Containers.{descendants}
 use Rattle.jsonpath_nodes.specs.place.Mark.{kept_location, look_kept_from}
-use Rattle.jsonpath_nodes.specs.plan.Way.{way_stand, AreSame, Stays, without_last}
+use Rattle.jsonpath_nodes.specs.plan.Way.{way_stand, AreSame, Stays}
 use Rattle.jsonpath_nodes.proofs.place.SightLemmas.{Sight}
 use Rattle.jsonpath_nodes.proofs.place.KeptLemmas.{seen_items, seen_members, kept-twice}
-
-pub stays_itself : (b : Bool) (s : Location) (t : List Step) → Stays b s t s t
-stays_itself b s t = (refl, refl)
 
 pub stays_on : (b : Bool) (s0 s1 s2 : Location) (t0 t1 t2 : List Step) → Stays b s0 t0 s1 t1 → Stays b s1 t1 s2 t2 → Stays b s0 t0 s2 t2
 stays_on b s0 s1 s2 t0 t1 t2 h k = (k.0 ∙ h.0, k.1 ∙ h.1)
@@ -26,38 +23,9 @@ pub child-stand : (b : Bool) (s : Location) (t : List Step) (x : Step) → way_s
 child-stand true s t x = sym (append_assoc s t (x ∷ []))
 child-stand false s t x = refl
 
-same_more : (b : Bool) (t0 t1 : List Step) (x : Step) → AreSame b t1 t0 → AreSame b (t1 ++ x ∷ []) (t0 ++ x ∷ [])
-same_more true t0 t1 x h = ap (λ (t : List Step). t ++ x ∷ []) h
-same_more false t0 t1 x h = refl
-
 -- a child of where the way was before it stayed
 pub child-stays : (b : Bool) (s0 s1 : Location) (t0 t1 : List Step) (x : Step) → Stays b s0 t0 s1 t1 → way_stand b s1 (t1 ++ x ∷ []) ≡ kept_location b (way_stand b s0 t0 ++ x ∷ [])
 child-stays b s0 s1 t0 t1 x h = child-stand b s1 t1 x ∙ ap (λ (l : Location). kept_location b (l ++ x ∷ [])) (stays-stand b s0 s1 t0 t1 h)
-
-some_more : (t : List Step) (x : Step) → length (t ++ x ∷ []) ≡ suc (length (t ++ x ∷ []) - 1)
-some_more [] x = refl
-some_more (z ∷ t) x = omega arith
-
-without_next : (t : List Step) (x y : Step) → take (length (t ++ x ∷ []) - 1) (t ++ x ∷ []) ≡ t → take (length (y ∷ (t ++ x ∷ [])) - 1) (y ∷ (t ++ x ∷ [])) ≡ y ∷ t
-without_next t x y h =
-    let more = some_more t x in
-    let whole : length (y ∷ (t ++ x ∷ [])) - 1 ≡ suc (length (t ++ x ∷ []) - 1) = omega (arith, more) in
-    ap (λ n. take n (y ∷ (t ++ x ∷ []))) whole ∙ ap (λ (v : List Step). y ∷ v) h
-
-without-more : (t : List Step) (x : Step) → without_last (t ++ x ∷ []) ≡ t
-without-more [] x = refl
-without-more (y ∷ t) x = without_next t x y (without-more t x)
-
-same_without : (b : Bool) (t0 t1 t2 t3 : List Step) (x : Step) → AreSame b t1 (t0 ++ x ∷ []) → AreSame b t2 t1 → AreSame b t3 (without_last t2) → AreSame b t3 t0
-same_without true t0 t1 t2 t3 x down stays back = back ∙ ap without_last (stays ∙ down) ∙ without-more t0 x
-same_without false t0 t1 t2 t3 x down stays back = refl
-
--- down, whatever there, and back
-pub there_and_back : (b : Bool) (s0 s1 s2 s3 : Location) (t0 t1 t2 t3 : List Step) (x : Step) → s1 ≡ s0 → AreSame b t1 (t0 ++ x ∷ []) → Stays b s1 t1 s2 t2 → s3 ≡ s2 → AreSame b t3 (without_last t2) → Stays b s0 t0 s3 t3
-there_and_back b s0 s1 s2 s3 t0 t1 t2 t3 x start down stays back_start back = (back_start ∙ stays.0 ∙ start, same_without b t0 t1 t2 t3 x down stays.1 back)
-
-pub down-stand : (b : Bool) (s0 s1 : Location) (t0 t1 : List Step) (x : Step) → s1 ≡ s0 → AreSame b t1 (t0 ++ x ∷ []) → way_stand b s1 t1 ≡ way_stand b s0 (t0 ++ x ∷ [])
-down-stand b s0 s1 t0 t1 x start down = ap (λ (s : Location). way_stand b s t1) start ∙ same_stand b s0 (t0 ++ x ∷ []) t1 down
 
 -- ---- a loop over the children, one on
 
@@ -78,19 +46,19 @@ member_next b f l j k d ds left xs ys all first here gained kept =
 
 -- ---- a node, and then all below it
 
-below-under : (d : Data) → below d ≡ [] ∷ under d
-below-under null = refl
-below-under (boolean b) = refl
-below-under (number n) = refl
-below-under (string s) = refl
-below-under (array ds) = refl
-below-under (object ms) = refl
+below-descendants : (d : Data) → below d ≡ [] ∷ descendants d
+below-descendants null = refl
+below-descendants (boolean b) = refl
+below-descendants (number n) = refl
+below-descendants (string s) = refl
+below-descendants (array ds) = refl
+below-descendants (object ms) = refl
 
-pub node_then_under : (b : Bool) (k m : Location) (d : Data) (xs ys zs : List Sight) → ys ≡ xs ++ (kept_location b m, Some d) ∷ [] → k ≡ kept_location b m
-    → zs ≡ ys ++ map (look_kept_from b k d) (under d) → zs ≡ xs ++ map (look_kept_from b k d) (below d)
-node_then_under b k m d xs ys zs first here later =
+pub node_then_descendants : (b : Bool) (k m : Location) (d : Data) (xs ys zs : List Sight) → ys ≡ xs ++ (kept_location b m, Some d) ∷ [] → k ≡ kept_location b m
+    → zs ≡ ys ++ map (look_kept_from b k d) (descendants d) → zs ≡ xs ++ map (look_kept_from b k d) (below d)
+node_then_descendants b k m d xs ys zs first here later =
     let itself : kept_location b (k ++ []) ≡ kept_location b m = ap (λ (l : Location). kept_location b (l ++ [])) here ∙ kept-twice b m [] ∙ ap (kept_location b) (append-nil m) in
-    later ∙ ap (λ (ss : List Sight). ss ++ map (look_kept_from b k d) (under d)) first
-    ∙ append_assoc xs ((kept_location b m, Some d) ∷ []) (map (look_kept_from b k d) (under d))
-    ∙ ap (λ (l : Location). xs ++ (l, Some d) ∷ map (look_kept_from b k d) (under d)) (sym itself)
-    ∙ ap (λ (ls : List Location). xs ++ map (look_kept_from b k d) ls) (sym (below-under d))
+    later ∙ ap (λ (ss : List Sight). ss ++ map (look_kept_from b k d) (descendants d)) first
+    ∙ append_assoc xs ((kept_location b m, Some d) ∷ []) (map (look_kept_from b k d) (descendants d))
+    ∙ ap (λ (l : Location). xs ++ (l, Some d) ∷ map (look_kept_from b k d) (descendants d)) (sym itself)
+    ∙ ap (λ (ls : List Location). xs ++ map (look_kept_from b k d) ls) (sym (below-descendants d))

@@ -6,7 +6,7 @@ use Rattle.jsonpath_nodes.specs.place.Location.{Location, below, below_items, be
 use Rattle.jsonpath_nodes.specs.step.Steps.{Plain, single_steps, from_each, deep}
 use Rattle.jsonpath_nodes.specs.place.SpotPlace.{look_from}
 use Rattle.jsonpath_nodes.proofs.place.SightLemmas.{Sight, item_sights, member_sights, items-sights, members-sights}
-use Rattle.jsonpath_nodes.specs.place.Order.{Ascend}
+use Rattle.jsonpath_nodes.specs.place.Order.{NamesAscend}
 use Rattle.jsonpath_nodes.proofs.step.ChildLemmas.{item_kids, member_kids, below_items-kids, below_members-kids, all_items_at, members_at}
 use Rattle.jsonpath_nodes.proofs.step.ListLemmas.{map-nothing, from_each-through}
 
@@ -23,7 +23,7 @@ deep_items p l all =
     (ap (map (look_from l (array all))) (ap (from_each (array all) (single_steps p)) (below_items-kids 0 all) ∙ from_each-through (single_steps p) below (array all) (item_kids 0 all) (all_items_at all))
     ∙ items-sights (deep p) l all)
 
-pub deep_members : (p : Plain) (l : Location) (all : Members) → Ascend all
+pub deep_members : (p : Plain) (l : Location) (all : Members) → NamesAscend all
     → map (look_from l (object all)) (deep p (object all)) ≡ map (look_from l (object all)) (single_steps p (object all)) ++ member_sights (deep p) l all
 deep_members p l all h =
     deep_parts l (object all) p (below_members all) (member_sights (deep p) l all)

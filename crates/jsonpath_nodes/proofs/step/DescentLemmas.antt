@@ -8,12 +8,12 @@ use Rattle.jsonpath_nodes.specs.step.Candidates.{flat_members, in_objects, in_ob
 use Rattle.jsonpath_nodes.specs.plan.Containers.{is_container, some_container}
 use Rattle.jsonpath_nodes.specs.place.Location.{name, index, Location, at, flat}
 use Rattle.jsonpath_nodes.specs.place.Mark.{MarksGain, kept_location, shown, look_kept, look_kept_from, MarksLeadBy}
-use Rattle.jsonpath_nodes.specs.place.Order.{Ascend, IsDocument, HoldDocuments}
+use Rattle.jsonpath_nodes.specs.place.Order.{NamesAscend, IsDocument, HoldDocuments}
 use Rattle.jsonpath_nodes.specs.place.SpotPlace.{look_from}
 use Rattle.jsonpath_nodes.specs.step.Steps.{from, from_each, every, step, all_below, flattened}
 use Rattle.jsonpath_nodes.proofs.place.KeptLemmas.{seen-from_each}
 use Rattle.jsonpath_nodes.proofs.step.ChildLemmas.{through, item_kids, member_kids, flat_members-kids}
-use Rattle.jsonpath_nodes.proofs.step.NowhereLemmas.{IsLeaf, leaf_by, no_container, nothing_gained}
+use Rattle.jsonpath_nodes.proofs.step.NowhereLemmas.{IsLeaf, leaf_by, no_container}
 use Rattle.jsonpath_nodes.proofs.step.OneDescentLemmas.{from_one}
 use Rattle.jsonpath_nodes.proofs.step.SeparateLemmas.{apart_has_no_repeat_flat, one_is_apart}
 use Rattle.jsonpath_nodes.proofs.place.SightLemmas.{Sight, item_sights, member_sights, items-sights, members-sights}
@@ -31,10 +31,10 @@ in_members-kids (member k d ms) = ap (λ (ls : List Location). map (λ m. name k
 pub items_in_objects-sights : (l : Location) (all : Items) → item_sights in_objects l 0 all ≡ map (look_from l (array all)) (in_objects_items 0 all)
 items_in_objects-sights l all = sym (items-sights in_objects l all) ∙ ap (map (look_from l (array all))) (sym (in_items-kids 0 all))
 
-pub members_flat-sights : (l : Location) (ms : Members) → Ascend ms → member_sights flat l ms ≡ map (look_from l (object ms)) (flat_members ms)
+pub members_flat-sights : (l : Location) (ms : Members) → NamesAscend ms → member_sights flat l ms ≡ map (look_from l (object ms)) (flat_members ms)
 members_flat-sights l ms h = sym (members-sights flat l ms h) ∙ ap (map (look_from l (object ms))) (sym (flat_members-kids ms))
 
-pub members_in_objects-sights : (l : Location) (ms : Members) → Ascend ms → member_sights in_objects l ms ≡ map (look_from l (object ms)) (in_objects_members ms)
+pub members_in_objects-sights : (l : Location) (ms : Members) → NamesAscend ms → member_sights in_objects l ms ≡ map (look_from l (object ms)) (in_objects_members ms)
 members_in_objects-sights l ms h = sym (members-sights in_objects l ms h) ∙ ap (map (look_from l (object ms))) (sym (in_members-kids ms))
 
 -- ---- values without children
@@ -44,12 +44,6 @@ leaf_holds d h = leaf_by (λ c. in_objects c ≡ []) refl (λ b. refl) (λ n. re
 
 pub leaf_document : (d : Data) → IsLeaf d → IsDocument d
 leaf_document d h = leaf_by IsDocument tt (λ b. tt) (λ n. tt) (λ s. tt) d h
-
-pub leaf_gains : (b : Bool) (l : Location) (d : Data) (xs : List Sight) → IsLeaf d → xs ≡ xs ++ map (look_kept_from b l d) (in_objects d)
-leaf_gains b l d xs h = nothing_gained b l d xs (in_objects d) (leaf_holds d h)
-
-pub leaf_candidates : (b : Bool) (l : Location) (d : Data) (xs : List Sight) → IsLeaf d → xs ≡ xs ++ map (look_kept_from b l d) (candidates_below d)
-leaf_candidates b l d xs h = nothing_gained b l d xs (candidates_below d) (leaf_by (λ c. candidates_below c ≡ []) refl (λ x. refl) (λ n. refl) (λ s. refl) d h)
 
 nothing_in_objects : (ms : Members) → some_container ms ≡ false → in_objects_members ms ≡ []
 nothing_in_objects no_members h = refl
@@ -62,9 +56,6 @@ hold_leaves no_members h = tt
 hold_leaves (member k d ms) h =
     let parts = or_parts (is_container d) (some_container ms) h in
     (leaf_document d (no_container d parts.0), hold_leaves ms parts.1)
-
-pub leaves_document : (ms : Members) → Ascend ms → some_container ms ≡ false → IsDocument (object ms)
-leaves_document ms ordered none = (ordered, hold_leaves ms none)
 
 -- ---- what is flat at each member, and then the same in each
 

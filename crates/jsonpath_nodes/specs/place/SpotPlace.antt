@@ -96,7 +96,3 @@ LeadsBy f spots found = (doc : Data) → LeadsIn doc (f doc) spots found
 
 abbrev pub look_from : Location → Data → Location → Location × Option Data
 look_from l d m = (l ++ m, at d m)
-
--- a list of spots has gained what f sees of the value d at the location l
-abbrev pub Gains : (Data → List Location) → Location → Data → List Spot → List Spot → Type 0
-Gains f l d before after = map sight_of after ≡ map sight_of before ++ map (look_from l d) (f d)

@@ -13,10 +13,10 @@ some_container no_members = false
 some_container (member k d ms) = is_container d || some_container ms
 
 -- all that is below a value, each value before its children
-abbrev pub under : Data → List Location
-under null = []
-under (boolean b) = []
-under (number n) = []
-under (string s) = []
-under (array ds) = below_items 0 ds
-under (object ms) = below_members ms
+abbrev pub descendants : Data → List Location
+descendants null = []
+descendants (boolean b) = []
+descendants (number n) = []
+descendants (string s) = []
+descendants (array ds) = below_items 0 ds
+descendants (object ms) = below_members ms

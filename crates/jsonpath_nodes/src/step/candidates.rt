@@ -3,7 +3,7 @@
 
 ghost use Rattle.std.specs.Prelude.{◌≡◌, ◌++◌, ◌∷◌, [], map, true, Some, IsTrue, IfOk, OnOk, if◌then◌else◌};
 ghost use Rattle.serde_json.specs.Data.{array, object};
-ghost use Rattle.jsonpath_nodes.specs.plan.Ascending.{first_difference_ascends, Ascend as AscendByFirstDifference};
+ghost use Rattle.jsonpath_nodes.specs.plan.Ascending.{first_difference_ascends, Ascend};
 ghost use Rattle.jsonpath_nodes.specs.plan.Containers.{some_container};
 ghost use Rattle.jsonpath_nodes.specs.plan.Way.{down_step, way_stand, Stays};
 ghost use Rattle.jsonpath_nodes.specs.place.Location.{Location as Place, flat, flat_items};
@@ -228,7 +228,7 @@ pub(crate) fn are_ordered_and_disjoint<'a>(
     alloc: Global,
     spots: &[Spot<'a>],
 ) -> Result<bool, NoMemory>
-    ensures { IfOk result (λ apart. IsTrue apart → AscendByFirstDifference (map location_of spots.now)) }
+    ensures { IfOk result (λ apart. IsTrue apart → Ascend (map location_of spots.now)) }
 {
     if spots.len() < 2 {
         return Ok(true);

@@ -4,7 +4,7 @@ ghost use Rattle.std.specs.Prelude.{◌≡◌, [], ◌∷◌, ◌++◌, false, I
 ghost use Rattle.serde_json.specs.Data.{array, object};
 ghost use Rattle.jsonpath_nodes.specs.place.Location.{below, below_items, below_members};
 ghost use Rattle.jsonpath_nodes.specs.place.Mark.{MarksGain};
-ghost use Rattle.jsonpath_nodes.specs.plan.Containers.{some_container, under};
+ghost use Rattle.jsonpath_nodes.specs.plan.Containers.{some_container, descendants};
 ghost use Rattle.jsonpath_nodes.specs.plan.Way.{down_step, way_stand, AreSame, Stays};
 ghost use Rattle.jsonpath_nodes.specs.step.PlainSteps.{plain_step_of};
 ghost use Rattle.jsonpath_nodes.specs.step.Steps.{deep, named, single_steps};
@@ -232,7 +232,7 @@ fn add_all_under<M: Descends>(
     way: &mut M::Way,
     out: &mut Vec<M>,
 ) -> Result<(), NoMemory>
-    ensures gains { OnOk result (MarksGain M.located M.stand M.content under (way_stand M.located (M.start way.old) (M.steps way.old)) (M.Tree.content value) out.old.items out.new.items) }
+    ensures gains { OnOk result (MarksGain M.located M.stand M.content descendants (way_stand M.located (M.start way.old) (M.steps way.old)) (M.Tree.content value) out.old.items out.new.items) }
     ensures stays { OnOk result (Stays M.located (M.start way.old) (M.steps way.old) (M.start way.new) (M.steps way.new)) }
 {
     if let Some(members) = value.as_object() {
@@ -253,7 +253,7 @@ fn add_all_under_child<M: Descends>(
     way: &mut M::Way,
     out: &mut Vec<M>,
 ) -> Result<(), NoMemory>
-    ensures gains { OnOk result (MarksGain M.located M.stand M.content under (way_stand M.located (M.start way.old) (M.steps way.old ++ down_step M.Tree.name_bytes step ∷ [])) (M.Tree.content value) out.old.items out.new.items) }
+    ensures gains { OnOk result (MarksGain M.located M.stand M.content descendants (way_stand M.located (M.start way.old) (M.steps way.old ++ down_step M.Tree.name_bytes step ∷ [])) (M.Tree.content value) out.old.items out.new.items) }
     ensures stays { OnOk result (Stays M.located (M.start way.old) (M.steps way.old) (M.start way.new) (M.steps way.new)) }
 {
     if is_container(value) {

@@ -5,7 +5,7 @@ use jsonpath_nodes::steps_on_marks::{
     candidates_below_mark, flattened_from_each, flattened_from_mark, named_member_from_each,
     plain_step_from_all_below, plain_step_from_each,
 };
-use jsonpath_nodes::{Descends, Mark, NoMemory, PlainStep, Spot, ValueWalker};
+use jsonpath_nodes::{Mark, NoMemory, PlainStep, Spot, ValueWalker};
 use serde_json::Value;
 use std::alloc::{AllocError, Global};
 use std::process::Abort;
@@ -40,7 +40,7 @@ fn shows<'a, M: Mark<'a>>(
 }
 
 // Each plain step from one mark, and what it finds in the value and below it.
-fn step_from<'a, M: Descends<'a>>(rt: &(impl Abort + AllocGlobal), root: &[M]) {
+fn step_from<'a, M: Mark<'a>>(rt: &(impl Abort + AllocGlobal), root: &[M]) {
     let alloc = rt.alloc();
     let rows = [
         (
@@ -74,7 +74,7 @@ fn plain_steps(rt: HostRuntime) {
 }
 
 // Steps into a list and below it, repeats and order as the document has them.
-fn into_spots_and_numbers<'a, M: Descends<'a>>(rt: &(impl Abort + AllocGlobal), root: &[M]) {
+fn into_spots_and_numbers<'a, M: Mark<'a>>(rt: &(impl Abort + AllocGlobal), root: &[M]) {
     let alloc = rt.alloc();
     let list = named_member_from_each(alloc, root, "b").expect(rt, "the list");
     let list = list.as_slice();
@@ -114,7 +114,7 @@ fn steps_into_lists(rt: HostRuntime) {
 }
 
 // The candidates of a filter, and those after `..`.
-fn candidates_from<'a, M: Descends<'a>>(rt: &(impl Abort + AllocGlobal), root: &M, marks: &[M]) {
+fn candidates_from<'a, M: Mark<'a>>(rt: &(impl Abort + AllocGlobal), root: &M, marks: &[M]) {
     let alloc = rt.alloc();
     shows(rt, flattened_from_each(alloc, marks), DOCUMENT);
     shows(rt, flattened_from_mark(alloc, root), DOCUMENT);

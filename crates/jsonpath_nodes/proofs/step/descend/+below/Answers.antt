@@ -1,12 +1,12 @@
-use Rattle.std.proofs.Common.{◌≡◌, ◌∷◌, [], ◌++◌, map, Some, refl, ap, ◌∙◌, arith, rules}
+use Rattle.std.proofs.Common.{◌≡◌, ◌∷◌, [], ◌++◌, map, Some, refl, ap, ◌∙◌, rules}
 use Rattle.serde_json.specs.Data.{array, object}
 use Rattle.jsonpath_nodes.specs.place.Location.{Location, below, below_items, below_members, index, name}
 use Rattle.jsonpath_nodes.specs.place.Mark.{kept_location, look_kept_from, shown}
-use Rattle.jsonpath_nodes.specs.plan.Containers.{under}
+use Rattle.jsonpath_nodes.specs.plan.Containers.{descendants}
 use Rattle.jsonpath_nodes.specs.plan.Way.{way_stand}
 use Rattle.jsonpath_nodes.proofs.place.KeptLemmas.{seen_items, seen_members, items_end, members_end, of_kids}
 use Rattle.jsonpath_nodes.proofs.place.SightLemmas.{items_below-sights, members_below-sights}
-use Rattle.jsonpath_nodes.proofs.place.WayLemmas.{item_next, member_next, node_then_under, child-stays, stays_on, stays-stand}
+use Rattle.jsonpath_nodes.proofs.place.WayLemmas.{item_next, member_next, node_then_descendants, child-stays, stays_on, stays-stand}
 use Rattle.jsonpath_nodes.proofs.step.ChildLemmas.{item_kids, member_kids}
 use Rattle.jsonpath_nodes.proofs.step.descend.+below.Goals as goal
 
@@ -22,7 +22,7 @@ add_items_and_all_below-loop-item-preserved g t c =
     let k = way_stand b (g.M.Descends.start now) (g.M.Descends.steps now ++ index i ∷ []) in
     let here : k ≡ kept_location b (l ++ index i ∷ []) =
     child-stays b (g.M.Descends.start first) (g.M.Descends.start now) (g.M.Descends.steps first) (g.M.Descends.steps now) (index i) c.loop-item.invariant.stays in
-    let gained = node_then_under b k (l ++ index i ∷ []) d (map show c.loop-item.out.items) (map show c.push_item.new.out.items) (map show c.add_all_under_child.new.out.items)
+    let gained = node_then_descendants b k (l ++ index i ∷ []) d (map show c.loop-item.out.items) (map show c.push_item.new.out.items) (map show c.add_all_under_child.new.out.items)
     (rw (← c.loop-item.invariant.here) c.in_ok-push_item.ensures) here c.in_ok-add_all_under_child.ensures.gains in
     record {
       gains = item_next b below l k i d (g.M.Tree.Tree.items_left c.next_item.new.left) (g.M.Tree.Tree.items_left c.loop-item.left) _ _ _ c.in-Some.ensures here gained c.loop-item.invariant.gains;
@@ -55,8 +55,8 @@ add_members_and_all_below-loop-name-preserved g t c =
     let here : k ≡ kept_location b (l ++ x ∷ []) =
     child-stays b (g.M.Descends.start first) (g.M.Descends.start now) (g.M.Descends.steps first) (g.M.Descends.steps now) x c.loop-name.invariant.stays in
     let pushed : map show c.push_member.new.out.items ≡ map show c.loop-name.out.items ++ (kept_location b (g.M.Descends.members_stand c.in_ok-here.here ++ x ∷ []), Some d) ∷ [] = search (rules, c.in_ok-push_member.ensures) in
-    let later : map show c.add_all_under_child.new.out.items ≡ map show c.push_member.new.out.items ++ map (look_kept_from b k d) (under d) = search (rules, c.in_ok-add_all_under_child.ensures.gains) in
-    let gained = node_then_under b k (l ++ x ∷ []) d (map show c.loop-name.out.items) (map show c.push_member.new.out.items) (map show c.add_all_under_child.new.out.items)
+    let later : map show c.add_all_under_child.new.out.items ≡ map show c.push_member.new.out.items ++ map (look_kept_from b k d) (descendants d) = search (rules, c.in_ok-add_all_under_child.ensures.gains) in
+    let gained = node_then_descendants b k (l ++ x ∷ []) d (map show c.loop-name.out.items) (map show c.push_member.new.out.items) (map show c.add_all_under_child.new.out.items)
     (pushed ∙ ap (λ (m : Location). map show c.loop-name.out.items ++ (kept_location b (m ++ x ∷ []), Some d) ∷ []) c.loop-name.invariant.here) here later in
     record {
       gains = member_next b below l k (g.M.Tree.Tree.name_bytes c.in-Some.name) d (g.M.Tree.Tree.members_left c.next_member.new.left) (g.M.Tree.Tree.members_left c.loop-name.left) _ _ _ (search (rules, c.in-Some.ensures)) here gained c.loop-name.invariant.gains;

@@ -1,5 +1,5 @@
-use Rattle.std.proofs.Common.{◌≡◌, List, ◌∷◌, [], ◌++◌, map, append-nil, refl, sym, ap, ◌∙◌, arith}
-use Rattle.serde_json.specs.Data.{object, members_depth}
+use Rattle.std.proofs.Common.{List, ◌∷◌, [], ◌++◌, map, append-nil, refl, sym, ap, ◌∙◌}
+use Rattle.serde_json.specs.Data.{object}
 use Rattle.jsonpath_nodes.specs.place.Location.{Location}
 use Rattle.jsonpath_nodes.specs.plan.Way.{way_stand, down_step}
 use Rattle.jsonpath_nodes.specs.step.PlainSteps.{plain_step_of}
