@@ -15,6 +15,8 @@ pub mod WantsLemmas
 pub mod TidyLemmas
 pub mod EndedLemmas
 pub mod RefusedAtLemmas
+pub mod ExpectedLemmas
+pub mod ExpectedFrontLemmas
 pub mod RefusedWithinLemmas
 pub mod StopLemmas
 pub mod DeeperStopLemmas

@@ -11,7 +11,7 @@ use Rattle.jsonpath_paths.specs.token.Reading.{first, closing}
 use Rattle.jsonpath_paths.specs.token.Tokens.{TokensAt, no_token, lexeme}
 use Rattle.jsonpath_paths.specs.declared.token.tokens.Kind.{Kind}
 use Rattle.jsonpath_paths.specs.declared.token.tokens.Kind.TheVariants as k
-use Rattle.jsonpath_paths.specs.plan.Wants.{Sign}
+use Rattle.jsonpath_paths.specs.plan.Wants.{Sign, signs}
 use Rattle.jsonpath_paths.proofs.parser.WantsLemmas.{Ender, dollar_sign, bracket, name, naught, kind_of, word_of, signs_of}
 use Rattle.jsonpath_paths.proofs.parser.TidyLemmas.{hard, all_hard, hard_behind, hard_all_behind, wordy}
 use Rattle.jsonpath_paths.proofs.token.FoundLemmas.{first_is}
@@ -27,11 +27,6 @@ characters_of (e ∷ es) = word_of e ++ characters_of es
 abbrev pub lexemes_of : ℕ → List Ender → Lexemes
 lexemes_of pos [] = []
 lexemes_of pos (e ∷ es) = lexeme (kind_of e) pos (word_of e) ∷ lexemes_of (pos + byte_len (word_of e)) es
-
--- the signs of tokens of a text
-abbrev pub signs : List ℕ → Lexemes → List Sign
-signs text [] = []
-signs text (p ∷ ps) = record { kind = p.kind; word = bytes_at text p.span } ∷ signs text ps
 
 hard_ends : (e : Ender) (rest : List ℕ) → hard e ≡ true → (ends is_no_stop (word_of e ++ rest) ≡ true) × (ends goes_on (word_of e ++ rest) ≡ true)
 hard_ends dollar_sign rest h = cc h

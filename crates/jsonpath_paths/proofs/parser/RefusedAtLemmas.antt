@@ -17,9 +17,9 @@ use Rattle.jsonpath_paths.specs.declared.token.tokens.TokenError.{TokenError}
 use Rattle.jsonpath_paths.specs.declared.token.tokens.TokenError.TheVariants.{Eof}
 use Rattle.jsonpath_paths.specs.Spelling.{IsInGrammar}
 use Rattle.jsonpath_paths.specs.WholeText.{place_after, place_of_text}
-use Rattle.jsonpath_paths.specs.plan.Wants.{Want, Sign, stop, stop_on, feed, run, run_on, may_end, whole_wants}
+use Rattle.jsonpath_paths.specs.plan.Wants.{Want, Sign, signs, stop, stop_on, feed, run, run_on, may_end, whole_wants}
 use Rattle.jsonpath_paths.proofs.parser.DerivationLemmas.{sound_path, complete_path}
-use Rattle.jsonpath_paths.proofs.parser.EndedLemmas.{characters_of, lexemes_of, signs, added_end, added_tokens, added_scalars, added_signs}
+use Rattle.jsonpath_paths.proofs.parser.EndedLemmas.{characters_of, lexemes_of, added_end, added_tokens, added_scalars, added_signs}
 use Rattle.jsonpath_paths.proofs.parser.FollowPathLemmas.{read_ends, ends_read}
 use Rattle.jsonpath_paths.proofs.parser.TidyLemmas.{fine, stays_fed, stays_run, clean_run, fine_real, fine_hard, clean_hard}
 use Rattle.jsonpath_paths.proofs.parser.WantsLemmas.{endings, goes_on, run_behind}
@@ -43,14 +43,14 @@ pub record Stopped (text : List ℕ) (ws : List Want) (ts here : Lexemes) : Type
   pub ran : run ws (signs text front) ≡ Some left
 
 -- the next token may not come
-abbrev Refused : List ℕ → List Want → Lexemes → Type 0
+abbrev pub Refused : List ℕ → List Want → Lexemes → Type 0
 Refused text ws [] = Unit {0}
 Refused text ws (t ∷ ts) = feed ws t.kind (bytes_at text t.span) ≡ None
 
-abbrev StoppedSo : List ℕ → List Want → Lexemes → Lexemes → Type 0
+abbrev pub StoppedSo : List ℕ → List Want → Lexemes → Lexemes → Type 0
 StoppedSo text ws ts here = (s : Stopped text ws ts here) × Refused text s.left here
 
-stopped : (text : List ℕ) (ws : List Want) (ts here : Lexemes) → stop text ws ts ≡ Some here → StoppedSo text ws ts here
+pub stopped : (text : List ℕ) (ws : List Want) (ts here : Lexemes) → stop text ws ts ≡ Some here → StoppedSo text ws ts here
 stopped text ws [] here h = by_end (may_end ws) h
   where
     at_start : [] ≡ here → StoppedSo text ws [] here
@@ -85,7 +85,7 @@ all_ran text ws (p ∷ ps) h = by_fed (feed ws p.kind (bytes_at text p.span)) re
     by_fed None e h more = cc h
     by_fed (Some us) e h more = let r = more us h in (r.0, ap (λ o. run_on o (λ vs. run vs (signs text ps))) e ∙ r.1, r.2)
 
-run_stops : (text : List ℕ) (ws us : List Want) (front here : Lexemes) → run ws (signs text front) ≡ Some us → stop text ws (front ++ here) ≡ stop text us here
+pub run_stops : (text : List ℕ) (ws us : List Want) (front here : Lexemes) → run ws (signs text front) ≡ Some us → stop text ws (front ++ here) ≡ stop text us here
 run_stops text ws us [] here h = ap (λ vs. stop text vs here) (some_same ws us h)
 run_stops text ws us (p ∷ ps) here h = by_fed (feed ws p.kind (bytes_at text p.span)) h (λ vs i. run_stops text vs us ps here i)
   where
@@ -95,7 +95,7 @@ run_stops text ws us (p ∷ ps) here h = by_fed (feed ws p.kind (bytes_at text p
     by_fed (Some vs) h more = more vs h
 
 -- the machine stops behind all tokens, or they are the end of a path
-stops_behind : (text : List ℕ) (us : List Want) (front : Lexemes) → run whole_wants (signs text front) ≡ Some us → stop text whole_wants front ≡ stop text us []
+pub stops_behind : (text : List ℕ) (us : List Want) (front : Lexemes) → run whole_wants (signs text front) ≡ Some us → stop text whole_wants front ≡ stop text us []
 stops_behind text us front h = subst (λ ps. stop text whole_wants ps ≡ stop text us []) (append-nil front) (run_stops text whole_wants us front [] h)
 
 -- tokens of two texts that begin alike
@@ -116,7 +116,7 @@ cut_within (suc i) k zero xs h = absurd (omega arith)
 cut_within (suc i) k (suc n) [] h = refl
 cut_within (suc i) k (suc n) (x ∷ xs) h = cut_within i k n xs (omega arith)
 
-signs_same : (n : ℕ) (here there : List ℕ) (ps : Lexemes) → take n here ≡ take n there → Within n ps → signs here ps ≡ signs there ps
+pub signs_same : (n : ℕ) (here there : List ℕ) (ps : Lexemes) → take n here ≡ take n there → Within n ps → signs here ps ≡ signs there ps
 signs_same n here there [] e h = refl
 signs_same n here there (p ∷ ps) e h =
     let bytes : bytes_at here p.span ≡ bytes_at there p.span =
@@ -146,7 +146,7 @@ scalars_upon : (xs ys : List ℕ) → scalars xs ≡ true → scalars ys ≡ tru
 scalars_upon [] ys h i = i
 scalars_upon (x ∷ xs) ys h i = let p = and_parts _ _ h in and_from _ _ p.0 (scalars_upon xs ys p.1 i)
 
-begins : (text : List ℕ) (front here : Lexemes) (rest : List ℕ) (us : List Want) → IsUtf8 text → TokensAt 0 (chars text) (front ++ here) rest → run whole_wants (signs text front) ≡ Some us
+pub begins : (text : List ℕ) (front here : Lexemes) (rest : List ℕ) (us : List Want) → IsUtf8 text → TokensAt 0 (chars text) (front ++ here) rest → run whole_wants (signs text front) ≡ Some us
     → BeginsPath text front
 begins text front here rest us utf8 read ran =
     let k = kept front here (chars text) rest read in
@@ -206,14 +206,14 @@ fed_next text front t us ran =
     same (Some vs) = refl
 
 -- and no path begins with one more that is refused
-never_begins : (text : List ℕ) (front here : Lexemes) (t : Lexeme) (rest : List ℕ) (us : List Want) → TokensAt 0 (chars text) (front ++ t ∷ here) rest → run whole_wants (signs text front) ≡ Some us
+pub never_begins : (text : List ℕ) (front here : Lexemes) (t : Lexeme) (rest : List ℕ) (us : List Want) → TokensAt 0 (chars text) (front ++ t ∷ here) rest → run whole_wants (signs text front) ≡ Some us
     → feed us t.kind (bytes_at text t.span) ≡ None → BeginsPath text (front ++ t ∷ []) → ⊥
 never_begins text front here t rest us read ran refused b =
     let more = runs text (front ++ t ∷ []) here rest (subst (λ ps. TokensAt 0 (chars text) ps rest) (sym (append_assoc front (t ∷ []) here)) read) b in
     cc (more.1, fed_next text front t us ran, refused)
 
 -- but with one that is taken
-begins_next : (text : List ℕ) (front here : Lexemes) (t : Lexeme) (rest : List ℕ) (us vs : List Want) → IsUtf8 text → TokensAt 0 (chars text) (front ++ t ∷ here) rest → run whole_wants (signs text front) ≡ Some us
+pub begins_next : (text : List ℕ) (front here : Lexemes) (t : Lexeme) (rest : List ℕ) (us vs : List Want) → IsUtf8 text → TokensAt 0 (chars text) (front ++ t ∷ here) rest → run whole_wants (signs text front) ≡ Some us
     → feed us t.kind (bytes_at text t.span) ≡ Some vs → BeginsPath text (front ++ t ∷ [])
 begins_next text front here t rest us vs utf8 read ran fed =
     begins text (front ++ t ∷ []) here rest vs utf8 (subst (λ ps. TokensAt 0 (chars text) ps rest) (sym (append_assoc front (t ∷ []) here)) read) (fed_next text front t us ran ∙ fed)
@@ -234,7 +234,7 @@ refused_token text ts later t rest utf8 read h =
     (at_token front later t rest tokens (begins text front (t ∷ later) rest s.0.left utf8 tokens s.0.ran) (never_begins text front later t rest s.0.left tokens s.0.ran s.1))
 
 -- all tokens may begin a path
-begins_all : (text : List ℕ) (ts : Lexemes) (rest : List ℕ) → IsUtf8 text → TokensAt 0 (chars text) ts rest → (stop text whole_wants ts ≡ Some []) ⊎ (stop text whole_wants ts ≡ None) → BeginsPath text ts
+pub begins_all : (text : List ℕ) (ts : Lexemes) (rest : List ℕ) → IsUtf8 text → TokensAt 0 (chars text) ts rest → (stop text whole_wants ts ≡ Some []) ⊎ (stop text whole_wants ts ≡ None) → BeginsPath text ts
 begins_all text ts rest utf8 read (inl h) =
     let s = stopped text whole_wants ts [] h in
     let same : ts ≡ s.0.front = s.0.split ∙ append-nil s.0.front in
@@ -244,7 +244,7 @@ begins_all text ts rest utf8 read (inr h) =
     let r = all_ran text whole_wants ts h in
     begins text ts [] rest r.0 utf8 (subst (λ ps. TokensAt 0 (chars text) ps rest) (sym (append-nil ts)) read) r.1
 
-spelled_stops : (text : List ℕ) (ts : Lexemes) (p : Path) → SpellsPath text p ts → stop text whole_wants ts ≡ None
+pub spelled_stops : (text : List ℕ) (ts : Lexemes) (p : Path) → SpellsPath text p ts → stop text whole_wants ts ≡ None
 spelled_stops text ts p h = read_ends text ts p (complete_path text ts p h)
 
 tile_end : (from to : ℕ) (ps : Lexemes) → Tile from ps to → reach from ps ≡ to
@@ -252,12 +252,12 @@ tile_end from to [] h = h
 tile_end from to (p ∷ []) h = ap (λ n. n + p.span.offset) h.0 ∙ h.1
 tile_end from to (p ∷ q ∷ ps) h = tile_end (from + p.span.offset) to (q ∷ ps) h.1
 
-all_tokens : (text : List ℕ) (ts : Lexemes) → ts ≡ (reading_from 0 0 (chars text)).lexemes → TokensAt 0 (chars text) ts (reading_from 0 0 (chars text)).rest
+pub all_tokens : (text : List ℕ) (ts : Lexemes) → ts ≡ (reading_from 0 0 (chars text)).lexemes → TokensAt 0 (chars text) ts (reading_from 0 0 (chars text)).rest
 all_tokens text ts same =
     subst (λ ps. TokensAt 0 (chars text) ps (reading_from 0 0 (chars text)).rest) (sym same) (reads (suc (length (chars text))) 0 (chars text) (omega arith))
 
 -- a path that is written with these tokens alone
-path_there : (text : List ℕ) (ts : Lexemes) → TokensAt 0 (chars text) ts [] → IsInGrammar text → stop text whole_wants ts ≡ None
+pub path_there : (text : List ℕ) (ts : Lexemes) → TokensAt 0 (chars text) ts [] → IsInGrammar text → stop text whole_wants ts ≡ None
 path_there text ts read g = spelled_stops text ts g.0 (subst (SpellsPath text g.0) (ap (λ r. r.lexemes) (read_so read)) (found_spelled text g.0 g.1).1)
 
 -- behind all tokens, if they may begin a path
