@@ -12,7 +12,7 @@ pub mod ParseLemmas
 pub mod ListLemmas
 pub mod WholeTextLemmas
 pub mod WantsLemmas
-pub mod TidyLemmas
+pub mod ApartLemmas
 pub mod EndedLemmas
 pub mod RefusedAtLemmas
 pub mod ExpectedLemmas

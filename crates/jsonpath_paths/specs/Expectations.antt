@@ -1,5 +1,5 @@
 -- What could have stood where a text is refused, by what the grammar spells alone.
-use Rattle.std.specs.Prelude.{◌≡◌, ℕ, Bool, true, ◌&&◌, ◌||◌, is_some, IsTrue, ◌↔◌, List, [], ◌∷◌, ◌++◌, take}
+use Rattle.std.specs.Prelude.{◌≡◌, ℕ, Bool, true, ◌&&◌, ◌||◌, is_some, IsTrue, ◌↔◌, List, [], ◌∷◌, ◌++◌, take, All}
 use Rattle.std.specs.List.{list_any}
 use Rattle.std.specs.Str.{chars, IsUtf8}
 use Rattle.jsonpath_paths.specs.Grammar.{Lexemes, SpellsPath}
@@ -32,10 +32,20 @@ pub record IsLongestFront (text : List ℕ) (front : Lexemes) : Type 0 where
   pub begins : BeginsPath text front
   pub longest : (t : Lexeme) (ts : Lexemes) → later ≡ t ∷ ts → ¬ BeginsPath text (front ++ t ∷ [])
 
--- Behind that front another text may have another token: a path begins with it if and only if it is among those that are meant.
+-- some path begins with the front and goes on with a token that is meant
+pub record GoesOnWith (text : List ℕ) (front : Lexemes) (e : Expected) : Type 0 where
+  pub other : List ℕ
+  pub token : Lexeme
+  pub same : take (end_of front) other ≡ take (end_of front) text
+  pub begins : BeginsPath other (front ++ token ∷ [])
+  pub meant : is_meant e token.kind (bytes_at other token.span) ≡ true
+
+-- Behind that front another text may have another token: a path begins with it if and only if it is among those that are
+-- meant, and each of them goes on so.
 pub record AreExpected (text : List ℕ) (expected : List Expected) (may_end : Bool) : Type 0 where
   pub front : Lexemes
   pub longest : IsLongestFront text front
   pub tokens : (other : List ℕ) (t : Lexeme) (later : Lexemes) (rest : List ℕ) → IsUtf8 other → take (end_of front) other ≡ take (end_of front) text
       → TokensAt 0 (chars other) (front ++ t ∷ later) rest → BeginsPath other (front ++ t ∷ []) ↔ (list_any (λ e. is_meant e t.kind (bytes_at other t.span)) expected ≡ true)
+  pub each : All (λ e. GoesOnWith text front e) expected
   pub ends : IsTrue may_end ↔ ((p : Path) × SpellsPath text p front)

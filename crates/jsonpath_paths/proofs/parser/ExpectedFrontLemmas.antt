@@ -1,32 +1,39 @@
 -- The longest front of a text with which a path begins, and the tokens that are tried behind it.
-use Rattle.std.proofs.Common.{◌≡◌, ◌<◌, ◌≤◌, ◌+◌, ◌-◌, ℕ, Bool, true, false, List, [], ◌∷◌, ◌++◌, length, take, drop, Option, Some, None, refl, sym, subst, ap, ap₂, ◌∙◌, arith, ◌⊎◌, inl, inr, cond, append-nil, length-append}
+use Rattle.std.proofs.Common.{◌≡◌, ◌<◌, ◌≤◌, ◌+◌, ◌-◌, ℕ, Bool, true, false, List, [], ◌∷◌, ◌++◌, length, take, drop, Option, Some, None, refl, sym, subst, ap, ap₂, ◌∙◌, arith, ◌⊎◌, inl, inr, cond, get_or, append-nil, length-append}
 use Rattle.std.specs.Prelude.{is_some, is_none, unwrap_or, option_map, slice_index, ◌==◌, ◌↔◌}
 use Rattle.std.specs.List.{list_any}
 use Rattle.std.specs.Str.{chars, IsUtf8, IsCharBoundary}
 use Rattle.std.proofs.lemmas.Bool.{cases_lt}
 use Rattle.std.proofs.lemmas.List.{get_or_append_left, get_or-append_right, take_all, take_at}
+use Rattle.std.proofs.lemmas.List.Folds.{list_any_at}
 use Rattle.std.proofs.lemmas.List.Elements.{All-append, All-weaker, All-head, All-tail, All-cons, All-nil}
 use Rattle.std.proofs.lemmas.Str.{IsCharBoundary-start, IsCharBoundary-end}
 use Rattle.std.proofs.Math.Seq.{drop-append_seam, take-append_seam}
-use Rattle.jsonpath_paths.specs.Expectations.{IsLongestFront, AreExpected, is_meant}
+use Rattle.jsonpath_paths.specs.Expectations.{IsLongestFront, AreExpected, GoesOnWith, is_meant}
 use Rattle.jsonpath_paths.specs.Grammar.{Lexemes, SpellsPath}
+use Rattle.jsonpath_paths.specs.Literals.{truth_of}
+use Rattle.jsonpath_paths.specs.Numbers.{index_of, range_step_of, decimal_of, fraction_of}
 use Rattle.jsonpath_paths.specs.RefusedAt.{end_of, BeginsPath}
 use Rattle.jsonpath_paths.specs.Spelling.{IsInGrammar}
 use Rattle.jsonpath_paths.specs.text.Characters.{bytes_at}
 use Rattle.jsonpath_paths.specs.text.Spans.{IsSpan, AreSpans}
-use Rattle.jsonpath_paths.specs.token.Tokens.{TokensAt}
+use Rattle.jsonpath_paths.specs.token.Tokens.{TokensAt, lexeme}
 use Rattle.jsonpath_paths.specs.tree.Tree.{Path}
 use Rattle.jsonpath_paths.specs.declared.parser.expected.Expected.{Expected}
+use Rattle.jsonpath_paths.specs.declared.parser.expected.Expected.TheVariants.{Token}
 use Rattle.jsonpath_paths.specs.declared.parser.expected.TheConstants.{OTHER_KINDS}
 use Rattle.jsonpath_paths.specs.declared.text.str_reader.StrRange.{StrRange}
 use Rattle.jsonpath_paths.specs.declared.token.tokens.Kind.{Kind}
+use Rattle.jsonpath_paths.specs.declared.token.tokens.Kind.TheVariants as k
 use Rattle.jsonpath_paths.specs.declared.token.tokens.Lexeme.{Lexeme}
 use Rattle.jsonpath_paths.specs.plan.Expecting.{all_fed}
-use Rattle.jsonpath_paths.specs.plan.Wants.{Want, stop, stop_on, feed, run, signs, may_end, whole_wants}
+use Rattle.jsonpath_paths.specs.plan.Wants.{Want, Sign, stop, stop_on, feed, run, run_on, signs, may_end, whole_wants}
 use Rattle.jsonpath_paths.proofs.parser.DerivationLemmas.{sound_path}
 use Rattle.jsonpath_paths.proofs.parser.ExpectedLemmas.{all_meant}
 use Rattle.jsonpath_paths.proofs.parser.FollowPathLemmas.{ends_read}
-use Rattle.jsonpath_paths.proofs.parser.RefusedAtLemmas.{Refused, stopped, begins, begins_all, begins_next, never_begins, runs, run_stops, spelled_stops, path_there, signs_same, reach_end}
+use Rattle.jsonpath_paths.proofs.parser.RefusedAtLemmas.{Refused, stopped, begins, begins_all, begins_next, longer, never_begins, runs, run_stops, spelled_stops, path_there, signs_same, reach_end}
+use Rattle.jsonpath_paths.proofs.parser.SameKindLemmas.{true_same_kind}
+use Rattle.jsonpath_paths.proofs.parser.WantsLemmas.{sample}
 use Rattle.jsonpath_paths.proofs.token.FrontKeptLemmas.{Within, kept}
 use Rattle.jsonpath_paths.proofs.token.TokenizedLemmas.{read_so, found_spelled}
 
@@ -129,14 +136,51 @@ no_path text ts cs read none g =
 
 -- what may stand behind it
 
-pub are_expected : (text : List ℕ) (front : Lexemes) (expected : List Expected) (left : Option ℕ) → IsLongestFront text front
+abbrev named : Expected → Kind
+named (Token kind) = kind
+named _ = k.Key
+
+sample_meant : (e : Expected) → is_meant e (named e) (sample (named e)) ≡ true
+unfolding index_of range_step_of decimal_of fraction_of truth_of
+sample_meant (Token kind) = true_same_kind kind kind refl
+sample_meant _ = refl
+
+abbrev first_word : List Sign → List ℕ
+first_word [] = []
+first_word (s ∷ ss) = s.word
+
+-- the sample of each kind that is reported goes on
+goes_on_with : (text : List ℕ) (front later : Lexemes) (rest : List ℕ) (us : List Want) (e : Expected) → IsUtf8 text → TokensAt 0 (chars text) (front ++ later) rest → run whole_wants (signs text front) ≡ Some us
+    → is_some (feed us (named e) (sample (named e))) ≡ true → GoesOnWith text front e
+goes_on_with text front later rest us e utf8 read ran some = by_fed (feed us (named e) (sample (named e))) refl some
+  where
+    by_fed : (o : Option (List Want)) → feed us (named e) (sample (named e)) ≡ o → is_some o ≡ true → GoesOnWith text front e
+    by_fed None f h = cc h
+    by_fed (Some vs) f h =
+        let w = longer text front later rest us vs (named e ∷ []) utf8 read ran (ap (λ o. run_on o (λ ws. Some ws)) f) in
+        let t = lexeme (named e) w.pos (sample (named e)) in
+        let bytes : bytes_at w.other t.span ≡ sample (named e) = ap first_word w.added in
+        record {
+          other = w.other;
+          token = t;
+          same = w.same;
+          begins = begins_next w.other front [] t [] us vs w.utf8 w.read (ap (run whole_wants) w.kept_signs ∙ ran) (ap (feed us (named e)) bytes ∙ f);
+          meant = ap (is_meant e (named e)) bytes ∙ sample_meant e;
+        }
+
+pub are_expected : (text : List ℕ) (front : Lexemes) (expected : List Expected) (left : Option ℕ) → IsUtf8 text → IsLongestFront text front
     → ((us : List Want) → run whole_wants (signs text front) ≡ Some us → expected ≡ all_fed us OTHER_KINDS) → left ≡ option_map length (stop text whole_wants front) → AreExpected text expected (is_none left)
-are_expected text front expected left longest reported ended =
+are_expected text front expected left utf8 longest reported ended =
     let r = runs text front longest.later longest.rest longest.read longest.begins in
     record {
       front = front;
       longest = longest;
       tokens = λ other t later rest utf8 same read. behind r.0 r.1 other t later rest utf8 same read;
+      each = λ i d less.
+          let e = get_or expected i d in
+          let meant = list_any_at (λ e'. is_meant e' (named e) (sample (named e))) expected i d less (sample_meant e) in
+          goes_on_with text front longest.later longest.rest r.0 e utf8 longest.read r.1
+          (sym (ap (list_any (λ e'. is_meant e' (named e) (sample (named e)))) (reported r.0 r.1) ∙ all_meant r.0 (named e) (sample (named e))) ∙ meant);
       ends = (
         λ h. let path = ends_read text front (none_left (stop text whole_wants front) (subst (λ o. is_none o ≡ true) ended h)) in (path.0, sound_path text front path.0 path.1),
         λ p. subst (λ o. is_none o ≡ true) (sym ended) (ap (λ o. is_none (option_map length o)) (spelled_stops text front p.0 p.1)),

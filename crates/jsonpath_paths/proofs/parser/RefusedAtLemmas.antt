@@ -12,6 +12,7 @@ use Rattle.jsonpath_paths.specs.RefusedAt.{end_of, BeginsPath, place_in, Refused
 use Rattle.jsonpath_paths.specs.tree.Tree.{Path}
 use Rattle.jsonpath_paths.specs.text.Characters.{byte_len, byte_len_is, bytes_at, is_quote}
 use Rattle.jsonpath_paths.specs.token.Tokens.{TokensAt}
+use Rattle.jsonpath_paths.specs.declared.token.tokens.Kind.{Kind}
 use Rattle.jsonpath_paths.specs.declared.token.tokens.Lexeme.{Lexeme}
 use Rattle.jsonpath_paths.specs.declared.token.tokens.TokenError.{TokenError}
 use Rattle.jsonpath_paths.specs.declared.token.tokens.TokenError.TheVariants.{Eof}
@@ -19,10 +20,10 @@ use Rattle.jsonpath_paths.specs.Spelling.{IsInGrammar}
 use Rattle.jsonpath_paths.specs.WholeText.{place_after, place_of_text}
 use Rattle.jsonpath_paths.specs.plan.Wants.{Want, Sign, signs, stop, stop_on, feed, run, run_on, may_end, whole_wants}
 use Rattle.jsonpath_paths.proofs.parser.DerivationLemmas.{sound_path, complete_path}
-use Rattle.jsonpath_paths.proofs.parser.EndedLemmas.{characters_of, lexemes_of, added_end, added_tokens, added_scalars, added_signs}
+use Rattle.jsonpath_paths.proofs.parser.EndedLemmas.{characters_of, lexemes_of, ends_there, added_tokens, added_scalars, added_signs}
 use Rattle.jsonpath_paths.proofs.parser.FollowPathLemmas.{read_ends, ends_read}
-use Rattle.jsonpath_paths.proofs.parser.TidyLemmas.{fine, stays_fed, stays_run, clean_run, fine_real, fine_hard, clean_hard}
-use Rattle.jsonpath_paths.proofs.parser.WantsLemmas.{endings, goes_on, run_behind}
+use Rattle.jsonpath_paths.proofs.parser.ApartLemmas.{Apart, safe, fed_safe, safe_real}
+use Rattle.jsonpath_paths.proofs.parser.WantsLemmas.{endings, kinds_of, samples, goes_on, all_end, run_behind}
 use Rattle.jsonpath_paths.proofs.token.FrontKeptLemmas.{reach, Within, LastEnds, kept}
 use Rattle.jsonpath_paths.proofs.tree.FencedLemmas.{At, scalars_parts}
 use Rattle.jsonpath_paths.proofs.token.TokenizedLemmas.{reads, read_so, found_spelled}
@@ -123,17 +124,32 @@ signs_same n here there (p ∷ ps) e h =
     sym (cut_within p.span.pos p.span.offset n here h.0) ∙ (ap (λ x. take p.span.offset (drop p.span.pos x)) e ∙ cut_within p.span.pos p.span.offset n there h.0) in
     ap₂ (λ (w : List ℕ) (more : List Sign). record { kind = p.kind; word = w } ∷ more) bytes (signs_same n here there ps e h.1)
 
--- a path that begins with the tokens that ran
+-- what the last of these tokens leaves takes none that it may be longer by
+abbrev LastApart : Lexemes → List Want → Type 0
+LastApart [] us = Unit {0}
+LastApart (p ∷ []) us = Apart p.kind us
+LastApart (p ∷ q ∷ ps) us = LastApart (q ∷ ps) us
 
-last_ends : (text : List ℕ) (vs us : List Want) (ps : Lexemes) → fine vs ≡ true → run vs (signs text ps) ≡ Some us → LastEnds ps (characters_of (endings us))
-last_ends text vs us [] f h = tt
-last_ends text vs us (p ∷ []) f h = λ test may. added_end (endings us) p.kind test may (λ e. clean_hard us (clean_run vs us [] (record { kind = p.kind; word = bytes_at text p.span }) f h e))
-last_ends text vs us (p ∷ q ∷ ps) f h = by_fed (feed vs p.kind (bytes_at text p.span)) refl h (λ ws g i. last_ends text ws us (q ∷ ps) g i)
+ran_apart : (text : List ℕ) (vs us : List Want) (ps : Lexemes) → safe vs ≡ true → run vs (signs text ps) ≡ Some us → (safe us ≡ true) × LastApart ps us
+ran_apart text vs us [] s h = (subst (λ x. safe x ≡ true) (some_same vs us h) s, tt)
+ran_apart text vs us (p ∷ ps) s h = by_fed (feed vs p.kind (bytes_at text p.span)) refl h (λ ws g i. ran_apart text ws us ps g i)
   where
-    by_fed : (o : Option (List Want)) → feed vs p.kind (bytes_at text p.span) ≡ o → run_on o (λ ws. run ws (signs text (q ∷ ps))) ≡ Some us
-        → ((ws : List Want) → fine ws ≡ true → run ws (signs text (q ∷ ps)) ≡ Some us → LastEnds (q ∷ ps) (characters_of (endings us))) → LastEnds (q ∷ ps) (characters_of (endings us))
+    last : (ws : List Want) (ps : Lexemes) → run ws (signs text ps) ≡ Some us → Apart p.kind ws → LastApart ps us → LastApart (p ∷ ps) us
+    last ws [] h a b = subst (Apart p.kind) (some_same ws us h) a
+    last ws (q ∷ ps) h a b = b
+
+    by_fed : (o : Option (List Want)) → feed vs p.kind (bytes_at text p.span) ≡ o → run_on o (λ ws. run ws (signs text ps)) ≡ Some us
+        → ((ws : List Want) → safe ws ≡ true → run ws (signs text ps) ≡ Some us → (safe us ≡ true) × LastApart ps us) → (safe us ≡ true) × LastApart (p ∷ ps) us
     by_fed None e h more = cc h
-    by_fed (Some ws) e h more = more ws (stays_fed vs ws p.kind (bytes_at text p.span) f e).0 h
+    by_fed (Some ws) e h more =
+        let left = fed_safe vs ws p.kind (bytes_at text p.span) s e in
+        let r = more ws left.0 h in
+        (r.0, last ws ps h left.1 r.1)
+
+last_ends : (us vs : List Want) (ps : Lexemes) (kinds : List Kind) → LastApart ps us → run us (samples kinds) ≡ Some vs → LastEnds ps (characters_of kinds)
+last_ends us vs [] kinds a h = tt
+last_ends us vs (p ∷ []) kinds a h = λ test g. ends_there us vs p.kind kinds test a h g
+last_ends us vs (p ∷ q ∷ ps) kinds a h = last_ends us vs (q ∷ ps) kinds a h
 
 pub reach_end : (front : Lexemes) → reach 0 front ≡ end_of front
 reach_end [] = refl
@@ -146,40 +162,59 @@ scalars_upon : (xs ys : List ℕ) → scalars xs ≡ true → scalars ys ≡ tru
 scalars_upon [] ys h i = i
 scalars_upon (x ∷ xs) ys h i = let p = and_parts _ _ h in and_from _ _ p.0 (scalars_upon xs ys p.1 i)
 
-pub begins : (text : List ℕ) (front here : Lexemes) (rest : List ℕ) (us : List Want) → IsUtf8 text → TokensAt 0 (chars text) (front ++ here) rest → run whole_wants (signs text front) ≡ Some us
-    → BeginsPath text front
-begins text front here rest us utf8 read ran =
+-- a text that begins with the tokens that ran, and goes on with samples that may come next
+pub record Longer (text : List ℕ) (front : Lexemes) (kinds : List Kind) : Type 0 where
+  pub other : List ℕ
+  pub pos : ℕ
+  pub utf8 : IsUtf8 other
+  pub same : take (end_of front) other ≡ take (end_of front) text
+  pub read : TokensAt 0 (chars other) (front ++ lexemes_of pos kinds) []
+  pub kept_signs : signs other front ≡ signs text front
+  pub added : signs other (lexemes_of pos kinds) ≡ samples kinds
+
+pub longer : (text : List ℕ) (front here : Lexemes) (rest : List ℕ) (us vs : List Want) (kinds : List Kind) → IsUtf8 text → TokensAt 0 (chars text) (front ++ here) rest → run whole_wants (signs text front) ≡ Some us
+    → run us (samples kinds) ≡ Some vs → Longer text front kinds
+longer text front here rest us vs kinds utf8 read ran next =
     let k = kept front here (chars text) rest read in
     let fc = k.characters in
-    let es = endings us in
-    let w = characters_of es in
+    let w = characters_of kinds in
     let other : List ℕ = encodes (fc ++ w) in
-    let later = lexemes_of (0 + byte_len fc) es in
+    let later = lexemes_of (0 + byte_len fc) kinds in
     let end : end_of front ≡ byte_len fc = sym (reach_end front) ∙ (k.end ∙ omega arith) in
     let text_is : text ≡ encodes (fc ++ k.tail) = sym (encodes-chars text utf8) ∙ ap encodes k.split in
     let same : take (end_of front) other ≡ take (end_of front) text =
     ap (λ n. take n other) end ∙ (front_bytes fc w ∙ (sym (front_bytes fc k.tail) ∙ (ap (take (byte_len fc)) (sym text_is) ∙ ap (λ n. take n text) (sym end)))) in
     let front_scalars = (scalars_parts fc k.tail (subst (λ x. scalars x ≡ true) k.split (scalars-chars text utf8))).0 in
-    let all_scalars = scalars_upon fc w front_scalars (added_scalars es) in
-    let is_fine : fine us ≡ true = stays_run whole_wants us (signs text front) refl ran in
+    let all_scalars = scalars_upon fc w front_scalars (added_scalars kinds) in
+    let apart = ran_apart text whole_wants us front refl ran in
     let there : At other (0 + byte_len fc) w = (
       omega (arith, byte_len_is fc, ap length (encodes-append fc w), length-append (encodes fc) (encodes w)),
-      added_scalars es,
+      added_scalars kinds,
       ap₂ (λ n xs. drop n xs) (let e : 0 + byte_len fc ≡ length (encodes fc) = omega (arith, byte_len_is fc) in e) (encodes-append fc w) ∙ drop-append_seam (encodes fc) (encodes w),
     ) in
-    let tokens : TokensAt 0 (fc ++ w) (front ++ later) [] = k.again w later (last_ends text whole_wants us front refl ran) (added_tokens (0 + byte_len fc) es (fine_hard us is_fine)) in
+    let tokens : TokensAt 0 (fc ++ w) (front ++ later) [] = k.again w later (last_ends us vs front kinds apart.1 next) (added_tokens (0 + byte_len fc) us vs kinds apart.0 next) in
     let within : Within (end_of front) front = subst (λ n. Within n front) (sym (sym (reach_end front) ∙ k.end)) k.within in
-    let all_signs = signs_upon other front later ∙ ap₂ (λ a b. a ++ b) (signs_same (end_of front) other text front same within) (added_signs other (0 + byte_len fc) es there) in
-    let goes = goes_on whole_wants us (signs text front) ran (fine_real us is_fine) in
-    let path = ends_read other (front ++ later) (stops_behind other goes.left (front ++ later) (ap (run whole_wants) all_signs ∙ goes.ran) ∙ ap (λ b. cond {A = Option Lexemes} b None (Some [])) goes.ended) in
     record {
-      whole = other;
-      later = later;
-      path = path.0;
+      other = other;
+      pos = 0 + byte_len fc;
+      utf8 = (fc ++ w, (all_scalars, refl));
       same = same;
       read = subst (λ cs. TokensAt 0 cs (front ++ later) []) (sym (chars-encodes (fc ++ w) all_scalars)) tokens;
-      spelled = sound_path other (front ++ later) path.0 path.1;
+      kept_signs = signs_same (end_of front) other text front same within;
+      added = added_signs other (0 + byte_len fc) kinds there;
     }
+
+-- a path that begins with the tokens that ran
+pub begins : (text : List ℕ) (front here : Lexemes) (rest : List ℕ) (us : List Want) → IsUtf8 text → TokensAt 0 (chars text) (front ++ here) rest → run whole_wants (signs text front) ≡ Some us
+    → BeginsPath text front
+begins text front here rest us utf8 read ran =
+    let kinds = kinds_of (endings us) in
+    let real = safe_real us (ran_apart text whole_wants us front refl ran).0 in
+    let w = longer text front here rest us (all_end us real).left kinds utf8 read ran (all_end us real).ran in
+    let later = lexemes_of w.pos kinds in
+    let goes = goes_on whole_wants us (signs text front) ran real in
+    let path = ends_read w.other (front ++ later) (stops_behind w.other goes.left (front ++ later) (ap (run whole_wants) (signs_upon w.other front later ∙ ap₂ (λ a b. a ++ b) w.kept_signs w.added) ∙ goes.ran) ∙ ap (λ b. cond {A = Option Lexemes} b None (Some [])) goes.ended) in
+    record { whole = w.other; later = later; path = path.0; same = w.same; read = w.read; spelled = sound_path w.other (front ++ later) path.0 path.1 }
 
 -- with which a path begins, they ran
 

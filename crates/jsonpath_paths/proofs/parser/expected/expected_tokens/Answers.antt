@@ -14,5 +14,5 @@ returns-clause-expected c =
     let ended : left ≡ option_map length (stop text whole_wants front) = search rules in
     let same : is_none left ≡ c.is_none-end.result = search rules in
     subst (AreExpected text c.in_ok-tokens.tokens.items) same
-    (are_expected text front c.in_ok-tokens.tokens.items left longest
+    (are_expected text front c.in_ok-tokens.tokens.items left c.utf8.text longest
     (λ us ran. c.in_ok-tokens.ensures us (subst (λ ts. run whole_wants (signs text ts) ≡ Some us) (sym c.as_slice.ensures.value) ran)) ended)
