@@ -1,12 +1,12 @@
 -- Tokens that may come one after the other are tokens of their own: none of them is longer by the one behind it.
-use Rattle.std.proofs.Common.{◌≡◌, ℕ, zero, Bool, true, false, not, List, [], ◌∷◌, ◌++◌, Option, Some, None, refl, subst, ap, ap₂, ◌∙◌}
+use Rattle.std.proofs.Common.{◌≡◌, ℕ, zero, Bool, true, false, not, List, [], ◌∷◌, ◌++◌, Some, None, refl, subst}
 use Rattle.std.specs.Prelude.{◌&&◌, ◌||◌, is_some, if◌then◌else◌}
 use Rattle.std.proofs.lemmas.Bool.{and_from, and_parts}
 use Rattle.jsonpath_paths.specs.Literals.{truth_of}
 use Rattle.jsonpath_paths.specs.Numbers.{index_of, range_step_of, decimal_of}
 use Rattle.jsonpath_paths.specs.declared.token.tokens.Kind.{Kind}
 use Rattle.jsonpath_paths.specs.declared.token.tokens.Kind.TheVariants as k
-use Rattle.jsonpath_paths.specs.plan.Wants.{Want, Reaction, dollar, blanks, steps, step, word, after_dot, after_dots, close, inner, plain, indexes_range_or_names, range_or_names, after_first_index, more_indexes, index, range_to, range_by, range_step, after_name, more_names, quoted, open_group, condition, part, candidate_tail, behind_blank, tail, sign, term, literal, fraction, digits, move, moved, feed, takes, passes, refuses, if_word, literal_word, behind_left_side, may_pass}
+use Rattle.jsonpath_paths.specs.plan.Wants.{Want, Reaction, dollar, blanks, steps, step, word, after_dot, after_dots, close, inner, plain, indexes_range_or_names, after_first_index, more_indexes, index, range_to, range_step, after_name, more_names, quoted, open_group, condition, part, candidate_tail, behind_blank, tail, sign, term, literal, fraction, digits, move, moved, feed, takes, passes, refuses, if_word, literal_word, behind_left_side, may_pass}
 use Rattle.jsonpath_paths.proofs.parser.SoundLemmas.{some_same}
 use Rattle.jsonpath_paths.proofs.parser.WantsLemmas.{real, all_real}
 

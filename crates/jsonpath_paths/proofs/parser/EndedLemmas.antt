@@ -1,5 +1,5 @@
 -- Samples of tokens that the machine takes one after the other, as characters: they are these tokens.
-use Rattle.std.proofs.Common.{◌≡◌, ◌<◌, ℕ, ◌+◌, Bool, true, false, List, [], ◌∷◌, ◌++◌, length, Some, None, Option, refl, sym, ap, ap₂, ◌∙◌, arith, append-nil}
+use Rattle.std.proofs.Common.{◌≡◌, ◌<◌, ℕ, ◌+◌, Bool, true, false, List, [], ◌∷◌, ◌++◌, length, Some, None, Option, refl, ap₂, ◌∙◌, arith}
 use Rattle.std.specs.Char.{is_whitespace}
 use lib.Utf8.{scalars, encodes, encode}
 use Rattle.jsonpath_paths.specs.Grammar.{Lexemes}
@@ -9,11 +9,11 @@ use Rattle.jsonpath_paths.specs.token.Tokens.{TokensAt, no_token, lexeme}
 use Rattle.jsonpath_paths.specs.declared.token.tokens.Kind.{Kind}
 use Rattle.jsonpath_paths.specs.declared.token.tokens.Kind.TheVariants as k
 use Rattle.jsonpath_paths.specs.plan.Wants.{Want, Sign, feed, run, run_on, signs}
-use Rattle.jsonpath_paths.proofs.parser.ApartLemmas.{Touch, words, white, equals, starts, runs_on, quiet, safe, Apart, fed_safe, quiet_refuses}
+use Rattle.jsonpath_paths.proofs.parser.ApartLemmas.{Touch, words, white, equals, starts, runs_on, safe, Apart, fed_safe, quiet_refuses}
 use Rattle.jsonpath_paths.proofs.parser.WantsLemmas.{sample, samples}
 use Rattle.jsonpath_paths.proofs.token.FoundLemmas.{first_is}
 use Rattle.jsonpath_paths.proofs.token.LongestLemmas.{first_has_none}
-use Rattle.jsonpath_paths.proofs.token.KeptLemmas.{IsAt, ends, is_equals, GoesOn, dollar_word_on, dollar_on, word_on, blanks_on, greater_on, little_on, first_stays}
+use Rattle.jsonpath_paths.proofs.token.KeptLemmas.{ends, is_equals, GoesOn, dollar_word_on, dollar_on, word_on, blanks_on, greater_on, little_on, first_stays}
 use Rattle.jsonpath_paths.proofs.tree.FencedLemmas.{At, at_next, token_then}
 
 abbrev pub characters_of : List Kind → List ℕ

@@ -1,5 +1,5 @@
 -- The longest front of a text with which a path begins, and the tokens that are tried behind it.
-use Rattle.std.proofs.Common.{◌≡◌, ◌<◌, ◌≤◌, ◌+◌, ◌-◌, ℕ, Bool, true, false, List, [], ◌∷◌, ◌++◌, length, take, drop, Option, Some, None, refl, sym, subst, ap, ap₂, ◌∙◌, arith, ◌⊎◌, inl, inr, cond, get_or, append-nil, length-append}
+use Rattle.std.proofs.Common.{◌≡◌, ◌<◌, ◌≤◌, ◌+◌, ◌-◌, ℕ, Bool, true, false, List, [], ◌∷◌, ◌++◌, length, take, Option, Some, None, refl, sym, subst, ap, ◌∙◌, arith, ◌⊎◌, inl, inr, cond, get_or, append-nil, length-append}
 use Rattle.std.specs.Prelude.{is_some, is_none, unwrap_or, option_map, slice_index, ◌==◌, ◌↔◌}
 use Rattle.std.specs.List.{list_any}
 use Rattle.std.specs.Str.{chars, IsUtf8, IsCharBoundary}
@@ -10,7 +10,7 @@ use Rattle.std.proofs.lemmas.List.Elements.{All-append, All-weaker, All-head, Al
 use Rattle.std.proofs.lemmas.Str.{IsCharBoundary-start, IsCharBoundary-end}
 use Rattle.std.proofs.Math.Seq.{drop-append_seam, take-append_seam}
 use Rattle.jsonpath_paths.specs.Expectations.{IsLongestFront, AreExpected, GoesOnWith, is_meant}
-use Rattle.jsonpath_paths.specs.Grammar.{Lexemes, SpellsPath}
+use Rattle.jsonpath_paths.specs.Grammar.{Lexemes}
 use Rattle.jsonpath_paths.specs.Literals.{truth_of}
 use Rattle.jsonpath_paths.specs.Numbers.{index_of, range_step_of, decimal_of, fraction_of}
 use Rattle.jsonpath_paths.specs.RefusedAt.{end_of, BeginsPath}
@@ -18,7 +18,6 @@ use Rattle.jsonpath_paths.specs.Spelling.{IsInGrammar}
 use Rattle.jsonpath_paths.specs.text.Characters.{bytes_at}
 use Rattle.jsonpath_paths.specs.text.Spans.{IsSpan, AreSpans}
 use Rattle.jsonpath_paths.specs.token.Tokens.{TokensAt, lexeme}
-use Rattle.jsonpath_paths.specs.tree.Tree.{Path}
 use Rattle.jsonpath_paths.specs.declared.parser.expected.Expected.{Expected}
 use Rattle.jsonpath_paths.specs.declared.parser.expected.Expected.TheVariants.{Token}
 use Rattle.jsonpath_paths.specs.declared.parser.expected.TheConstants.{OTHER_KINDS}

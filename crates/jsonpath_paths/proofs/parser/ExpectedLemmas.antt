@@ -15,7 +15,7 @@ use Rattle.jsonpath_paths.specs.declared.parser.expected.TheConstants.{OTHER_KIN
 use Rattle.jsonpath_paths.specs.declared.token.tokens.Kind.{Kind}
 use Rattle.jsonpath_paths.specs.declared.token.tokens.Kind.TheVariants as k
 use Rattle.jsonpath_paths.specs.plan.Expecting.{kinds_fed, word_fed, all_fed}
-use Rattle.jsonpath_paths.specs.plan.Wants.{Want, Reaction, dollar, blanks, steps, step, word, after_dot, after_dots, inner, plain, indexes_range_or_names, after_first_index, more_indexes, index, range_to, range_by, range_step, after_name, more_names, condition, part, term, literal, fraction, digits, move, moved, feed, if_word, literal_word, takes, passes, refuses}
+use Rattle.jsonpath_paths.specs.plan.Wants.{Want, dollar, blanks, steps, word, after_dot, after_dots, inner, plain, indexes_range_or_names, after_first_index, more_indexes, index, range_to, range_by, range_step, after_name, more_names, condition, part, term, literal, fraction, digits, move, moved, feed, if_word, literal_word, takes}
 use Rattle.jsonpath_paths.proofs.parser.SameKindLemmas.{same_kind_true}
 
 -- the words that may come next

@@ -191,8 +191,3 @@ pub goes_on : (ws us : List Want) (ts : List Sign) → run ws ts ≡ Some us →
 goes_on ws us ts h r =
     let e = all_end us r in
     record { left = e.left; ran = run_behind ws ts (signs_of (endings us)) ∙ ap (λ o. run_on o (λ vs. run vs (signs_of (endings us)))) h ∙ e.ran; ended = e.ended }
-
--- and behind a token that may not come next nothing helps
-pub nothing_helps : (ws us : List Want) (ts more : List Sign) (t : Sign) → run ws ts ≡ Some us → feed us t.kind t.word ≡ None → run ws (ts ++ t ∷ more) ≡ None
-nothing_helps ws us ts more t h e =
-    run_behind ws ts (t ∷ more) ∙ ap (λ o. run_on o (λ vs. run vs (t ∷ more))) h ∙ ap (λ o. run_on o (λ vs. run vs more)) e

@@ -1,5 +1,5 @@
 -- Which tokens are tried behind others, and what is told of those that may come next.
-use Rattle.std.specs.Prelude.{ℕ, List, [], ◌∷◌, ◌++◌, Option, Some, None, is_some, if◌then◌else◌, codes}
+use Rattle.std.specs.Prelude.{List, [], ◌∷◌, ◌++◌, Option, Some, None, is_some, if◌then◌else◌, codes}
 use Rattle.std.specs.Option.{option_to_list}
 use Rattle.jsonpath_paths.specs.declared.parser.expected.Expected.{Expected}
 use Rattle.jsonpath_paths.specs.declared.parser.expected.Expected.TheVariants.{Token, Index, RangeStep, Literal, Fraction}

@@ -1,6 +1,6 @@
 //! What could have been where a path text has a syntax error.
 
-ghost use Rattle.std.specs.Prelude.{◌≡◌, ◌++◌, List, Some, IfOk, IfSome, IfNone, is_some, length, option_map};
+ghost use Rattle.std.specs.Prelude.{◌≡◌, List, Some, IfOk, IfSome, IfNone, is_some, length, option_map};
 ghost use Rattle.jsonpath_paths.specs.Expectations.{AreExpected, IsLongestFront};
 ghost use Rattle.jsonpath_paths.specs.Spelling.{IsInGrammar};
 ghost use Rattle.jsonpath_paths.specs.plan.Wants.{Want, feed, run, signs, stop, whole_wants};
