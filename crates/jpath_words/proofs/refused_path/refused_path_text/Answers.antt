@@ -1,6 +1,5 @@
-use Rattle.std.proofs.Common.{◌++◌, append_assoc, codes, rules, arith}
+use Rattle.std.proofs.Common.{◌++◌, codes}
 use Rattle.std.proofs.lemmas.Result.{IfOk-weaker}
-use Rattle.std.proofs.lemmas.Grind.{common_steps}
 use Rattle.jpath_words.proofs.refused_path.refused_path_text.Goals as goal
 
 pub returns : goal.returns
