@@ -1,5 +1,9 @@
 //! Hints on what to write in place of a path with a syntax error, and a warning about `&&` beside `||`.
 
+ghost use Rattle.std.specs.Prelude.{◌≢◌, IfOk, IfSome, slice_index, string_bytes};
+ghost use Rattle.jpath_words.specs.Refusals.{BeginsWithRoot};
+ghost use Rattle.jsonpath_paths.specs.Spelling.{IsInGrammar};
+
 use jsonpath_paths::{PathParser, Token, Tokenizer};
 use std::alloc::{AllocError, Global};
 
@@ -21,8 +25,10 @@ const NO_BACKWARDS: &str = "a range has no negative step: it never runs backward
 const PARENTHESES: &str = "a filter's condition stands in parentheses: [?(@.price < 10)]";
 
 /// A sentence on what to write instead of a path text that has a syntax error at byte `at`, or an empty text if no hint
-/// is known.
-pub fn hint_for_refused_path(alloc: Global, path: &str, at: usize) -> Result<String, AllocError> {
+/// is known. The only error is that memory runs out.
+pub fn hint_for_refused_path(alloc: Global, path: &str, at: usize) -> Result<String, AllocError>
+    ensures { IfOk result (λ hint. slice_index path.now 0 ≢ 36 → BeginsWithRoot (string_bytes hint)) }
+{
     if !path.starts_with('$') {
         return hint_to_begin_with_root(alloc, path);
     }
@@ -51,7 +57,9 @@ pub fn hint_for_refused_path(alloc: Global, path: &str, at: usize) -> Result<Str
 }
 
 // The sentence for a text that begins with no `$`: to write it with `$` in front, if it is a path then.
-fn hint_to_begin_with_root(alloc: Global, path: &str) -> Result<String, AllocError> {
+fn hint_to_begin_with_root(alloc: Global, path: &str) -> Result<String, AllocError>
+    ensures { IfOk result (λ hint. BeginsWithRoot (string_bytes hint)) }
+{
     let dot = if path.starts_with('.') || path.starts_with('[') {
         ""
     } else {
@@ -74,7 +82,9 @@ fn hint_to_begin_with_root(alloc: Global, path: &str) -> Result<String, AllocErr
 
 // The path text with parentheses about the condition of its first filter, as `[?(..)]`. `None` where it has no filter,
 // where they stand there, or where it is no path with them.
-fn path_with_parentheses(alloc: Global, path: &str) -> Result<Option<String>, AllocError> {
+fn path_with_parentheses(alloc: Global, path: &str) -> Result<Option<String>, AllocError>
+    ensures { IfOk result (λ o. IfSome o (λ fixed. IsInGrammar (string_bytes fixed))) }
+{
     let Some(open) = path.find("[?") else {
         return Ok(None);
     };

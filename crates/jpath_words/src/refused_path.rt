@@ -1,36 +1,112 @@
 //! How a syntax error in a path is printed: the text, a caret under the position, and a hint.
 
+ghost use Rattle.std.specs.Prelude.{IfOk, string_bytes};
+ghost use Rattle.jpath_words.specs.Refusals.{ShowsPath};
+
 use crate::hints::hint_for_refused_path;
-use jsonpath_paths::{PathParser, TokenError, Tokenizer};
+use jsonpath_paths::{Expected, Kind, PathParser, TokenError, Tokenizer, expected_tokens};
 use std::alloc::{AllocError, Global};
 use unicode_width::UnicodeWidthStr;
 
-/// Prints on standard error why a path text is no path: the text, a caret under the position of the syntax error, and a
-/// hint, if there is one. For the error `OutOfMemory` it prints `out of memory` instead.
+/// Prints on standard error why a path text is no path: the text, a caret under the position of the syntax error, what
+/// could have been there, and a hint, if there is one. If memory runs out, it prints `out of memory` instead.
 pub fn tell_refused_path(rt: &(impl Eprint + Alloc<A = Global>), path: &str, error: &TokenError) {
-    if let TokenError::OutOfMemory = error {
-        let _ = eprintln!(rt; "jpath: out of memory");
-        return;
+    match refused_path_text(rt.alloc(), path, error) {
+        Ok(text) => {
+            let text = text.as_str();
+            let _ = eprint!(rt; "{text}");
+        }
+        Err(AllocError) => {
+            let _ = eprintln!(rt; "jpath: out of memory");
+        }
     }
-    let at = refused_position(rt.alloc(), path, error);
+}
+
+// What `tell_refused_path` prints. The only error is that memory runs out.
+fn refused_path_text(alloc: Global, path: &str, error: &TokenError) -> Result<String, AllocError>
+    ensures { IfOk result (λ text. ShowsPath path.now (string_bytes text)) }
+{
+    if let TokenError::OutOfMemory = error {
+        return Err(AllocError);
+    }
+    let at = refused_position(alloc, path, error);
     let before = path.get(..at).unwrap_or(path);
     let what = if at < path.len() {
         "is refused here"
     } else {
         "ends too early"
     };
-    let _ = eprintln!(rt; "jpath: the path {what}");
-    let _ = eprintln!(rt; "  {path}");
-    if let Ok(blanks) = row_of_blanks(rt.alloc(), before.width()) {
-        let blanks = blanks.as_str();
-        let _ = eprintln!(rt; "  {blanks}^");
-    }
-    if let Ok(hint) = hint_for_refused_path(rt.alloc(), path, at) {
-        if !hint.is_empty() {
-            let hint = hint.as_str();
-            let _ = eprintln!(rt; "hint: {hint}");
+    let blanks = row_of_blanks(alloc, before.width())?;
+    let expected = expected_line(alloc, path)?;
+    let hint = hint_line(alloc, path, at)?;
+    let (blanks, expected, hint) = (blanks.as_str(), expected.as_str(), hint.as_str());
+    format!(in alloc; "jpath: the path {what}\n  {path}\n  {blanks}^\n{expected}{hint}")
+}
+
+// The row with what could have been at the error of a path text, or an empty text if it is a path.
+fn expected_line(alloc: Global, path: &str) -> Result<String, AllocError> {
+    let mut line = String::new(alloc);
+    let Some(expected) = expected_tokens(alloc, path)? else {
+        return Ok(line);
+    };
+    let mut before = "expected: ";
+    for token in expected.tokens.iter() {
+        let words = words_for(token);
+        if !words.is_empty() {
+            line.push_str(before)?;
+            line.push_str(words)?;
+            before = ", ";
         }
     }
+    if expected.end {
+        line.push_str(before)?;
+        line.push_str("the end")?;
+    }
+    line.push('\n')?;
+    Ok(line)
+}
+
+// How tokens are named that could have been at an error. Empty for blanks, and where others of the same words are named.
+fn words_for(expected: &Expected) -> &'static str {
+    match expected {
+        Expected::Index => "an index",
+        Expected::RangeStep => "a step",
+        Expected::Literal => "a number, true or false",
+        Expected::Fraction => "digits",
+        Expected::Token(kind) => words_for_kind(*kind),
+    }
+}
+
+fn words_for_kind(kind: Kind) -> &'static str {
+    match kind {
+        Kind::Absolute => "\"$\"",
+        Kind::At => "\"@\"",
+        Kind::Dot => "\".\"",
+        Kind::OpenArray => "\"[\"",
+        Kind::CloseArray => "\"]\"",
+        Kind::Asterisk => "\"*\"",
+        Kind::Question => "\"?\"",
+        Kind::SingleQuoted => "a quoted text",
+        Kind::Comma => "\",\"",
+        Kind::Split => "\":\"",
+        Kind::OpenParenthesis => "\"(\"",
+        Kind::CloseParenthesis => "\")\"",
+        Kind::Equal => "a comparison",
+        Kind::And => "\"&&\"",
+        Kind::Or => "\"||\"",
+        Kind::Key => "a name",
+        _ => "",
+    }
+}
+
+// The row with a hint, or an empty text if there is none.
+fn hint_line(alloc: Global, path: &str, at: usize) -> Result<String, AllocError> {
+    let hint = hint_for_refused_path(alloc, path, at)?;
+    if hint.is_empty() {
+        return Ok(hint);
+    }
+    let hint = hint.as_str();
+    format!(in alloc; "hint: {hint}\n")
 }
 
 // A text of so many blanks, which puts the caret under its place.

@@ -12,9 +12,11 @@ pub mod ParseLemmas
 pub mod ListLemmas
 pub mod WholeTextLemmas
 pub mod WantsLemmas
-pub mod TidyLemmas
+pub mod ApartLemmas
 pub mod EndedLemmas
 pub mod RefusedAtLemmas
+pub mod ExpectedLemmas
+pub mod ExpectedFrontLemmas
 pub mod RefusedWithinLemmas
 pub mod StopLemmas
 pub mod DeeperStopLemmas

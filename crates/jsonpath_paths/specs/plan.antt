@@ -7,3 +7,4 @@ pub mod PathAnswer
 pub mod Handed
 pub mod Wants
 pub mod RefusedPlace
+pub mod Expecting

@@ -14,7 +14,7 @@ ghost use Rattle.jsonpath_paths.specs.tree.Tree.{Path, is_comparison};
 ghost use Rattle.jsonpath_paths.specs.tree.Visit.{path_tokens};
 ghost use Rattle.jsonpath_paths.specs.tree.WellFormed.{IsPath};
 ghost use Rattle.jsonpath_paths.specs.RefusedAt.{RefusedAt};
-ghost use Rattle.jsonpath_paths.specs.WholeText.{tree_of_text};
+ghost use Rattle.jsonpath_paths.specs.WholeText.{tree_of_text, place_of_text};
 ghost use Rattle.jsonpath_paths.specs.declared.token.tokens.FilterToken.{FilterToken};
 ghost use Rattle.jsonpath_paths.specs.declared.token.tokens.Kind.{Kind};
 ghost use Rattle.jsonpath_paths.specs.declared.token.tokens.Token.{Token};
@@ -71,6 +71,17 @@ pub fn one_tree_per_token_list()
 pub fn spelled_tree()
     ensures found { (text : List ℕ) (p : Path) → tree_of_text text ≡ Some p → Spells text p }
     ensures only { (text : List ℕ) (p : Path) → Spells text p → tree_of_text text ≡ Some p }
+{}
+
+/// Lemma: a text has a syntax error at exactly the position that is computed from it, and so at one position at most.
+/// That of a fixed text is proved by `refl`.
+///
+/// ```text
+/// laws::error_position();
+/// ```
+pub fn error_position()
+    ensures found { (text : List ℕ) (error : TokenError) → IsUtf8 text → place_of_text text ≡ Some error → RefusedAt text error }
+    ensures only { (text : List ℕ) (error : TokenError) → IsUtf8 text → RefusedAt text error → place_of_text text ≡ Some error }
 {}
 
 /// Lemma: a syntax error is `Eof`, or `Position` with a byte position that is at most the text's length.

@@ -9,7 +9,8 @@ use Rattle.jsonpath_paths.specs.declared.token.tokens.ParseToken.{ParseToken}
 use Rattle.jsonpath_paths.specs.declared.token.tokens.Lexeme.{Lexeme}
 use Rattle.jsonpath_paths.specs.Grammar as g
 use Rattle.jsonpath_paths.specs.Grammar.{Lexemes, Takes, comparison, connective}
-use Rattle.jsonpath_paths.specs.plan.ParsedParts.{skip, same_kind, path_at}
+use Rattle.jsonpath_paths.specs.token.Kinds.{same_kind}
+use Rattle.jsonpath_paths.specs.plan.ParsedParts.{skip, path_at}
 use Rattle.jsonpath_paths.specs.tree.Tree.{Path, PathSteps, Inner, Condition, Term}
 use Rattle.jsonpath_paths.proofs.parser.FormLemmas as f
 use Rattle.jsonpath_paths.proofs.parser.FormLemmas.{Eats, Quoted}

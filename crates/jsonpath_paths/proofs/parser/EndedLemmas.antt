@@ -1,106 +1,118 @@
--- The characters that end a path: tokens of their own behind the tokens of a text.
-use Rattle.std.proofs.Common.{◌≡◌, ℕ, ◌+◌, Bool, true, false, not, List, [], ◌∷◌, ◌++◌, length, Some, None, Option, refl, ap, ap₂, ◌∙◌}
-use Rattle.std.specs.Prelude.{◌==◌, option_map, if◌then◌else◌}
+-- Samples of tokens that the machine takes one after the other, as characters: they are these tokens.
+use Rattle.std.proofs.Common.{◌≡◌, ◌<◌, ℕ, ◌+◌, Bool, true, false, List, [], ◌∷◌, ◌++◌, length, Some, None, Option, refl, ap₂, ◌∙◌, arith}
 use Rattle.std.specs.Char.{is_whitespace}
-use Rattle.std.specs.List.{prefix_len}
-use Rattle.std.proofs.lemmas.Bool.{and_parts}
 use lib.Utf8.{scalars, encodes, encode}
 use Rattle.jsonpath_paths.specs.Grammar.{Lexemes}
-use Rattle.jsonpath_paths.specs.text.Characters.{byte_len, bytes_at, is_no_stop, goes_on}
-use Rattle.jsonpath_paths.specs.token.Reading.{first, closing}
+use Rattle.jsonpath_paths.specs.text.Characters.{byte_len, is_no_stop, goes_on}
+use Rattle.jsonpath_paths.specs.token.Reading.{first}
 use Rattle.jsonpath_paths.specs.token.Tokens.{TokensAt, no_token, lexeme}
 use Rattle.jsonpath_paths.specs.declared.token.tokens.Kind.{Kind}
 use Rattle.jsonpath_paths.specs.declared.token.tokens.Kind.TheVariants as k
-use Rattle.jsonpath_paths.specs.plan.Wants.{Sign}
-use Rattle.jsonpath_paths.proofs.parser.WantsLemmas.{Ender, dollar_sign, bracket, name, naught, kind_of, word_of, signs_of}
-use Rattle.jsonpath_paths.proofs.parser.TidyLemmas.{hard, all_hard, hard_behind, hard_all_behind, wordy}
+use Rattle.jsonpath_paths.specs.plan.Wants.{Want, Sign, feed, run, run_on, signs}
+use Rattle.jsonpath_paths.proofs.parser.ApartLemmas.{Touch, words, white, equals, starts, runs_on, safe, Apart, fed_safe, quiet_refuses}
+use Rattle.jsonpath_paths.proofs.parser.WantsLemmas.{sample, samples}
 use Rattle.jsonpath_paths.proofs.token.FoundLemmas.{first_is}
 use Rattle.jsonpath_paths.proofs.token.LongestLemmas.{first_has_none}
-use Rattle.jsonpath_paths.proofs.token.KeptLemmas.{IsAt, ends, is_equals, GoesOn, dollar_word_on, dollar_on, word_on, blanks_on, greater_on, little_on}
+use Rattle.jsonpath_paths.proofs.token.KeptLemmas.{ends, is_equals, GoesOn, dollar_word_on, dollar_on, word_on, blanks_on, greater_on, little_on, first_stays}
 use Rattle.jsonpath_paths.proofs.tree.FencedLemmas.{At, at_next, token_then}
 
-abbrev pub characters_of : List Ender → List ℕ
+abbrev pub characters_of : List Kind → List ℕ
 characters_of [] = []
-characters_of (e ∷ es) = word_of e ++ characters_of es
+characters_of (kind ∷ kinds) = sample kind ++ characters_of kinds
 
 -- the tokens from a byte position on
-abbrev pub lexemes_of : ℕ → List Ender → Lexemes
+abbrev pub lexemes_of : ℕ → List Kind → Lexemes
 lexemes_of pos [] = []
-lexemes_of pos (e ∷ es) = lexeme (kind_of e) pos (word_of e) ∷ lexemes_of (pos + byte_len (word_of e)) es
+lexemes_of pos (kind ∷ kinds) = lexeme kind pos (sample kind) ∷ lexemes_of (pos + byte_len (sample kind)) kinds
 
--- the signs of tokens of a text
-abbrev pub signs : List ℕ → Lexemes → List Sign
-signs text [] = []
-signs text (p ∷ ps) = record { kind = p.kind; word = bytes_at text p.span } ∷ signs text ps
+-- the test by which a token may be longer
+data Tests : Touch → (ℕ → Bool) → Type 0 where
+  no_stop : Tests words is_no_stop
+  no_end : Tests words goes_on
+  blank : Tests white is_whitespace
+  equal : Tests equals is_equals
 
-hard_ends : (e : Ender) (rest : List ℕ) → hard e ≡ true → (ends is_no_stop (word_of e ++ rest) ≡ true) × (ends goes_on (word_of e ++ rest) ≡ true)
-hard_ends dollar_sign rest h = cc h
-hard_ends name rest h = cc h
-hard_ends naught rest h = cc h
-hard_ends _ rest h = (refl, refl)
+-- a sample ends what it does not touch
+ends_at_sample : (t : Touch) (test : ℕ → Bool) (kind : Kind) (rest : List ℕ) → Tests t test → starts t kind ≡ false → ends test (sample kind ++ rest) ≡ true
+ends_at_sample _ _ k.Absolute rest no_stop h = cc h
+ends_at_sample _ _ k.Key rest no_stop h = cc h
+ends_at_sample _ _ k.DoubleQuoted rest no_stop h = cc h
+ends_at_sample _ _ k.SingleQuoted rest no_stop h = cc h
+ends_at_sample _ _ _ rest no_stop h = refl
+ends_at_sample _ _ k.Absolute rest no_end h = cc h
+ends_at_sample _ _ k.Key rest no_end h = cc h
+ends_at_sample _ _ k.DoubleQuoted rest no_end h = cc h
+ends_at_sample _ _ k.SingleQuoted rest no_end h = cc h
+ends_at_sample _ _ _ rest no_end h = refl
+ends_at_sample _ _ k.Whitespace rest blank h = cc h
+ends_at_sample _ _ _ rest blank h = refl
+ends_at_sample _ _ k.Equal rest equal h = cc h
+ends_at_sample _ _ _ rest equal h = refl
 
-all_end_others : (e : Ender) (rest : List ℕ) → (ends is_whitespace (word_of e ++ rest) ≡ true) × (ends is_equals (word_of e ++ rest) ≡ true)
-all_end_others bracket rest = (refl, refl)
-all_end_others _ rest = (refl, refl)
-
--- no token of the text is longer by them
-pub added_end : (es : List Ender) (kind : Kind) (test : ℕ → Bool) → GoesOn kind test → (wordy kind ≡ true → all_hard es ≡ true) → ends test (characters_of es) ≡ true
-added_end [] kind test may h = refl
-added_end (e ∷ es) _ _ dollar_word_on h = (hard_ends e (characters_of es) (and_parts (hard e) (all_hard es) (h refl)).0).0
-added_end (e ∷ es) _ _ dollar_on h = (hard_ends e (characters_of es) (and_parts (hard e) (all_hard es) (h refl)).0).0
-added_end (e ∷ es) _ _ word_on h = (hard_ends e (characters_of es) (and_parts (hard e) (all_hard es) (h refl)).0).1
-added_end (e ∷ es) _ _ blanks_on h = (all_end_others e (characters_of es)).0
-added_end (e ∷ es) _ _ greater_on h = (all_end_others e (characters_of es)).1
-added_end (e ∷ es) _ _ little_on h = (all_end_others e (characters_of es)).1
-
-none_goes_on : (test : ℕ → Bool) (cs : List ℕ) → ends test cs ≡ true → prefix_len test cs ≡ 0
-none_goes_on test [] h = refl
-none_goes_on test (c ∷ cs) h = by_test (test c) h
+-- behind a token stand samples that the machine takes, and it is no longer by them
+pub ends_there : (us vs : List Want) (kind : Kind) (kinds : List Kind) (test : ℕ → Bool) → Apart kind us → run us (samples kinds) ≡ Some vs → GoesOn kind test → ends test (characters_of kinds) ≡ true
+ends_there us vs kind [] test apart h g = refl
+ends_there us vs kind (next ∷ kinds) test apart h g = by_test g (by_touch words) (by_touch white) (by_touch equals)
   where
-    by_test : (b : Bool) → not b ≡ true → (if b then 1 + prefix_len test cs else 0) ≡ 0
-    by_test true h = cc h
-    by_test false h = refl
+    by_start : (t : Touch) (b : Bool) → starts t next ≡ b → (b ≡ true → ⊥) → (test : ℕ → Bool) → Tests t test → ends test (characters_of (next ∷ kinds)) ≡ true
+    by_start t true e never test is = absurd (never refl)
+    by_start t false e never test is = ends_at_sample t test next (characters_of kinds) is e
 
-hard_all_end : (es : List Ender) → all_hard es ≡ true → (ends is_no_stop (characters_of es) ≡ true) × (ends goes_on (characters_of es) ≡ true)
-hard_all_end [] h = (refl, refl)
-hard_all_end (e ∷ es) h = hard_ends e (characters_of es) (and_parts (hard e) (all_hard es) h).0
+    by_touch : (t : Touch) → runs_on t kind ≡ true → (test : ℕ → Bool) → Tests t test → ends test (characters_of (next ∷ kinds)) ≡ true
+    by_touch t e = by_start t (starts t next) refl (λ s. let none : feed us next (sample next) ≡ None = quiet_refuses t us next (sample next) s (apart t e) in cc (h, none))
 
-closes_at_once : (rest : List ℕ) → closing 39 (39 ∷ rest) ≡ Some 1
-closes_at_once [] = refl
-closes_at_once (c ∷ cs) = refl
+    by_test : {kind : Kind} {test : ℕ → Bool} → GoesOn kind test → (runs_on words kind ≡ true → (test : ℕ → Bool) → Tests words test → ends test (characters_of (next ∷ kinds)) ≡ true)
+        → (runs_on white kind ≡ true → (test : ℕ → Bool) → Tests white test → ends test (characters_of (next ∷ kinds)) ≡ true)
+        → (runs_on equals kind ≡ true → (test : ℕ → Bool) → Tests equals test → ends test (characters_of (next ∷ kinds)) ≡ true) → ends test (characters_of (next ∷ kinds)) ≡ true
+    by_test dollar_word_on f g h = f refl is_no_stop no_stop
+    by_test dollar_on f g h = f refl is_no_stop no_stop
+    by_test word_on f g h = f refl goes_on no_end
+    by_test blanks_on f g h = g refl is_whitespace blank
+    by_test greater_on f g h = h refl is_equals equal
+    by_test little_on f g h = h refl is_equals equal
 
-ender_first : (e : Ender) (es : List Ender) → all_hard es ≡ true → IsAt (kind_of e) (length (word_of e)) (first (word_of e ++ characters_of es))
+alone : (kind : Kind) → first (sample kind ++ []) ≡ Some (kind, length (sample kind))
 unfolding first
-ender_first dollar_sign es h = ap {B = Option (Kind × ℕ)} (λ n. Some (if n == 0 then (k.Absolute, 1) else (k.Key, 1 + n))) (none_goes_on is_no_stop (characters_of es) (hard_all_end es h).0)
-ender_first name es h = ap {B = Option (Kind × ℕ)} (λ o. option_map (λ n. (k.SingleQuoted, 1 + n)) o) (closes_at_once (characters_of es))
-ender_first naught es h = ap {B = Option (Kind × ℕ)} (λ n. Some (k.Key, 1 + n)) (none_goes_on goes_on (characters_of es) (hard_all_end es h).1)
-ender_first _ es h = refl
+alone k.Absolute = refl
+alone _ = refl
+
+some_sample : (kind : Kind) → 0 < length (sample kind)
+some_sample k.Absolute = omega arith
+some_sample _ = omega arith
 
 nothing_there : first [] ≡ None
 unfolding first
 nothing_there = refl
 
-pub added_tokens : (pos : ℕ) (es : List Ender) → hard_behind es ≡ true → TokensAt pos (characters_of es) (lexemes_of pos es) []
-added_tokens pos [] h = no_token (first_has_none [] nothing_there)
-added_tokens pos (e ∷ es) h =
-    token_then pos (word_of e) (characters_of es) (kind_of e) (lexemes_of (pos + byte_len (word_of e)) es) (first_is (word_of e ++ characters_of es) (kind_of e) (length (word_of e)) (ender_first e es h))
-    (added_tokens (pos + byte_len (word_of e)) es (hard_all_behind es h))
-
-pub added_scalars : (es : List Ender) → scalars (characters_of es) ≡ true
-added_scalars [] = refl
-added_scalars (e ∷ es) = one e (characters_of es) (added_scalars es)
+pub added_tokens : (pos : ℕ) (us vs : List Want) (kinds : List Kind) → safe us ≡ true → run us (samples kinds) ≡ Some vs → TokensAt pos (characters_of kinds) (lexemes_of pos kinds) []
+added_tokens pos us vs [] s h = no_token (first_has_none [] nothing_there)
+added_tokens pos us vs (kind ∷ kinds) s h = by_fed (feed us kind (sample kind)) refl h (λ ws g i. added_tokens (pos + byte_len (sample kind)) ws vs kinds g i)
   where
-    one : (e : Ender) (rest : List ℕ) → scalars rest ≡ true → scalars (word_of e ++ rest) ≡ true
-    one bracket rest h = h
+    by_fed : (o : Option (List Want)) → feed us kind (sample kind) ≡ o → run_on o (λ ws. run ws (samples kinds)) ≡ Some vs
+        → ((ws : List Want) → safe ws ≡ true → run ws (samples kinds) ≡ Some vs → TokensAt (pos + byte_len (sample kind)) (characters_of kinds) (lexemes_of (pos + byte_len (sample kind)) kinds) [])
+        → TokensAt pos (characters_of (kind ∷ kinds)) (lexemes_of pos (kind ∷ kinds)) []
+    by_fed None e h more = cc h
+    by_fed (Some ws) e h more =
+        let left = fed_safe us ws kind (sample kind) s e in
+        token_then pos (sample kind) (characters_of kinds) kind (lexemes_of (pos + byte_len (sample kind)) kinds)
+        (first_is (sample kind ++ characters_of kinds) kind (length (sample kind)) (first_stays (sample kind) [] (characters_of kinds) kind (some_sample kind) (λ test g i. ends_there ws vs kind kinds test left.1 h g) (alone kind)))
+        (more ws left.0 h)
+
+pub added_scalars : (kinds : List Kind) → scalars (characters_of kinds) ≡ true
+added_scalars [] = refl
+added_scalars (kind ∷ kinds) = one kind (characters_of kinds) (added_scalars kinds)
+  where
+    one : (kind : Kind) (rest : List ℕ) → scalars rest ≡ true → scalars (sample kind ++ rest) ≡ true
+    one k.Absolute rest h = h
     one _ rest h = h
 
-word_bytes : (e : Ender) → encodes (word_of e) ≡ word_of e
+word_bytes : (kind : Kind) → encodes (sample kind) ≡ sample kind
 unfolding encode
-word_bytes bracket = refl
+word_bytes k.Absolute = refl
 word_bytes _ = refl
 
-pub added_signs : (text : List ℕ) (pos : ℕ) (es : List Ender) → At text pos (characters_of es) → signs text (lexemes_of pos es) ≡ signs_of es
+pub added_signs : (text : List ℕ) (pos : ℕ) (kinds : List Kind) → At text pos (characters_of kinds) → signs text (lexemes_of pos kinds) ≡ samples kinds
 added_signs text pos [] h = refl
-added_signs text pos (e ∷ es) h =
-    let there = at_next text pos (word_of e) (characters_of es) h in
-    ap₂ (λ (w : List ℕ) (more : List Sign). record { kind = kind_of e; word = w } ∷ more) (there.1 ∙ word_bytes e) (added_signs text (pos + byte_len (word_of e)) es there.2)
+added_signs text pos (kind ∷ kinds) h =
+    let there = at_next text pos (sample kind) (characters_of kinds) h in
+    ap₂ (λ (w : List ℕ) (more : List Sign). record { kind = kind; word = w } ∷ more) (there.1 ∙ word_bytes kind) (added_signs text (pos + byte_len (sample kind)) kinds there.2)

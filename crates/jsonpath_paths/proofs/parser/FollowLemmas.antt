@@ -8,8 +8,9 @@ use Rattle.jsonpath_paths.specs.declared.text.str_reader.StrRange.{StrRange}
 use Rattle.jsonpath_paths.specs.declared.token.tokens.Kind.{Kind}
 use Rattle.jsonpath_paths.specs.declared.token.tokens.Kind.TheVariants as k
 use Rattle.jsonpath_paths.specs.declared.token.tokens.ParseToken.TheVariants as t
+use Rattle.jsonpath_paths.specs.token.Kinds.{same_kind}
 use Rattle.jsonpath_paths.specs.plan.ParsedParts as d
-use Rattle.jsonpath_paths.specs.plan.ParsedParts.{Read, ◌>>=◌, choose, only_if, same_kind, take_token, eat, quoted_at, skip}
+use Rattle.jsonpath_paths.specs.plan.ParsedParts.{Read, ◌>>=◌, choose, only_if, take_token, eat, quoted_at, skip}
 use Rattle.jsonpath_paths.specs.plan.Wants.{Want, stop, stop_on, moved, move, feed, passes, refuses, if_word, may_pass, may_end, blanks, close, plain, indexes_range_or_names, range_or_names, after_first_index, more_indexes, index, range_to, range_by, range_step, after_name, more_names, quoted, open_group, dollar, fraction, digits}
 use Rattle.jsonpath_paths.proofs.parser.SoundLemmas.{take_takes, eat_eats}
 use Rattle.jsonpath_paths.proofs.parser.ListLemmas.{index_falls, name_falls}

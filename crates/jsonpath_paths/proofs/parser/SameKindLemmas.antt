@@ -4,7 +4,7 @@ use denote.Enum.Bare.{sameb, same_true, true_same}
 use Rattle.jsonpath_paths.specs.contracts.token.tokens.Kind.{the_type}
 use Rattle.jsonpath_paths.specs.declared.token.tokens.Kind.{Kind}
 use Rattle.jsonpath_paths.specs.declared.token.tokens.Kind.TheVariants as k
-use Rattle.jsonpath_paths.specs.plan.ParsedParts.{same_kind}
+use Rattle.jsonpath_paths.specs.token.Kinds.{same_kind}
 
 pub same_kind_is : (a b : Kind) → same_kind a b ≡ sameb the_type a b
 same_kind_is k.Absolute k.Absolute = refl

@@ -1,6 +1,7 @@
 -- What is left behind a part is no longer than what the part began with.
 use Rattle.std.proofs.Common.{cond, ◌≡◌, ◌≤◌, ◌<◌, ℕ, suc, Bool, true, false, List, [], ◌∷◌, length, Option, ℤ, ap, arith}
-use Rattle.jsonpath_paths.specs.plan.ParsedParts.{skip, same_kind}
+use Rattle.jsonpath_paths.specs.token.Kinds.{same_kind}
+use Rattle.jsonpath_paths.specs.plan.ParsedParts.{skip}
 use Rattle.jsonpath_paths.specs.declared.text.str_reader.StrRange.{StrRange}
 use Rattle.jsonpath_paths.specs.declared.decimal.Decimal.{Decimal}
 use Rattle.jsonpath_paths.specs.declared.token.tokens.Kind.{Kind}

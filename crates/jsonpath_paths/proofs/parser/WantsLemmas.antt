@@ -1,5 +1,5 @@
 -- Whatever is wanted can be given: each stack has tokens that lead from it to the end of a path.
-use Rattle.std.proofs.Common.{◌≡◌, ℕ, Bool, true, false, List, [], ◌∷◌, Option, Some, None, refl, ◌∙◌, ap}
+use Rattle.std.proofs.Common.{◌≡◌, ℕ, Bool, true, false, List, [], ◌∷◌, Option, Some, None, refl, ◌∙◌, ap, codes}
 use Rattle.std.specs.Prelude.{◌++◌, ◌&&◌, is_some}
 use Rattle.std.proofs.lemmas.Bool.{and_parts}
 use Rattle.jsonpath_paths.specs.declared.token.tokens.Kind.{Kind}
@@ -28,24 +28,42 @@ kind_of not_equal = k.NotEqual
 kind_of star = k.Asterisk
 kind_of naught = k.Key
 
--- its characters, which are bytes
-abbrev pub word_of : Ender → List ℕ
-word_of dollar_sign = 36 ∷ []
-word_of bracket = 93 ∷ []
-word_of parenthesis = 41 ∷ []
-word_of opening = 40 ∷ []
-word_of name = 39 ∷ 39 ∷ []
-word_of candidate = 64 ∷ []
-word_of not_equal = 33 ∷ 61 ∷ []
-word_of star = 42 ∷ []
-word_of naught = 48 ∷ []
+-- a token of each kind, by its characters, which are bytes
+abbrev pub sample : Kind → List ℕ
+sample k.Absolute = codes "$"
+sample k.Dot = codes "."
+sample k.At = codes "@"
+sample k.OpenArray = codes "["
+sample k.CloseArray = codes "]"
+sample k.Asterisk = codes "*"
+sample k.Question = codes "?"
+sample k.Comma = codes ","
+sample k.Split = codes ":"
+sample k.OpenParenthesis = codes "("
+sample k.CloseParenthesis = codes ")"
+sample k.Key = codes "0"
+sample k.DoubleQuoted = codes "\"\""
+sample k.SingleQuoted = codes "''"
+sample k.Equal = codes "=="
+sample k.GreaterOrEqual = codes ">="
+sample k.Greater = codes ">"
+sample k.Little = codes "<"
+sample k.LittleOrEqual = codes "<="
+sample k.NotEqual = codes "!="
+sample k.And = codes "&&"
+sample k.Or = codes "||"
+sample k.Whitespace = codes " "
 
-abbrev pub sign_of : Ender → Sign
-sign_of e = record { kind = kind_of e; word = word_of e }
+abbrev pub samples : List Kind → List Sign
+samples [] = []
+samples (kind ∷ kinds) = record { kind = kind; word = sample kind } ∷ samples kinds
+
+abbrev pub kinds_of : List Ender → List Kind
+kinds_of [] = []
+kinds_of (e ∷ es) = kind_of e ∷ kinds_of es
 
 abbrev pub signs_of : List Ender → List Sign
-signs_of [] = []
-signs_of (e ∷ es) = sign_of e ∷ signs_of es
+signs_of es = samples (kinds_of es)
 
 -- what ends a want; nothing, where the want may be given up for whatever ends another
 abbrev pub ending : Want → List Ender
@@ -90,7 +108,7 @@ passing blanks_s = refl
 passing _ = refl
 
 -- it is given up for each of them
-pub given_up : {w : Want} → Silent w → (e : Ender) → move w (kind_of e) (word_of e) ≡ passes
+pub given_up : {w : Want} → Silent w → (e : Ender) → move w (kind_of e) (sample (kind_of e)) ≡ passes
 given_up blanks_s bracket = refl
 given_up _ bracket = refl
 given_up _ _ = refl
@@ -99,7 +117,7 @@ pub pass_ends : {w : Want} → Silent w → (ws : List Want) (es : List Ender) �
 pass_ends {w = w} s ws [] h =
     record { left = w ∷ h.left; ran = ap (λ o. run_on o (λ us. Some (w ∷ us))) h.ran; ended = ap (λ b. b && may_end h.left) (passing s) ∙ h.ended }
 pass_ends {w = w} s ws (e ∷ es) h =
-    record { left = h.left; ran = ap (λ m. run_on (moved m ws (feed ws (kind_of e) (word_of e))) (λ us. run us (signs_of es))) (given_up s e) ∙ h.ran; ended = h.ended }
+    record { left = h.left; ran = ap (λ m. run_on (moved m ws (feed ws (kind_of e) (sample (kind_of e)))) (λ us. run us (signs_of es))) (given_up s e) ∙ h.ran; ended = h.ended }
 
 zero_is_index : is_some (index_of (48 ∷ [])) ≡ true
 unfolding index_of
@@ -173,8 +191,3 @@ pub goes_on : (ws us : List Want) (ts : List Sign) → run ws ts ≡ Some us →
 goes_on ws us ts h r =
     let e = all_end us r in
     record { left = e.left; ran = run_behind ws ts (signs_of (endings us)) ∙ ap (λ o. run_on o (λ vs. run vs (signs_of (endings us)))) h ∙ e.ran; ended = e.ended }
-
--- and behind a token that may not come next nothing helps
-pub nothing_helps : (ws us : List Want) (ts more : List Sign) (t : Sign) → run ws ts ≡ Some us → feed us t.kind t.word ≡ None → run ws (ts ++ t ∷ more) ≡ None
-nothing_helps ws us ts more t h e =
-    run_behind ws ts (t ∷ more) ∙ ap (λ o. run_on o (λ vs. run vs (t ∷ more))) h ∙ ap (λ o. run_on o (λ vs. run vs more)) e

@@ -1,6 +1,7 @@
 -- What tokens spell, tokens that are the same elsewhere spell, too.
 use Rattle.std.proofs.Common.{◌≡◌, ◌≤◌, ◌<◌, ℕ, suc, Bool, true, false, List, [], ◌∷◌, length, Option, ℤ, cond, sym, subst, ap, ap₂, ◌∙◌, arith}
-use Rattle.jsonpath_paths.specs.plan.ParsedParts.{skip, same_kind}
+use Rattle.jsonpath_paths.specs.token.Kinds.{same_kind}
+use Rattle.jsonpath_paths.specs.plan.ParsedParts.{skip}
 use Rattle.jsonpath_paths.specs.declared.text.str_reader.StrRange.{StrRange}
 use Rattle.jsonpath_paths.specs.declared.decimal.Decimal.{Decimal}
 use Rattle.jsonpath_paths.specs.declared.token.tokens.Kind.{Kind}

@@ -6,11 +6,11 @@ use Rattle.std.proofs.lemmas.Str.{chars-encodes, encodes-append, encodes-chars, 
 use lib.Utf8.{scalars, encode, encodes}
 use Rattle.jsonpath_paths.specs.tree.Alike.{AlikeCondition}
 use Rattle.jsonpath_paths.specs.plan.ParsedParts as d
-use Rattle.jsonpath_paths.specs.plan.ParsedParts.{◌>>=◌, choose, eat, by_kind, skip, same_kind}
+use Rattle.jsonpath_paths.specs.plan.ParsedParts.{◌>>=◌, choose, eat, by_kind, skip}
 use Rattle.jsonpath_paths.specs.Grammar as grammar
 use Rattle.jsonpath_paths.specs.Grammar.{Lexemes, levels}
 use Rattle.jsonpath_paths.specs.tree.Joined.{filter_text, between, joined_text, filter_path, JoinsSides}
-use Rattle.jsonpath_paths.specs.token.Kinds.{IsFirst}
+use Rattle.jsonpath_paths.specs.token.Kinds.{IsFirst, same_kind}
 use Rattle.jsonpath_paths.specs.token.Reading.{first, reading_from}
 use Rattle.jsonpath_paths.specs.Spelling.{Spells, IsInGrammar}
 use Rattle.jsonpath_paths.specs.text.Characters.{byte_len}

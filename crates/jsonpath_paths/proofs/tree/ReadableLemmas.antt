@@ -2,7 +2,8 @@
 use Rattle.std.proofs.Common.{ℕ, suc, Bool, true, false, List, [], ◌∷◌, Option, ℤ, cond, sym, subst, All, arith}
 use Rattle.std.proofs.lemmas.List.Elements.{All-cons, All-contains, All-nil}
 use denote.Ref.{Bor}
-use Rattle.jsonpath_paths.specs.plan.ParsedParts.{skip, same_kind}
+use Rattle.jsonpath_paths.specs.token.Kinds.{same_kind}
+use Rattle.jsonpath_paths.specs.plan.ParsedParts.{skip}
 use Rattle.jsonpath_paths.specs.declared.text.str_reader.StrRange.{StrRange}
 use Rattle.jsonpath_paths.specs.declared.decimal.Decimal.{Decimal}
 use Rattle.jsonpath_paths.specs.declared.token.tokens.Kind.{Kind}

@@ -8,6 +8,7 @@ use Rattle.jsonpath_paths.specs.declared.token.tokens.Kind.TheVariants as k
 use Rattle.jsonpath_paths.specs.declared.token.tokens.ParseToken.{ParseToken}
 use Rattle.jsonpath_paths.specs.declared.token.tokens.ParseToken.TheVariants as t
 use Rattle.jsonpath_paths.specs.Grammar.{Lexemes, comparison, connective, whole_number, levels}
+use Rattle.jsonpath_paths.specs.token.Kinds.{same_kind}
 use Rattle.jsonpath_paths.specs.Numbers.{index_of, range_step_of, decimal_of}
 use Rattle.jsonpath_paths.specs.Literals.{truth_of}
 use Rattle.jsonpath_paths.specs.text.Characters.{bytes_at}
@@ -30,33 +31,6 @@ choose (Some x) f other = f x
 abbrev pub only_if : {A : Type 0} → Bool → A → Option A
 only_if true x = Some x
 only_if false x = None
-
--- both are this one kind
-abbrev pub same_kind : Kind → Kind → Bool
-same_kind k.Absolute k.Absolute = true
-same_kind k.Dot k.Dot = true
-same_kind k.At k.At = true
-same_kind k.OpenArray k.OpenArray = true
-same_kind k.CloseArray k.CloseArray = true
-same_kind k.Asterisk k.Asterisk = true
-same_kind k.Question k.Question = true
-same_kind k.Comma k.Comma = true
-same_kind k.Split k.Split = true
-same_kind k.OpenParenthesis k.OpenParenthesis = true
-same_kind k.CloseParenthesis k.CloseParenthesis = true
-same_kind k.Key k.Key = true
-same_kind k.DoubleQuoted k.DoubleQuoted = true
-same_kind k.SingleQuoted k.SingleQuoted = true
-same_kind k.Equal k.Equal = true
-same_kind k.GreaterOrEqual k.GreaterOrEqual = true
-same_kind k.Greater k.Greater = true
-same_kind k.Little k.Little = true
-same_kind k.LittleOrEqual k.LittleOrEqual = true
-same_kind k.NotEqual k.NotEqual = true
-same_kind k.And k.And = true
-same_kind k.Or k.Or = true
-same_kind k.Whitespace k.Whitespace = true
-same_kind _ _ = false
 
 -- without the blanks at the front, which are one token
 unfoldable pub skip : Lexemes → Lexemes

@@ -215,6 +215,11 @@ pub record Sign : Type 0 where
   pub kind : Kind
   pub word : List ℕ
 
+-- the signs of tokens of a text
+abbrev pub signs : List ℕ → Lexemes → List Sign
+signs text [] = []
+signs text (p ∷ ps) = record { kind = p.kind; word = bytes_at text p.span } ∷ signs text ps
+
 abbrev pub run_on : Option (List Want) → (List Want → Option (List Want)) → Option (List Want)
 run_on None f = None
 run_on (Some ws) f = f ws

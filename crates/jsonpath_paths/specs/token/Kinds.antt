@@ -77,6 +77,33 @@ is_token k.NotEqual cs = bytes_eq cs (codes "!=")
 is_token k.And cs = bytes_eq cs (codes "&&")
 is_token k.Or cs = bytes_eq cs (codes "||")
 
+-- both are this one kind
+abbrev pub same_kind : Kind → Kind → Bool
+same_kind k.Absolute k.Absolute = true
+same_kind k.Dot k.Dot = true
+same_kind k.At k.At = true
+same_kind k.OpenArray k.OpenArray = true
+same_kind k.CloseArray k.CloseArray = true
+same_kind k.Asterisk k.Asterisk = true
+same_kind k.Question k.Question = true
+same_kind k.Comma k.Comma = true
+same_kind k.Split k.Split = true
+same_kind k.OpenParenthesis k.OpenParenthesis = true
+same_kind k.CloseParenthesis k.CloseParenthesis = true
+same_kind k.Key k.Key = true
+same_kind k.DoubleQuoted k.DoubleQuoted = true
+same_kind k.SingleQuoted k.SingleQuoted = true
+same_kind k.Equal k.Equal = true
+same_kind k.GreaterOrEqual k.GreaterOrEqual = true
+same_kind k.Greater k.Greater = true
+same_kind k.Little k.Little = true
+same_kind k.LittleOrEqual k.LittleOrEqual = true
+same_kind k.NotEqual k.NotEqual = true
+same_kind k.And k.And = true
+same_kind k.Or k.Or = true
+same_kind k.Whitespace k.Whitespace = true
+same_kind _ _ = false
+
 -- This many characters at the front are a token of this kind, and no longer front is a token, nor this one of another kind.
 pub record IsFirst (cs : List ℕ) (kind : Kind) (n : ℕ) : Type 0 where
   pub token : is_token kind (take n cs) ≡ true

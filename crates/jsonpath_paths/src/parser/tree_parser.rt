@@ -238,6 +238,13 @@ impl<'s> TreeParser<'s> {
         found
     }
 
+    // How many tokens are left.
+    pub(crate) fn tokens_left(&self) -> usize
+        ensures { result ≡ length self.now.lexemes }
+    {
+        self.lexemes.len()
+    }
+
     // Whether no token is left.
     pub(crate) fn is_at_end(&self) -> bool
         ensures { IsTrue result ↔ (self.now.lexemes ≡ []) }

@@ -59,30 +59,59 @@ impl From<AllocError> for TokenError {
 }
 
 /// The kind of a token of a path text, such as a word or `[`, without its position and length.
-#[derive(Clone, Copy, PartialEq, Eq)]
+///
+/// ```text
+/// let expected = expected_tokens(alloc, "$[0")?;
+/// let bracket = Expected::Token(Kind::CloseArray);
+/// assert!(rt; expected.is_some_and(|it| it.tokens.as_slice().contains(&bracket)));
+/// ```
+#[derive(Clone, Copy, Debug, PartialEq, Eq)]
 pub enum Kind {
+    /// `$`
     Absolute,
+    /// `.`
     Dot,
+    /// `@`
     At,
+    /// `[`
     OpenArray,
+    /// `]`
     CloseArray,
+    /// `*`
     Asterisk,
+    /// `?`
     Question,
+    /// `,`
     Comma,
+    /// `:`
     Split,
+    /// `(`
     OpenParenthesis,
+    /// `)`
     CloseParenthesis,
+    /// A word, such as a name or a number without quotes.
     Key,
+    /// A text in double quotes.
     DoubleQuoted,
+    /// A text in single quotes.
     SingleQuoted,
+    /// `==`
     Equal,
+    /// `>=`
     GreaterOrEqual,
+    /// `>`
     Greater,
+    /// `<`
     Little,
+    /// `<=`
     LittleOrEqual,
+    /// `!=`
     NotEqual,
+    /// `&&`
     And,
+    /// `||`
     Or,
+    /// A run of blanks.
     Whitespace,
 }
 

@@ -1,0 +1,9 @@
+use Rattle.std.proofs.Common.{◌++◌, codes}
+use Rattle.std.proofs.lemmas.Result.{IfOk-weaker}
+use Rattle.jpath_words.proofs.hints.hint_to_begin_with_root.Goals as goal
+
+pub returns-then-is_ok : goal.returns-then-is_ok
+returns-then-is_ok c = IfOk-weaker c.format-then-is_ok.result _ _ (λ hint e. record { more = codes ": write " ++ c.as_str-fixed.result.now; says = e }) c.format-then-is_ok.ensures.ok
+
+pub returns : goal.returns
+returns c = IfOk-weaker c.from_str-2.result _ _ (λ hint e. record { more = codes ", the document: $.name, $[0], $..name"; says = e }) c.from_str-2.ensures.ok
