@@ -74,8 +74,7 @@ within_text text (p ∷ ps) h = ((All-head (λ p. IsSpan text p.span) p ps h).wi
 
 -- whether all tokens are taken, by how many are left
 abbrev pub all_taken : Option ℕ → Bool
-all_taken None = true
-all_taken (Some n) = n == 0
+all_taken o = unwrap_or o 0 == 0
 
 pub taken_next : (text word : List ℕ) (front : Lexemes) (kind : Kind) (us : List Want) → AreSpans text front → run whole_wants (signs text front) ≡ Some us
     → all_taken (option_map length (stop (text ++ word) whole_wants (front ++ behind_text text word kind ∷ []))) ≡ is_some (feed us kind word)

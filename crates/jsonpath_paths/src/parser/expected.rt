@@ -103,10 +103,8 @@ fn can_follow(
     let mut tokens = Vec::from_slice(alloc, front)?;
     let span = StrRange::new(text.len(), word.len());
     tokens.push(Lexeme { kind, span })?;
-    match tokens_left(alloc, longer.as_str(), tokens.as_slice())? {
-        Some(left) => Ok(left == 0),
-        None => Ok(true),
-    }
+    let left = tokens_left(alloc, longer.as_str(), tokens.as_slice())?;
+    Ok(left.unwrap_or(0) == 0)
 }
 
 // The words with which a path can go on behind its first tokens. A word is tried for each kind of them, one that is of

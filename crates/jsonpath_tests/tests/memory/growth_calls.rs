@@ -9,8 +9,9 @@ use jsonpath_lib::{
     compile_paths, document_to_text, error_of_parse_fault, list_to_text, mask_at_paths, path_error,
     read_document, select_path,
 };
-use jsonpath_paths::{ParseToken, PathParser, StrRange, TokenError};
+use jsonpath_paths::{ParseToken, PathParser, StrRange, TokenError, expected_tokens};
 use serde_json::Value;
+use std::alloc::AllocError;
 use std::process::Abort;
 
 // A set-up, or the end of the test.
@@ -38,6 +39,20 @@ fn growths_of_selecting_calls(rt: HostRuntime) {
         );
         grown::values(&rt, &mut refused, path.select(alloc, &document), "[2]");
     }
+}
+
+#[test]
+fn growths_of_expected_tokens(rt: HostRuntime) {
+    let mut refused = 0u8;
+    for _ in 0..2u8 {
+        match expected_tokens(rt.alloc(), "$.a[") {
+            Ok(expected) => {
+                check!(rt; expected.is_some_and(|it| it.tokens.len() == 7 && !it.end));
+            }
+            Err(AllocError) => refused += 1,
+        }
+    }
+    check!(rt; refused < 2);
 }
 
 #[test]

@@ -1,5 +1,5 @@
-use Rattle.std.proofs.Common.{◌≡◌, ◌++◌, ◌∷◌, [], Some, None, ℕ, Option, rules, sym, subst, ap, ◌∙◌}
-use Rattle.std.specs.Prelude.{option_map, length}
+use Rattle.std.proofs.Common.{◌≡◌, ◌++◌, ◌∷◌, [], rules, sym, subst, ap, ◌∙◌}
+use Rattle.std.specs.Prelude.{option_map, unwrap_or, length, ◌==◌}
 use Rattle.jsonpath_paths.specs.text.Spans.{AreSpans}
 use Rattle.jsonpath_paths.specs.plan.Wants.{stop, whole_wants}
 use Rattle.jsonpath_paths.proofs.parser.ExpectedFrontLemmas.{behind_text, spans_upon, all_taken, taken_next}
@@ -14,17 +14,6 @@ tokens_left-requires c =
     let f : c.as_slice.result.now ≡ there = search rules in
     subst (AreSpans c.as_str.result.now) (sym f) (subst (λ x. AreSpans x there) (sym e) (spans_upon text word c.args.front.now c.args.kind c.utf8.word c.requires))
 
-pub returns-in-Some : goal.returns-in-Some
-returns-in-Some c = λ us ran.
-    let text = c.args.text.now in
-    let word = c.args.word.now in
-    let there = c.args.front.now ++ behind_text text word c.args.kind ∷ [] in
-    let e : c.as_str.result.now ≡ text ++ word = search rules in
-    let f : c.as_slice.result.now ≡ there = search rules in
-    let left : Some c.in-Some.left ≡ option_map length (stop c.as_str.result.now whole_wants c.as_slice.result.now) = search rules in
-    ap all_taken left ∙ (ap (λ x. all_taken (option_map length (stop x whole_wants c.as_slice.result.now))) e
-    ∙ (ap (λ ts. all_taken (option_map length (stop (text ++ word) whole_wants ts))) f ∙ taken_next text word c.args.front.now c.args.kind us c.requires ran))
-
 pub returns : goal.returns
 returns c = λ us ran.
     let text = c.args.text.now in
@@ -32,7 +21,7 @@ returns c = λ us ran.
     let there = c.args.front.now ++ behind_text text word c.args.kind ∷ [] in
     let e : c.as_str.result.now ≡ text ++ word = search rules in
     let f : c.as_slice.result.now ≡ there = search rules in
-    let none : Option ℕ = None in
-    let left : none ≡ option_map length (stop c.as_str.result.now whole_wants c.as_slice.result.now) = search rules in
-    ap all_taken left ∙ (ap (λ x. all_taken (option_map length (stop x whole_wants c.as_slice.result.now))) e
-    ∙ (ap (λ ts. all_taken (option_map length (stop (text ++ word) whole_wants ts))) f ∙ taken_next text word c.args.front.now c.args.kind us c.requires ran))
+    let left : c.in_ok-left.left ≡ option_map length (stop c.as_str.result.now whole_wants c.as_slice.result.now) = search rules in
+    let value : c.unwrap_or.result ≡ unwrap_or c.in_ok-left.left 0 = search rules in
+    ap (λ n. n == 0) value ∙ (ap all_taken left ∙ (ap (λ x. all_taken (option_map length (stop x whole_wants c.as_slice.result.now))) e
+    ∙ (ap (λ ts. all_taken (option_map length (stop (text ++ word) whole_wants ts))) f ∙ taken_next text word c.args.front.now c.args.kind us c.requires ran)))
