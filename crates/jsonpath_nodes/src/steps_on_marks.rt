@@ -162,10 +162,7 @@ pub fn stride_from_each<'a, M: Mark<'a>>(
 /// assert_eq!(rt; found.len(), 4);
 /// ```
 #[inline]
-pub fn flattened_from_each<'a, M: Mark<'a>>(
-    alloc: Global,
-    marks: &[M],
-) -> Result<Vec<M>, NoMemory>
+pub fn flattened_from_each<'a, M: Mark<'a>>(alloc: Global, marks: &[M]) -> Result<Vec<M>, NoMemory>
     ensures { IfOk result (λ found. MarksLeadBy M.located M.stand M.content (λ doc ls. from_each_location doc flat ls) marks.now found.items) }
 {
     let mut found = Vec::new(alloc);
@@ -200,10 +197,7 @@ pub fn flattened_from_mark<'a, M: Mark<'a>>(alloc: Global, mark: &M) -> Result<V
 /// assert_eq!(rt; found.len(), 6);
 /// ```
 #[inline]
-pub fn candidates_below_mark<'a, M: Mark<'a>>(
-    alloc: Global,
-    mark: &M,
-) -> Result<Vec<M>, NoMemory>
+pub fn candidates_below_mark<'a, M: Mark<'a>>(alloc: Global, mark: &M) -> Result<Vec<M>, NoMemory>
     ensures { IfOk result (λ found. MarksLeadBy M.located M.stand M.content (λ doc ls. flattened doc (step doc every (all_below doc ls))) (mark.now ∷ []) found.items) }
 {
     let mut found = Vec::new(alloc);

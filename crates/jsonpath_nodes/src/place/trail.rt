@@ -72,10 +72,7 @@ pub(crate) fn member_trail_of_path_to_object<'a>(
 }
 
 // A trail to the same value, for its children to share.
-pub(crate) fn shared_trail<'a>(
-    alloc: Global,
-    trail: &Trail<'a>,
-) -> Result<Rc<Trail<'a>>, NoMemory>
+pub(crate) fn shared_trail<'a>(alloc: Global, trail: &Trail<'a>) -> Result<Rc<Trail<'a>>, NoMemory>
     ensures { IfOk result (λ here. location_at here.value ≡ location_at trail.now) }
 {
     Ok(Rc::new(alloc, clone_trail(trail)?)?)

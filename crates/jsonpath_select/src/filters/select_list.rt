@@ -197,10 +197,7 @@ pub(crate) fn instruction_count_after_last_filter_with_own_step(left: &[Instruct
 }
 
 // The candidates behind `..` of a filter whose own `@` has a step, from one mark after the other.
-fn candidates_below_each<'a, M: Mark<'a>>(
-    alloc: Global,
-    marks: &[M],
-) -> Result<Vec<M>, NoMemory>
+fn candidates_below_each<'a, M: Mark<'a>>(alloc: Global, marks: &[M]) -> Result<Vec<M>, NoMemory>
     ensures { IfOk result (λ found. MarksLeadBy M.located M.stand M.content (λ doc ls. from_each doc candidates_below ls) marks.now found.items) }
 {
     let mut found = Vec::new(alloc);

@@ -9,9 +9,7 @@ ghost use Rattle.jsonpath_nodes.specs.step.Steps.{step, all_below, every, flatte
 
 use crate::error::halt::Halt;
 use jsonpath_nodes::steps_on_marks::{candidates_below_mark, flattened_from_mark};
-use jsonpath_nodes::{
-    Mark, NoMemory, Spot, ValueWalker, in_document_order, topmost_spots,
-};
+use jsonpath_nodes::{Mark, NoMemory, Spot, ValueWalker, in_document_order, topmost_spots};
 use serde_json::Value;
 use std::alloc::Global;
 
