@@ -21,7 +21,7 @@ use jsonpath_nodes::laws::{
 pub use jsonpath_nodes::laws::{
     nulling_at_topmost, putting_at_one_location, replacements_stay_in_place, value_is_document,
 };
-pub use jsonpath_paths::laws::{longest_front, one_tree_per_text, spelled_tree};
+pub use jsonpath_paths::laws::{error_position, longest_front, one_tree_per_text, spelled_tree};
 pub use jsonpath_select::laws::{
     dotted_names_select_one_location, each_location_has_a_value, location_text_selects_itself,
     one_location_answers_one_value, one_selection_per_text, paths_without_repeats_select_once,

@@ -1,15 +1,17 @@
 //! What a path answers, as callers state and prove it.
-ghost use Rattle.std.specs.Prelude.{◌≡◌, ◌↔◌, codes, map, length, List, Some, string_bytes, IfOk, IsTrue, option_to_list};
+ghost use Rattle.std.specs.Prelude.{◌≡◌, ◌≢◌, ◌↔◌, IfErr, IsErr, codes, map, length, List, Some, string_bytes, IfOk, IsTrue, option_to_list};
 ghost use Rattle.serde_json.specs.Data.{Data};
 ghost use Rattle.serde_json.specs.Find.{get};
 ghost use Rattle.serde_json.specs.View.{view};
 ghost use Rattle.jsonpath_nodes.specs.place.Location.{at};
+ghost use Rattle.jsonpath_paths.specs.declared.token.tokens.TokenError.TheVariants.{OutOfMemory, Position};
 ghost use Rattle.jsonpath_select.specs.SelectionLaws.{AllCanBeSpelled};
 ghost use Rattle.jsonpath_select.specs.Meaning.{Selects};
 ghost use Rattle.jsonpath_select.specs.answer.AnswerText.{list_text};
 
 use jsonpath_lib::{
-    JsonPathError, JsonSelector, Location, Selector, compile_path, laws, list_to_text, select,
+    JsonPathError, JsonSelector, Location, PathParser, Selector, TokenError, compile_path, laws,
+    list_to_text, select,
 };
 use serde_json::Value;
 use std::alloc::Global;
@@ -49,6 +51,16 @@ pub fn column_text(alloc: Global, json: &Value, path: &str) -> Result<String, Js
 {
     let found = select(alloc, json, path)?;
     list_to_text(alloc, found.as_slice())
+}
+
+/// Compiles `$.a[b]`, where the name in brackets lacks its quotes: always an error, at position 5 unless memory runs out.
+pub fn compile_bare_name(alloc: Global) -> Result<PathParser<'static>, TokenError>
+    ensures refused { IsErr result }
+    ensures position { IfErr result (λ error. error ≢ OutOfMemory → error ≡ Position 5) }
+{
+    laws::error_position();
+    laws::spelled_tree();
+    PathParser::compile(alloc, "$.a[b]")
 }
 
 /// Whether the path selects exactly `count` values in the document, duplicates included.
