@@ -91,7 +91,9 @@ pub use update::several_paths::MaskFault;
 
 // What the crates below give out to callers; `layers` has what one builds on them.
 pub use jsonpath_nodes::{LocStep, Location, NoMemory, PathStep, Spot, Steps, StepsFromRoot};
-pub use jsonpath_paths::{Decimal, PathParser, TokenError};
+pub use jsonpath_paths::{
+    Decimal, Expected, ExpectedTokens, Kind, PathParser, TokenError, expected_tokens,
+};
 pub use jsonpath_select::{
     AnyPath, HeldPair, JsonPathError, JsonSelector, JsonSelectorMut, Node, ParseFault, Parser,
     PathParts, Selector, SelectorMut, TryFault, compile_path, document_to_text,
