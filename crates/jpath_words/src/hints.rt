@@ -1,7 +1,7 @@
 //! Hints on what to write in place of a path with a syntax error, and a warning about `&&` beside `||`.
 
 ghost use Rattle.std.specs.Prelude.{◌≢◌, IfOk, IfSome, slice_index, string_bytes};
-ghost use Rattle.jpath_words.specs.Refusals.{BeginsWithRoot};
+ghost use Rattle.jpath_words.specs.Refusals.{BeginsWithRoot, EndsWithPath};
 ghost use Rattle.jsonpath_paths.specs.Spelling.{IsInGrammar};
 
 use jsonpath_paths::{PathParser, Token, Tokenizer};
@@ -9,51 +9,173 @@ use std::alloc::{AllocError, Global};
 
 const NO_NULL: &str = "a filter can't ask for null; (@.a) keeps what has the name a, null or not";
 
-const NO_NOT: &str = "there is no `!`: turn the comparison round, as != for ==, or >= for <";
+const NO_NOT: &str =
+    "there is no `!`: no filter asks for what is missing; write != for ==, or >= for <";
 
 const NO_MATCH: &str =
     "there are no regular expressions: compare with ==, or filter the lines by grep";
 
-const TWO_EQUALS: &str = "a comparison has two equals signs: write ==";
-
 const NO_FUNCTION: &str = "there are no functions in a path; jpath -c counts the matches";
 
-const NO_BLANK: &str = "between steps no blank may stand";
+const NO_SUM: &str = "a path computes nothing: a number stands as it is written";
 
 const NO_BACKWARDS: &str = "a range has no negative step: it never runs backwards";
 
+const NO_MIXTURE: &str = "a list has names alone, or indexes alone";
+
+const NO_SUCH_INDEX: &str = "an index is a whole number of 64 bits";
+
+const NOT_CLOSED: &str = "the quoted text isn't closed";
+
 const PARENTHESES: &str = "a filter's condition stands in parentheses: [?(@.price < 10)]";
 
+// What is written instead of a wrong text, and why.
+const REPLACEMENTS: [(&str, &str, &str); 11] = [
+    ("=>", ">=", "greater or equal is >="),
+    ("=<", "<=", "less or equal is <="),
+    ("=", "==", "a comparison has two equals signs"),
+    ("and ", "&& ", "conditions are joined by &&"),
+    ("or ", "|| ", "conditions are joined by ||"),
+    ("&", "&&", "conditions are joined by &&"),
+    ("|", "||", "conditions are joined by ||"),
+    ("]", "*]", "all children are [*]"),
+    (
+        "(@.length-1)",
+        "-1",
+        "an index below zero counts from the end",
+    ),
+    (" ", "", "no blank may stand here"),
+    ("$", "$.", "a dot stands between $ and a name"),
+];
+
 /// A sentence on what to write instead of a path text that has a syntax error at byte `at`, or an empty text if no hint
-/// is known. The only error is that memory runs out.
+/// is known. A path that it proposes is a text of the grammar. The only error is that memory runs out.
 pub fn hint_for_refused_path(alloc: Global, path: &str, at: usize) -> Result<String, AllocError>
     ensures { IfOk result (λ hint. slice_index path.now 0 ≢ 36 → BeginsWithRoot (string_bytes hint)) }
 {
     if !path.starts_with('$') {
         return hint_to_begin_with_root(alloc, path);
     }
-    let rest = path.get(at..).unwrap_or("");
-    if let Some(fixed) = path_with_parentheses(alloc, path)? {
-        let fixed = fixed.as_str();
-        return format!(in alloc; "a filter's condition stands in parentheses: {fixed}");
-    }
-    if let Some(sentence) = hint_for_unsupported_syntax(path, rest) {
-        return String::from_str(alloc, sentence);
-    }
     let before = path.get(..at).unwrap_or("");
-    if before.ends_with(' ') && (rest.starts_with('.') || rest.starts_with('[')) {
-        return String::from_str(alloc, NO_BLANK);
+    let rest = path.get(at..).unwrap_or("");
+    if let Some(hint) = hint_with_path(alloc, path, before, rest)? {
+        return Ok(hint);
     }
-    if before.ends_with('[') {
-        return hint_to_quote_name(alloc, rest);
+    match hint_for_unsupported_syntax(path, before, rest) {
+        Some(sentence) => String::from_str(alloc, sentence),
+        None => Ok(String::new(alloc)),
     }
-    if before.ends_with('.') && (rest.starts_with('"') || rest.starts_with('\'')) {
-        return String::from_str(
-            alloc,
-            "a quoted name stands in brackets: ['a'] in place of .'a'",
-        );
+}
+
+// A hint that proposes a path in place of the refused one. `None` where none is found that is one.
+fn hint_with_path(
+    alloc: Global,
+    path: &str,
+    before: &str,
+    rest: &str,
+) -> Result<Option<String>, AllocError>
+    ensures { IfOk result (λ o. IfSome o (λ hint. EndsWithPath (string_bytes hint))) }
+{
+    if let Some(hint) = hint_to_quote_names(alloc, before, rest)? {
+        return Ok(Some(hint));
     }
-    Ok(String::new(alloc))
+    if let Some(hint) = hint_to_replace(alloc, before, rest)? {
+        return Ok(Some(hint));
+    }
+    let front = before.trim_end();
+    if front.len() < before.len() {
+        return hint_if_path(alloc, "no blank may stand here", front, "", rest);
+    }
+    match path_with_parentheses(alloc, path)? {
+        Some(fixed) => {
+            hint_if_path(
+                alloc,
+                "a filter's condition stands in parentheses",
+                fixed.as_str(),
+                "",
+                "",
+            )
+        }
+        None => Ok(None),
+    }
+}
+
+// The hint with the first of the replacements that makes a path of the text.
+fn hint_to_replace(alloc: Global, before: &str, rest: &str) -> Result<Option<String>, AllocError>
+    ensures { IfOk result (λ o. IfSome o (λ hint. EndsWithPath (string_bytes hint))) }
+{
+    for (wrong, right, sentence) in REPLACEMENTS {
+        if let Some(tail) = rest.strip_prefix(wrong) {
+            if let Some(hint) = hint_if_path(alloc, sentence, before, right, tail)? {
+                return Ok(Some(hint));
+            }
+        }
+    }
+    Ok(None)
+}
+
+// The hint for bare names in brackets, `[a]` or `[a,b]`: to write each in quotes.
+fn hint_to_quote_names(
+    alloc: Global,
+    before: &str,
+    rest: &str,
+) -> Result<Option<String>, AllocError>
+    ensures { IfOk result (λ o. IfSome o (λ hint. EndsWithPath (string_bytes hint))) }
+{
+    let Some((names, tail)) = rest.split_once("]") else {
+        return Ok(None);
+    };
+    if !before.ends_with('[') || !is_bare(names) {
+        return Ok(None);
+    }
+    let mut quoted = String::new(alloc);
+    for name in names.split(",") {
+        if !quoted.is_empty() {
+            quoted.push(',')?;
+        }
+        quoted.push('\'')?;
+        quoted.push_str(name.trim())?;
+        quoted.push('\'')?;
+    }
+    quoted.push(']')?;
+    hint_if_path(
+        alloc,
+        "a name in brackets stands in quotes",
+        before,
+        quoted.as_str(),
+        tail,
+    )
+}
+
+// Whether a text in brackets can be bare names: it has a letter, and no sign of another form.
+fn is_bare(names: &str) -> bool {
+    names.chars().any(|c| c.is_alphabetic() || c == '_')
+        && !names.contains("'")
+        && !names.contains("\"")
+        && !names.contains("(")
+        && !names.contains("$")
+        && !names.contains("@")
+}
+
+// The sentence and the path that these three texts make, if they make one.
+fn hint_if_path(
+    alloc: Global,
+    sentence: &str,
+    front: &str,
+    put: &str,
+    tail: &str,
+) -> Result<Option<String>, AllocError>
+    ensures { IfOk result (λ o. IfSome o (λ hint. EndsWithPath (string_bytes hint))) }
+{
+    let fixed = format!(in alloc; "{front}{put}{tail}")?;
+    let fixed = fixed.as_str();
+    match PathParser::compile(alloc, fixed) {
+        Ok(_) => {
+            let hint = format!(in alloc; "{sentence}: {fixed}")?;
+            Ok(Some(hint))
+        }
+        Err(_) => Ok(None),
+    }
 }
 
 // The sentence for a text that begins with no `$`: to write it with `$` in front, if it is a path then.
@@ -70,7 +192,8 @@ fn hint_to_begin_with_root(alloc: Global, path: &str) -> Result<String, AllocErr
     } else {
         format!(in alloc; "${dot}{path}")?
     };
-    if PathParser::compile(alloc, fixed.as_str()).is_ok() {
+    let is_sign = path.starts_with('/') || path.starts_with('{') || path.starts_with('@');
+    if !is_sign && PathParser::compile(alloc, fixed.as_str()).is_ok() {
         let fixed = fixed.as_str();
         return format!(in alloc; "a path begins with $: write {fixed}");
     }
@@ -106,43 +229,65 @@ fn path_with_parentheses(alloc: Global, path: &str) -> Result<Option<String>, Al
     Ok(None)
 }
 
-// The sentence for what other JSONPaths have and this one has not, or writes otherwise: filters without parentheses,
-// null, `=~`, `!`, one `=`, functions, negative steps. `rest` is the text from where it is refused. `None` where it is
-// none of them.
-fn hint_for_unsupported_syntax(path: &str, rest: &str) -> Option<&'static str> {
-    if path.contains("[?") && !path.contains("[?(") {
-        return Some(PARENTHESES);
-    }
+// The sentence for what other JSONPaths have and this one has not, or writes otherwise. `before` and `rest` are the text
+// up to the error and from there. `None` where it is none of them.
+fn hint_for_unsupported_syntax(path: &str, before: &str, rest: &str) -> Option<&'static str> {
+    let has_filter = path.contains("[?");
     if rest.starts_with("null") {
         return Some(NO_NULL);
     }
-    if path.contains("=~") {
+    if path.contains("=~")
+        || path.contains("~=")
+        || path.contains("match(")
+        || path.contains("search(")
+    {
         return Some(NO_MATCH);
     }
-    if rest.starts_with('!') {
-        return Some(NO_NOT);
-    }
-    if rest.starts_with('=') {
-        return Some(TWO_EQUALS);
-    }
-    if rest.starts_with("()") || (rest.starts_with('(') && !path.contains("[?")) {
+    if path.contains("length(")
+        || rest.starts_with("()")
+        || (rest.starts_with('(') && !has_filter)
+    {
         return Some(NO_FUNCTION);
+    }
+    if rest.starts_with('!') || rest.starts_with("not ") {
+        return Some(NO_NOT);
     }
     if rest.starts_with('-') && path.contains(':') {
         return Some(NO_BACKWARDS);
     }
+    if has_filter && (rest.starts_with('-') || rest.starts_with('+') || rest.starts_with('*')) {
+        return Some(NO_SUM);
+    }
+    if has_filter && !path.contains("[?(") {
+        return Some(PARENTHESES);
+    }
+    if rest.starts_with('\'') || rest.starts_with('"') {
+        return sentence_at_quote(before, rest);
+    }
+    if before.ends_with('[') && rest.starts_with(|c: char| c.is_ascii_digit() || c == '-') {
+        return Some(NO_SUCH_INDEX);
+    }
     None
 }
 
-// The sentence for a bare name in brackets, `[a]`: to write it in quotes, or behind a dot. `rest` is the text behind
-// the bracket. Empty where no bracket closes it.
-fn hint_to_quote_name(alloc: Global, rest: &str) -> Result<String, AllocError> {
-    match rest.split_once("]") {
-        Some((name, _)) => format!(in alloc;
-            "a name in brackets stands in quotes: ['{name}'], or behind a dot: .{name}"
-        ),
-        None => Ok(String::new(alloc)),
+// The sentence where a quoted text is refused: it isn't closed, or stands in a list of indexes.
+fn sentence_at_quote(before: &str, rest: &str) -> Option<&'static str> {
+    let quoted = rest.get(1..).unwrap_or("");
+    let is_closed = if rest.starts_with('"') {
+        quoted.contains("\"")
+    } else {
+        quoted.contains("'")
+    };
+    if !is_closed {
+        return Some(NOT_CLOSED);
     }
+    if before.trim_end().ends_with(',') {
+        return Some(NO_MIXTURE);
+    }
+    if before.ends_with('.') {
+        return Some("a quoted name stands in brackets: ['a'] in place of .'a'");
+    }
+    None
 }
 
 /// Prints a warning on standard error if a path has `&&` and `||` in one condition without parentheses between them:
