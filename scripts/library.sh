@@ -41,7 +41,7 @@ note() {
 # What is here has to be what was proved, by this kit.
 verify() {
     command -v rt > /dev/null || refuse 69 "there is no command 'rt' on the PATH: put the folder bin of the Rattle kit there"
-    [ -s "$here/$noted" ] || refuse 70 "the library isn't proved in $here: run ./test there, which takes about an hour"
+    [ -s "$here/$noted" ] || refuse 70 "the library isn't proved in $here: run ./test there, which takes one to two hours"
     proved=$(sed -n '1s/^# //p' "$here/$noted") kit=$(rt version)
     [ "$kit" = "$proved" ] || refuse 70 "the library was proved by $proved, and this is $kit: run ./test again"
     other=$({ sed -n 1p "$here/$noted" && sums_of_sources && sums out/rlib; } | diff "$here/$noted" - | sed -n 's/^[<>] [0-9a-f]*  //p' | head -n 1)
