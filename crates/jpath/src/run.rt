@@ -25,8 +25,8 @@ struct Progress<'r, 'w, W> {
     has_failed: bool,
 }
 
-/// Runs the program `jpath` on all its files: does the task for each document, flushes the output, and returns the exit
-/// status.
+/// Runs the program `jpath` on all its files: writes the output that the command line asks for, document by document,
+/// flushes it, and returns the exit status.
 pub fn run_over_files<'r>(rt: &'r HostRuntime, wanted: &'r Wanted<'_>) -> u8 {
     let is_pipe_closed = Cell::new(false);
     let writer = Checked::new(FaultTellingWriter {

@@ -10,7 +10,7 @@ use json::Value as Exact;
 use jsonpath_nodes::{PathStep, Steps};
 
 /// The value to which these steps lead in an exact tree, which is the tree of a JSON text with each number as it is
-/// written; `None` if there is no such value. It takes no memory.
+/// written; `None` if there is no such value. The call allocates no memory.
 pub fn exact_value_at_steps<'v, 'a>(
     root: &'v Exact<'a>,
     steps: Steps<'_, '_>,
@@ -24,8 +24,8 @@ pub fn exact_value_at_steps<'v, 'a>(
 }
 
 /// The value to which these steps lead in an exact tree, which is the tree of a JSON text with each number as it is
-/// written; `None` if there is no such value. Precondition: the numbers of the tree are numbers of JSON, as in the tree
-/// of any text. Those of the value then are, too, so that it can be printed.
+/// written; `None` if there is no such value. Precondition: each number of the tree is written as JSON allows, as in
+/// any tree read from a text. The same then holds for the returned value, so that it can be printed.
 pub fn printable_value_at_steps<'v, 'a>(
     root: &'v Exact<'a>,
     steps: Steps<'_, '_>,

@@ -10,13 +10,13 @@ ghost use Rattle.jpath_core.specs.Renumbered.{OrderOfNumbersDecides};
 pub use jpath_numbers::laws::{copies_keep_order, one_number_one_key};
 
 /// Lemma: the exact tree of a JSON text, which keeps numbers as written, and its image, the `serde_json` value of the
-/// text, have values at the same locations. At each, the image's value is the image of the tree's value.
+/// text, have values at the same locations. At each, the value in the image is the image of that in the tree.
 pub fn image_has_same_locations()
     ensures { (l : Location) (exact : Json) (document : Data) → IsImageOf exact document → ImageStandsAt exact document l }
 {}
 
-/// Lemma: what a path selects depends on numbers by their order alone. If the numbers of a document and of the path's
-/// literals are replaced by others in the same order, the path selects the same list.
+/// Lemma: what a path selects depends on numbers only by how they are ordered. If the numbers of a document and of the
+/// path's literals are replaced by others in the same order, the path selects the same list.
 pub fn order_of_numbers_decides()
     ensures { OrderOfNumbersDecides }
 {}

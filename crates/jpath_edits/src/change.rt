@@ -18,7 +18,7 @@ use std::alloc::Global;
 pub enum Change<'c> {
     /// Replaces each selected value by this JSON text.
     Put(&'c str),
-    /// Removes each selected member or item, with its comma and the blanks before it.
+    /// Removes each selected member or item, with the blanks before it and one comma, after or before it.
     Take,
 }
 
@@ -34,10 +34,10 @@ impl<'c> Change<'c> {
     }
 }
 
-/// The text of a document with `change` made, all at once, at each of the locations `places` below the root, except at
-/// those below another such location. `exact` is the document's exact tree, which keeps numbers as written, and
-/// `places` is in document order. Errors: `EditDiffers` if a replaced part of the text, read again, is not the value at
-/// its location, which would be a fault of this library; or `OutOfMemory`.
+/// The text of a document with `change` made, all at once, at each location of `places` except the root and locations
+/// below another changed one. `exact` is the document's exact tree, which keeps numbers as written, and `places` is in
+/// document order. Errors: `EditDiffers` if a replaced part of the text, read again, is not the value at its location,
+/// which would be a fault of this library; or `OutOfMemory`.
 pub fn changed_text(
     alloc: Global,
     text: &str,

@@ -7,8 +7,8 @@ ghost use Rattle.jpath_files.specs.Calls.{Does, Tells, IsKnown, IsFront};
 use crate::file_facts::FileFacts;
 use std::io;
 
-/// A system call of an edit in place: on the edited file, on a new file beside it (in the same folder), or on the
-/// folder.
+/// A system call of an edit in place. It is made on the edited file, on the new file beside it (in the same folder), or
+/// on the folder.
 #[derive(Clone, Copy, Drop)]
 pub enum Call<'a> {
     /// Writes these bytes into the edited file, at this byte position.
@@ -17,7 +17,7 @@ pub enum Call<'a> {
     SetLen(u64),
     SyncFile,
     OpenFolder,
-    /// Removes the file at the path of the new file, which is beside the edited file.
+    /// Removes whatever file is at the path of the new file, which is beside the edited file.
     Remove,
     /// Creates the new file beside the edited file and opens it; fails if there is one. Its owner alone may read and
     /// write it.
@@ -39,9 +39,9 @@ pub enum Call<'a> {
 pub enum Place {
     /// The file at the path of the edited file.
     Path,
-    /// The file at the path of the new file, which is beside the edited file.
+    /// Whatever file is at the path of the new file, which is beside the edited file.
     Beside,
-    /// The new file, which is open.
+    /// The new file that this edit has created and opened.
     NewFile,
 }
 
@@ -62,7 +62,7 @@ pub trait Disk {
     fn size_limit(&mut self) -> u64
         ensures { state self.new ≡ state self.old };
 
-    /// Fills the buffer with the first bytes of the edited file.
+    /// Fills the buffer with the first bytes of the edited file. An error if the file has fewer bytes.
     fn read(&mut self, buffer: &mut [u8]) -> io::Result<()>
         ensures { MatchResult result (λ _. Tells (IsFront buffer.new) (state self.old) (state self.new)) (λ _. state self.new ≡ state self.old) };
 }

@@ -25,8 +25,8 @@ pub enum EditFault {
     OwnerLost,
     /// A write into the file failed: a part of the edited text is in it, and its old text can't be restored.
     Torn(io::Error),
-    /// The edited text is in the file, but a call that forces the folder to the disk failed: in a crash the text may be
-    /// lost.
+    /// The edited text is in the file, but a call that forces the file's folder to the disk (`fsync`) failed: in a
+    /// crash the text may be lost.
     Unsynced(io::Error),
     /// A system call failed, and the file is as it was: nothing was changed yet, or all was restored.
     Failed(io::Error),

@@ -30,8 +30,8 @@ impl<'r, T: Eprint, R: Read> Read for FaultTellingReader<'r, T, R> {
     }
 }
 
-/// A writer to standard output that prints each error of a write on standard error, and also returns it. Not printed
-/// are an interrupted write and a closed pipe, which sets `is_pipe_closed`.
+/// A writer to standard output that prints each error of a write on standard error, and also returns it. It doesn't
+/// print that a write was interrupted, or that the pipe is closed; it reports a closed pipe by `is_pipe_closed`.
 #[derive(Drop)]
 pub struct FaultTellingWriter<'r, 'c, T, W> {
     pub rt: &'r T,

@@ -56,8 +56,8 @@ impl FileFacts {
         self.owner == other.owner && self.group == other.group
     }
 
-    /// Whether `self` and `other` are facts of one file: they have the same device and inode. Its other facts may
-    /// differ, as after a change.
+    /// Whether `self` and `other` are facts of one file, that is, have the same device and inode. The other facts may
+    /// differ, as before and after a change of the file.
     pub fn is_same_file(&self, other: &FileFacts) -> bool
         ensures { IsTrue result ↔ ((self.now.device ≡ other.now.device) × (self.now.inode ≡ other.now.inode)) }
     {

@@ -17,7 +17,7 @@ use std::io::{self, ErrorKind};
 ///
 /// Errors: the bytes are more than a file may have, the file was changed since it was opened, a new file can't have its
 /// owner, group and mode, or a system call failed. The file is then as it was, except with `Torn` and `Unsynced`; the
-/// new file is removed if that is possible. The contract assumes that the system calls reported both files truly.
+/// new file is removed if that is possible. The contract assumes that what the system reported of both files was true.
 pub fn put_in_place<D: Disk>(
     alloc: Global,
     disk: &mut D,

@@ -22,7 +22,7 @@ use std::alloc::Global;
 /// `serde_json` value on which paths are run.
 #[derive(Drop)]
 pub struct Document<'a> {
-    /// The exact tree of the document: numbers by their digits, members in the order of the text. It borrows the text.
+    /// The exact tree of the document: numbers as written, members in the order of the text. It borrows the text.
     pub exact: Exact<'a>,
     /// The image of the document, on which paths are run: the same values, with the numbers represented as the field
     /// `numbers` says.
@@ -32,9 +32,9 @@ pub struct Document<'a> {
 }
 
 impl<'a> Document<'a> {
-    /// Reads a document from its text, for paths whose filters compare what `compared` says. The document's tree
-    /// borrows the text and `scratch`, which stores unescaped copies of texts with escapes. Errors: `NotADocument` if
-    /// the text is no JSON document, `HugeExponent` if an exponent is too long to compare, or `OutOfMemory`.
+    /// Reads a document from its text; `compared` says what the filters of the paths to be run on it compare. The tree
+    /// borrows the text and `scratch`, which stores texts with their escapes resolved. Errors: `NotADocument` if the
+    /// text is no JSON document, `HugeExponent` if an exponent is too long to compare, or `OutOfMemory`.
     pub fn read(
         alloc: Global,
         text: &'a str,
@@ -53,8 +53,8 @@ impl<'a> Document<'a> {
         Document::of_exact_tree(alloc, text, exact, compared)
     }
 
-    /// Makes a document of its exact tree, which was read from this text, for paths whose filters compare what
-    /// `compared` says. Errors: `HugeExponent` if an exponent is too long to compare, or `OutOfMemory`.
+    /// Makes a document from its exact tree, which was read from this text; `compared` says what the filters of the
+    /// paths to be run on it compare. Errors: `HugeExponent` if an exponent is too long to compare, or `OutOfMemory`.
     pub fn of_exact_tree(
         alloc: Global,
         text: &str,

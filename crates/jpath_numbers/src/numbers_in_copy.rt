@@ -86,8 +86,8 @@ impl Numbers {
         }
     }
 
-    /// The token list of a path in which each number that a filter compares is replaced as in the document's copy:
-    /// multiplied by the power of ten (`Scaled`), replaced by its rank (`Ranked`), else unchanged.
+    /// The token list of a path, with each number that a filter compares replaced as the numbers of the document's copy
+    /// are: `Scaled` multiplies it by the power of ten, `Ranked` replaces it by its rank, the other modes keep it.
     pub fn tokens_with_literals_placed(
         &self,
         alloc: Global,

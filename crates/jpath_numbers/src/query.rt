@@ -23,7 +23,7 @@ pub struct Query<'a> {
 /// What the filters of some paths compare: whether they compare numbers, and which literal numbers they compare.
 #[derive(Drop)]
 pub struct Compared {
-    /// Whether a filter has a comparison that may be of numbers. One with a literal text or boolean as a side is not.
+    /// Whether some filter may compare numbers: it has a comparison with no literal text or boolean as a side.
     pub is_any: bool,
     /// The literal numbers that the filters of the paths compare.
     pub literals: Vec<Decimal>,

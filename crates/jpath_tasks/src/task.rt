@@ -71,7 +71,7 @@ pub struct Wanted<'a> {
 
 impl<'a> Wanted<'a> {
     /// Whether blanks between documents, and a byte order mark before the first, are written as they are. True exactly
-    /// if there are edits and the edited documents are not laid out over lines (`--pretty`).
+    /// if there are edits and no `--pretty`, which lays the edited documents out over lines.
     pub fn keeps_blanks_between_documents(&self) -> bool
         ensures { result ≡ is_edit self.now.task && not self.now.look.is_pretty }
     {

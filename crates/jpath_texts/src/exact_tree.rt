@@ -12,9 +12,9 @@ use std::alloc::Global;
 
 const MAX_DEPTH: usize = 127;
 
-/// Reads the exact tree of a JSON text: numbers by their digits, members in their order, repeated names included. The
-/// tree borrows the text and `scratch`, which stores unescaped copies of texts with escapes. Errors: `NotADocument` if
-/// the text is no JSON document or nests deeper than 127 levels, or `OutOfMemory`.
+/// Reads the exact tree of a JSON text: numbers as written, members in the order of the text, repeated names included.
+/// The tree borrows the text and `scratch`, which stores unescaped copies of texts with escapes. Errors: `NotADocument`
+/// if the text is no JSON document or nests deeper than 127 levels, or `OutOfMemory`.
 pub fn read_exact_tree<'a>(
     alloc: Global,
     text: &'a str,

@@ -51,9 +51,9 @@ impl Action {
     }
 }
 
-/// Makes the call of `action` `count` times. Returns the total time, and the number of results of one call: of selected
-/// values or nodes, also for an update; 0 or 1 for `First` and `Exists`; 1 for compiling. Each update changes a fresh
-/// copy of the document; making the copies is not timed.
+/// Makes the call of `action` `count` times. Returns the total time, and the number of results of one call: how many
+/// values or nodes the path selects, for an update too; 0 or 1 for `First` and `Exists`; 1 for compiling. Each update
+/// changes a fresh copy of the document; making the copies is not timed.
 pub fn measure(
     rt: &HostRuntime,
     action: Action,

@@ -41,8 +41,8 @@ pub fn locations_below_root_ascend()
     ensures { BelowAscends }
 {}
 
-/// Lemma: a list of locations, sorted into document order and without repeats, ascends strictly and has exactly the
-/// locations of the original list.
+/// Lemma: sorting a list of locations into document order and dropping repeats yields a strictly ascending list with
+/// exactly the locations of the original.
 ///
 /// ```text
 /// laws::locations_once_in_order_ascend();
@@ -61,7 +61,8 @@ pub fn equal_locations_are_same()
     ensures { (l m : Location) → location_cmp l m ≡ Equal → l ≡ m }
 {}
 
-/// Lemma: if nodes are at the locations of a list, one by one, then that is the list of the nodes' own locations.
+/// Lemma: if each node of a list is at the location with the same index in a list of locations of equal length, then
+/// the nodes' own locations are that list.
 ///
 /// ```text
 /// laws::spots_show_their_locations();
@@ -70,8 +71,8 @@ pub fn spots_show_their_locations()
     ensures { (doc : Data) (ls : List Location) (spots : List Spot) → StandAt doc ls spots → map location_of spots ≡ ls }
 {}
 
-/// Lemma: putting null at a list of locations puts it at each that exists, is below the root and has no ancestor in the
-/// list but the root. Nothing else changes. It is the same as putting null at each location in turn.
+/// Lemma: putting null at a list of locations puts it at each location that exists, is below the root, and has no
+/// ancestor in the list other than the root. Nothing else changes. Putting null at each location in turn does the same.
 ///
 /// ```text
 /// laws::nulling_at_topmost();
@@ -94,8 +95,9 @@ pub fn putting_at_one_location()
     ensures nowhere { ChangesNothing }
 {}
 
-/// Lemma: a run of single updates by a closure that always returns the same result applies this at each location in
-/// turn: `Some` puts the value there, `None` removes what is there. The call does nothing: the closure is not called.
+/// Lemma: if a closure always returns the same result, updating the locations of a list by it, one after another,
+/// applies this result at each in turn: `Some` puts the value there, `None` removes what is there. The lemma's call
+/// does not call the closure.
 ///
 /// ```text
 /// let on = &mut |_old: Value| Some(Value::Bool(true));
@@ -127,10 +129,10 @@ pub fn nulling_and_taking_ignore_order()
     ensures { SetsAlone }
 {}
 
-/// Lemma: the set of nodes that steps and descents select, and the set of a filter's candidates, depend only on the set
-/// of locations from which they start, not on their order or on repeats; so do the set of locations that pass a test,
-/// and whether any passes. Two lists of the same locations become equal when they are put in document order, each
-/// location once.
+/// Lemma: the set of nodes that a step or `..` selects, and the set of a filter's candidates, depend only on the set of
+/// locations from which they start, not on their order or on repeats. The same holds for the set of locations that pass
+/// a test, and for whether any passes. Two lists with the same set of locations become equal when they are put in
+/// document order, each location once.
 ///
 /// ```text
 /// laws::steps_ignore_order_and_repeats();
@@ -146,8 +148,7 @@ pub fn steps_ignore_order_and_repeats()
     ensures one_list { OneListOfASet }
 {}
 
-/// Lemma: applying `..` to a set of nodes gives the same set of nodes as applying it to those with no ancestor in
-/// the set.
+/// Lemma: `..` selects the same set from a set of nodes as from those of them that have no ancestor in that set.
 ///
 /// ```text
 /// laws::topmost_descend_to_same_set();
@@ -157,8 +158,9 @@ pub fn topmost_descend_to_same_set()
     ensures step { DescentOfTheTopmost }
 {}
 
-/// Lemma: if no location of a list is equal to another or below it, and the closure removes nothing, a run of single
-/// updates leaves at each location the closure's result for the value that was there before, and all else as it was.
+/// Lemma: let no location of a list be at or below another, and let a closure never return `None`. Then updating the
+/// locations by the closure, one after another, puts at each location that exists, other than the root, the closure's
+/// result for the original value. Nothing else changes.
 ///
 /// ```text
 /// laws::replacements_stay_in_place();
@@ -167,8 +169,8 @@ pub fn replacements_stay_in_place()
     ensures { RunsInPlace }
 {}
 
-/// Lemma: from disjoint locations of a document, the candidates of a filter after `..` are found by one descent from
-/// each location in turn. Each is found once: no two descents find the same one.
+/// Lemma: if no location of a list is equal to another or below it, then the candidates of a filter after `..` are
+/// found by one descent from each location in turn. Each is found once: no two descents find the same one.
 ///
 /// ```text
 /// laws::candidates_of_disjoint_in_descents();
@@ -177,10 +179,11 @@ pub fn candidates_of_disjoint_in_descents()
     ensures { DisjointInOneDescent }
 {}
 
-/// Lemma: locations are disjoint if no two are the same and none is below another; so distinct ones of equal depth are
-/// disjoint. Disjoint locations are apart: no two equal, and no index steps lead from one to another. No location is at
-/// or below two disjoint ones. From disjoint locations, a step that selects no child twice leads to disjoint ones (`*`
-/// if the names ascend in each object there). A filter's candidates, and those it selects, are then disjoint too.
+/// Lemma: locations are disjoint if no two are equal and none is below another. Distinct locations of equal depth are
+/// disjoint. No location is at or below two disjoint ones. Disjoint locations are apart: no two are equal, and no index
+/// steps lead from one to another. From disjoint locations, a step that selects no child of a value twice leads to
+/// disjoint ones; `*` does if each object to which it is applied has its names in ascending order. A filter's
+/// candidates from disjoint locations are disjoint, and so are those of them that meet its condition.
 ///
 /// ```text
 /// laws::steps_keep_locations_disjoint();
@@ -194,9 +197,9 @@ pub fn steps_keep_locations_disjoint()
     ensures candidates { CandidatesStayDisjoint }
 {}
 
-/// Lemma: locations are apart if no two are equal and no index steps lead from one to another. Then no candidate of a
-/// filter is found from two of them. A single location is apart. The candidates that are found from any locations are
-/// apart, if each is taken once.
+/// Lemma: locations are apart if no two are equal and no index steps lead from one to another. From locations that are
+/// apart, flattening nested arrays finds no candidate of a filter twice. A single location counts as apart. The
+/// candidates that are found from any locations, each listed once, are apart.
 ///
 /// ```text
 /// laws::apart_locations_meet_candidates_once();
@@ -208,10 +211,10 @@ pub fn apart_locations_meet_candidates_once()
     ensures no_repeat { ApartHasNoRepeat }
 {}
 
-/// Lemma: these steps lead to locations that are apart (no two equal, and no index steps lead from one to another).
-/// From any distinct locations: a name, or a list of different names. From one location: `..` before a name. From
-/// locations that are apart: an index, a slice, and a list of different indexes that count from the front. If locations
-/// are apart, those of them that meet a filter's condition are, too.
+/// Lemma: locations are apart if no two are equal and no index steps lead from one to another. These steps lead to
+/// locations that are apart: from any distinct locations, a name or a list of different names; from a single location,
+/// `..` before a name; from locations that are apart, an index, a slice, or a list of different indexes none of which
+/// is negative. If locations are apart, those of them that meet a filter's condition are, too.
 ///
 /// ```text
 /// laws::steps_keep_locations_apart();
@@ -226,9 +229,9 @@ pub fn steps_keep_locations_apart()
     ensures kept { KeptStandApart }
 {}
 
-/// Lemma: the locations at or below one location of a document are distinct. From distinct locations, a filter and
-/// every step that selects no child of a value twice lead to distinct ones; so does `*` if each object there has its
-/// names in ascending order.
+/// Lemma: all locations at or below one location of a document are distinct. From distinct locations, a step that
+/// selects no child of a value twice leads to distinct ones; `*` does if each object to which it is applied has its
+/// names in ascending order. If locations are distinct, those of them that meet a filter's condition are, too.
 ///
 /// ```text
 /// laws::steps_lead_without_repeats();
@@ -241,8 +244,7 @@ pub fn steps_lead_without_repeats()
     ensures kept { KeptHasNoRepeat }
 {}
 
-/// Lemma: in the value and in everything below it, the names of each object ascend strictly. The function walks over
-/// the value and returns nothing.
+/// Lemma: in a `Value`, the names of each object, at any depth, ascend strictly. The call goes through the whole value.
 ///
 /// ```text
 /// laws::value_is_document(json);
@@ -278,8 +280,7 @@ fn object_is_document(members: &Map<String, Value>)
     }
 }
 
-/// Lemma: if the value is an object, its names ascend strictly. Nothing is said of the values of its members. The call
-/// returns nothing.
+/// Lemma: if the value is an object, its names ascend strictly. Nothing is said of the objects below it.
 ///
 /// ```text
 /// let document = read_document(alloc, br#"{"b":1,"a":2}"#)?;

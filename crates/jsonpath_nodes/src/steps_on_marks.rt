@@ -16,7 +16,7 @@ use crate::step::plain_step::PlainStep;
 use crate::step::stride::{Stride, listed_names, plain_step_of_selection};
 use std::alloc::Global;
 
-/// Applies a step without a condition, such as `[0]`, to each node: the children that it selects there.
+/// Returns the children that a step without a condition, such as `[0]`, selects from each node.
 ///
 /// ```text
 /// let items = steps_on_marks::plain_step_from_each(alloc, &[&document], &PlainStep::Every)?;
@@ -106,8 +106,8 @@ pub fn add_named_member<'a, M: Mark<'a>>(
     Ok(())
 }
 
-/// Applies a step without a condition, such as `[0]`, to each node and to all its descendants, as `..` does; each value
-/// comes before its children. The only error is `NoMemory`.
+/// Applies a step without a condition, such as `[0]`, to each node and to all its descendants, in preorder, as `..`
+/// does. The only error is `NoMemory`.
 ///
 /// ```text
 /// let found = steps_on_marks::plain_step_from_all_below(alloc, &[&document], &PlainStep::Named("a"))?;
@@ -128,7 +128,8 @@ pub fn plain_step_from_all_below<'a, M: Mark<'a>>(
     Ok(found)
 }
 
-/// Applies a `Stride`, a step without a condition, to each node; if its `leaves` is set, to all descendants too (`..`).
+/// Returns what a `Stride`, a step without a condition, selects from each node and, if its `leaves` is set (`..`), from
+/// all descendants, too.
 ///
 /// ```text
 /// let second = Stride {
@@ -154,8 +155,8 @@ pub fn stride_from_each<'a, M: Mark<'a>>(
     }
 }
 
-/// Flattens nested arrays: the non-array values left in each node, with duplicates. If no two nodes reach the same
-/// value, these are the candidates of a filter that uses a relative query with at least one segment.
+/// The non-array values left after flattening the nested arrays of each node, with duplicates. If no two nodes lead to
+/// the same value, these are the candidates of a filter that uses a relative query with at least one segment.
 ///
 /// ```text
 /// let found = steps_on_marks::flattened_from_each(alloc, &[&document])?;
@@ -188,9 +189,9 @@ pub fn flattened_from_mark<'a, M: Mark<'a>>(alloc: Global, mark: &M) -> Result<V
     Ok(found)
 }
 
-/// The candidates, from one node, of a filter after `..` that uses a relative query with at least one segment: the
-/// non-array values left after flattening nested arrays among the descendants. Each comes once, where a single descent
-/// reaches it first.
+/// The candidates, from one node, of a filter that comes after `..` and uses a relative query with at least one
+/// segment: the non-array values left after flattening nested arrays among the descendants. Each is returned once, at
+/// its first occurrence.
 ///
 /// ```text
 /// let found = steps_on_marks::candidates_below_mark(alloc, &&document)?;

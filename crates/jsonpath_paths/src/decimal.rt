@@ -5,7 +5,7 @@ ghost use Rattle.std.specs.Prelude.{◌≡◌, ◌<◌, ◌^◌, ◌&&◌, Some,
 ghost use Rattle.jsonpath_paths.specs.Numbers.{decimal_from, decimal_units, whole_bound};
 ghost use Rattle.jsonpath_paths.specs.Grammar.{whole_number};
 
-/// A number with 18 decimal places, kept exactly as a whole number of 10^-18.
+/// A number with up to 18 decimal places, stored exactly as a whole number of units of 10^-18.
 ///
 /// ```text
 /// assert!(rt; Decimal::of_i64(-1) < Decimal::of_u64(2));

@@ -21,7 +21,7 @@ ghost use Rattle.jsonpath_paths.specs.declared.token.tokens.Token.{Token};
 ghost use Rattle.jsonpath_paths.specs.declared.token.tokens.TokenError.{TokenError};
 
 /// Lemma: the first token of a text is the longest prefix of the text that is a token, and it has one kind alone. If
-/// there is no first token, no prefix is a token. A text has at most one first token, and so one position after it.
+/// there is none, no prefix is a token. A text has at most one first token, and at most one position after it.
 ///
 /// ```text
 /// laws::longest_front();
@@ -34,7 +34,8 @@ pub fn longest_front()
     ensures one_token { (from to other : Place) (t u : Token) → TakesToken from t to → TakesToken from u other → (t ≡ u) × (to ≡ other) }
 {}
 
-/// Lemma: if a path text begins with a name or number and not with `$`, its first token is all of that name or number.
+/// Lemma: if a path text begins with an unquoted name or number whose first character is not `$`, its first token is
+/// all of this name or number.
 ///
 /// ```text
 /// laws::word_is_first_token();
@@ -73,8 +74,8 @@ pub fn spelled_tree()
     ensures only { (text : List ℕ) (p : Path) → Spells text p → tree_of_text text ≡ Some p }
 {}
 
-/// Lemma: a text has a syntax error at exactly the position that is computed from it, and so at one position at most.
-/// That of a fixed text is proved by `refl`.
+/// Lemma: a text has a syntax error at a position exactly if `place_of_text` computes this position, so at one position
+/// at most. The position in a fixed text is proved by `refl`.
 ///
 /// ```text
 /// laws::error_position();
@@ -93,8 +94,8 @@ pub fn refused_within_text()
     ensures { (text : List ℕ) (error : TokenError) → IsUtf8 text → RefusedAt text error → MatchPlace error (length text) }
 {}
 
-/// Lemma: if `$[?(a)]` and `$[?(b)]` are paths, the tree of `$[?((a) && (b))]` joins the conditions of these two, which
-/// change only in their positions in the text. The same holds for `||`.
+/// Lemma: if `$[?(a)]` and `$[?(b)]` are paths, the tree of `$[?((a) && (b))]` joins the conditions of these two paths,
+/// with nothing changed but the positions of their tokens in the text. The same holds for `||`.
 ///
 /// ```text
 /// laws::connective_joins_conditions();

@@ -11,7 +11,7 @@ use std::alloc::Global;
 const BAR: &str = "\u{0}";
 
 /// The test rows of a page of documentation: those of all its tables that show paths with documents and answers, in the
-/// page's order. An error if a table's line has a cell too few, or a cell has no code where it needs some.
+/// page's order. An error if a row of a table has too few cells, or a cell that must have text in backticks has none.
 pub fn rows_of(alloc: Global, page: &str) -> Result<Vec<Row>> {
     let mut rows = Vec::new(alloc);
     let mut head = Vec::new(alloc);

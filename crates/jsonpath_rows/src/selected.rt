@@ -8,8 +8,7 @@ use jsonpath_select::{
 use serde_json::Value;
 use std::alloc::Global;
 
-/// A way to select by a path in a document: by one of the selectors, or by the token list. All have to give the same
-/// answer.
+/// A way to select by a path in a document: by a selector, or by the token list. All have to give the same answer.
 #[derive(Clone, Copy)]
 pub enum Method {
     /// Selects values by a `JsonSelector`.

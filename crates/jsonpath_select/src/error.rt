@@ -24,9 +24,9 @@ use std::fmt;
 /// ```
 #[derive(Drop)]
 pub enum JsonPathError {
-    /// No path is set, whether or not a value is set. Printed as `path not set`.
+    /// No path is set in the selector, whether or not a value is set. Printed as `path not set`.
     EmptyPath,
-    /// A path is set, but no value. Printed as `json value not set`.
+    /// A path is set in the selector, but no value. Printed as `json value not set`.
     EmptyValue,
     /// A text is no path. The message is `Eof` if the text ends too early, else `Position:` and the byte position
     /// after the wrong token. For an error of `Parser` the message is the path text, a line end and a row of `^`.
@@ -190,7 +190,7 @@ pub fn error_of_parse_fault(alloc: Global, fault: &ParseFault) -> JsonPathError
     }
 }
 
-/// Converts an error of `Parser`: `Text` to `Path` with the same message, `OutOfMemory` to itself. It takes no memory.
+/// Converts an error of `Parser`: `Text` to `Path` with the same message, `OutOfMemory` to itself. Allocates no memory.
 impl From<ParseFault> for JsonPathError {
     ghost use Rattle.jsonpath_select.specs.JsonPathErrors.{error_of};
     ghost use Rattle.std.specs.Prelude.{◌≡◌};
@@ -205,7 +205,7 @@ impl From<ParseFault> for JsonPathError {
     }
 }
 
-/// The error that memory ran out becomes `OutOfMemory`.
+/// Converts an out-of-memory error to `OutOfMemory`.
 impl From<NoMemory> for JsonPathError {
     ghost use Rattle.std.specs.Prelude.{◌≡◌};
     ghost use Rattle.jsonpath_select.specs.declared.error.JsonPathError.TheVariants.{OutOfMemory};
@@ -217,7 +217,7 @@ impl From<NoMemory> for JsonPathError {
     }
 }
 
-/// The error that memory ran out becomes `OutOfMemory`.
+/// Converts an out-of-memory error to `OutOfMemory`.
 impl From<AllocError> for JsonPathError {
     ghost use Rattle.std.specs.Prelude.{◌≡◌};
     ghost use Rattle.jsonpath_select.specs.declared.error.JsonPathError.TheVariants.{OutOfMemory};
@@ -229,7 +229,7 @@ impl From<AllocError> for JsonPathError {
     }
 }
 
-/// The error that memory ran out becomes `OutOfMemory`.
+/// Converts an out-of-memory error to `OutOfMemory`.
 impl<T: Drop> From<AllocFailed<T>> for JsonPathError {
     ghost use Rattle.std.specs.Prelude.{◌≡◌};
     ghost use Rattle.jsonpath_select.specs.declared.error.JsonPathError.TheVariants.{OutOfMemory};

@@ -25,8 +25,7 @@ pub fn one_selection_per_text()
     one_tree_per_text();
 }
 
-/// Lemma: a path selects no location of a document twice if its steps outside filters have no `..` and no list of names
-/// or indexes.
+/// Lemma: a path selects no location twice if, outside filters, it has no `..` and no list of names or indexes.
 ///
 /// ```text
 /// laws::paths_without_repeats_select_once();
@@ -120,7 +119,7 @@ pub fn refused_for_memory_alone()
     ensures { NeverRefused }
 {}
 
-/// Lemma: a document has a value at each location that a path selects in it: the path selects as many values as
+/// Lemma: a document has a value at each location that a path selects in it, so the path selects as many values as
 /// locations, in the same order.
 ///
 /// ```text
@@ -132,9 +131,9 @@ pub fn each_location_has_a_value()
     all_locations_stand_below_root();
 }
 
-/// Lemma: in a filter, a path from the root (`$`) does not depend on the candidate. So a side of a comparison that is
-/// such a path has the same values at every candidate, and a condition whose paths all begin at the root holds at all
-/// candidates or at none. Both are computed once.
+/// Lemma: in a filter, a path from the root (`$`) does not depend on the candidate. So if a side of a comparison is
+/// such a path, it has the same values at every candidate, and a condition whose paths all begin at the root holds at
+/// all candidates or at none. Both need to be computed only once.
 ///
 /// ```text
 /// laws::rooted_is_same_for_all_candidates();
@@ -145,9 +144,9 @@ pub fn rooted_is_same_for_all_candidates()
     ensures kept { RootedKeepsAllOrNone }
 {}
 
-/// Lemma: some left value and some right value satisfy `<`, `<=`, `>` or `>=` exactly if the least and greatest
-/// values of a kind do, and `==` exactly if the sets of a kind intersect or both sides have a null. So pairs need
-/// not be compared one by one.
+/// Lemma: whether some left value and some right value satisfy a comparison other than `!=` can be decided separately
+/// for each kind of value, without comparing all pairs: `<` and `<=` by the least left and the greatest right value,
+/// `>` and `>=` by the greatest left and the least right, `==` by a set of the right values.
 ///
 /// ```text
 /// laws::extremes_and_sets_decide_pairs();
@@ -156,10 +155,10 @@ pub fn extremes_and_sets_decide_pairs()
     ensures { EndsDecidePairs }
 {}
 
-/// Lemma: a path selects the same set, and a condition holds at the same candidates, if duplicates are dropped after
-/// each step, inside conditions too, and if each `..` starts from other nodes with the same set of nodes at or below
-/// them, such as those without an ancestor in the list. So a condition depends on the location and the document alone,
-/// and can be decided once for each location.
+/// Lemma: duplicates may be dropped after each step of a path, also inside conditions, and each `..` may start from
+/// other nodes with the same set of nodes at or below them, such as those with no ancestor in the list: the path still
+/// selects the same set, and each condition holds at the same candidates. So a condition depends on the location and
+/// the document alone, and can be decided once for each location.
 ///
 /// ```text
 /// laws::dropping_repeats_keeps_the_set();
@@ -172,8 +171,8 @@ pub fn dropping_repeats_keeps_the_set()
     steps_ignore_order_and_repeats();
 }
 
-/// Lemma: locations from which the remaining steps select nothing can be dropped: the steps select the same list, in
-/// the same order and with the same duplicates, from the other locations alone.
+/// Lemma: locations from which the remaining steps select nothing can be dropped: from the other locations alone, the
+/// steps select the same list, in the same order and with the same duplicates.
 ///
 /// ```text
 /// laws::what_leads_on_suffices();

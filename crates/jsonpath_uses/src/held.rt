@@ -55,7 +55,7 @@ pub fn select_by_second_path<'a>(
     held.select(alloc)
 }
 
-/// Sets a path in a selector, once, and returns what it selects in a first document and what in a second.
+/// Sets a path in a selector, once, and returns what it selects in a first document and in a second one.
 pub fn select_in_two_documents<'a>(
     alloc: Global,
     path: &str,
@@ -74,8 +74,8 @@ pub fn select_in_two_documents<'a>(
     Ok((first, second))
 }
 
-/// The document with null in place of what the path selects below the root. The calls on the `JsonSelectorMut` that
-/// does this are not chained; `None` would mean that it has no document.
+/// The document with null in place of what the path selects below the root, made by calls on a `JsonSelectorMut` that
+/// are not chained. `None` would mean that the selector has no document.
 pub fn delete_in_statements(
     alloc: Global,
     json: Value,

@@ -7,7 +7,7 @@ use jsonpath_lib::{AnyPath, JsonPathError, PathParser};
 use serde_json::Value;
 use std::alloc::Global;
 
-/// The index, from 0, of the first rule of a list whose path selects something in the message, or `None`.
+/// In a list of rules, the index, from 0, of the first whose path selects something in the message, or `None`.
 pub fn first_route(
     alloc: Global,
     message: &Value,

@@ -160,7 +160,7 @@ pub fn replace_in<F: FnMut(Value) -> Option<Value>>(
 }
 
 /// Replaces each value that the path selects in the document by the closure's result for it, or removes it at `None`.
-/// The closure's first error ends the updates; those before it remain.
+/// The closure's first error ends the updates; the updates before it remain.
 pub fn try_replace_in<E, F: FnMut(&Value) -> Result<Option<Value>, E>>(
     alloc: Global,
     value: &mut Value,

@@ -46,8 +46,8 @@ impl From<IoFailed> for Stop {
     }
 }
 
-/// Visits the documents of a file and writes the output for each. It has the task, the file's name, the output so far,
-/// and whether a document had an error.
+/// Visits the documents of a file and writes the output for each. It has what the command line asks for, the file's
+/// name, the output so far, and whether a document had an error.
 #[derive(Drop)]
 pub struct DocumentVisitor<'r, 'w, T, W> {
     pub rt: &'r T,

@@ -14,9 +14,9 @@ use json::{Scratch, Value as Exact};
 use std::alloc::Global;
 use std::str;
 
-/// Appends the output for a document to `out` (lines, an array, a table or its edited text), and returns how many
-/// matches it has, or for edits how many locations below the root their paths select. `name` is the file's name. After
-/// an error `out` may end with a part of the output.
+/// Appends to `out` the output for one document, as the command line asks for it: lines, an array, a table or the
+/// edited text. Returns how many matches the document has or, for edits, how many locations below the root their paths
+/// select in it. `name` is the file's name. After an error `out` may end with a part of the output, or be empty.
 pub fn add_output_for_document(
     rt: &(impl Eprint + Alloc<A = Global>),
     wanted: &Wanted<'_>,

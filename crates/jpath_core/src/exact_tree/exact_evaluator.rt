@@ -25,7 +25,7 @@ use jsonpath_select::borrowed_name_at;
 use std::alloc::{AllocError, Global};
 use std::mem;
 
-/// The result of evaluating a path on an exact tree, the tree of a JSON text that keeps each number as it is written.
+/// The result of evaluating a path on an exact tree, the tree of a JSON text with each number as it is written.
 #[derive(Clone, Copy, Debug, Drop)]
 pub struct ExactOutcome {
     /// How many values the path selects in the document.
@@ -35,8 +35,8 @@ pub struct ExactOutcome {
 }
 
 /// Whether a path may be evaluated on the exact tree of a document, without an image (a copy with `serde_json`'s
-/// numbers): it begins at the root, and consists of names, `[*]` and filters on members of a candidate. Even for such a
-/// path some documents need an image.
+/// numbers): it begins at the root, and has only single names, `[*]`, and filters whose conditions use only literals
+/// and members of the candidate, such as `@.a`. For some documents even such a path needs an image.
 pub fn may_answer_by_exact_tree(query: &Query<'_>) -> bool {
     let path = query.path().tree();
     for step in &path.steps {
@@ -52,9 +52,9 @@ pub fn may_answer_by_exact_tree(query: &Query<'_>) -> bool {
     path.absolute
 }
 
-/// Writes a line to `out` for each value that a path selects in an exact tree, in the path's order, but no lines if
-/// `line` is `None`. Returns how many values there are, or `None` if the path or the document can only be evaluated on
-/// an image (a copy with `serde_json`'s numbers); then, as after an error, `out` may end with a part of the lines.
+/// Appends a line to `out` for each value that a path selects in an exact tree, in the path's order; none if `line` is
+/// `None`. Returns how many values there are, or `None` if the path or the document can be evaluated only on an image
+/// (a copy with `serde_json`'s numbers). After an error or `None`, `out` may end with a part of the lines.
 pub fn add_lines_by_exact_tree(
     alloc: Global,
     exact: &Exact<'_>,

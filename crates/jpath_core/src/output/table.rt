@@ -11,10 +11,10 @@ use json::Value as Exact;
 use serde_json::Value;
 use std::alloc::Global;
 
-/// Appends to `out` a row of a table for each value that the path `rows` selects in a document, and returns how many
-/// rows there are. A column is a path that begins at the row's value instead of the document's root. Its field has the
-/// first value that it selects there, a text without quotes and anything else as compact JSON, or is empty if it
-/// selects nothing. After an error `out` may end with a part of the rows.
+/// Appends to `out` a row of a table for each value that the path `rows` selects in a document, and returns the number
+/// of rows. Each column is a path, which is applied to the row's value as its root. The column's field in the row is
+/// the first value that this path selects: a text without quotes, any other value as compact JSON, or an empty field if
+/// it selects nothing. After an error `out` may end with a part of the rows, or be empty.
 pub fn add_rows(
     alloc: Global,
     document: &Document<'_>,

@@ -47,8 +47,8 @@ fn add_array_item_with_names_kept(
     add_value_at_depth(alloc, out, value, depth, look.is_colored)
 }
 
-/// Appends the closing bracket of a JSON array to `out`, on a line of its own if the array has items (`has_items`) and
-/// `look` puts them on lines.
+/// Appends the closing bracket of a JSON array to `out`. The bracket is on a line of its own if the array has items
+/// (`has_items`) and `look` puts each item on lines of its own.
 pub fn add_array_end(out: &mut Vec<u8>, has_items: bool, look: Look) -> Result<(), AllocError>
     ensures { OnOk result (out.new.items ≡ out.old.items ++ array_end has_items look) }
 {

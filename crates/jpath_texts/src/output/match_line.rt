@@ -18,7 +18,7 @@ pub enum Shown {
     PlacesAndValues,
 }
 
-/// How a line is printed for a value that a path selects: which file name, what of the value, and in which layout.
+/// How a line for a selected value is printed: after which file name, whether value, location or both, in which layout.
 #[derive(Clone, Copy, Debug, Drop)]
 pub struct Line<'n> {
     /// How the selected value is laid out: raw, over lines, in colours.

@@ -23,8 +23,8 @@ pub struct Look {
     pub is_colored: bool,
 }
 
-/// Appends the compact JSON text of a value to `out`. Members whose name an object has several times are all written.
-/// After an error nothing is appended.
+/// Appends the compact JSON text of a value to `out`. If an object has a name several times, each of these members is
+/// written. After an error nothing is appended.
 pub fn add_compact_value(
     alloc: Global,
     out: &mut Vec<u8>,

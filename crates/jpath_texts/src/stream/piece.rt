@@ -2,15 +2,15 @@
 
 use json_recognizer::{Kind, LineColumn};
 
-/// The next piece of a stream of documents: a document, wrong bytes in place of one, or blanks at the end.
+/// The next piece of a stream of documents: a document, wrong bytes in place of one, or blanks at the stream's end.
 #[derive(Clone, Copy, Debug, Drop)]
 pub struct Piece<'p> {
-    /// The bytes of the piece, with the blanks before its document.
+    /// All bytes of the piece, including the blanks before the document or before the wrong bytes.
     pub bytes: &'p [u8],
     /// The line and column in the stream at which the bytes of the piece begin.
     pub place: LineColumn,
     /// What the piece is: a document, wrong bytes in place of one, or blanks.
     pub kind: Kind,
-    /// Whether a byte order mark comes before the piece in the stream.
+    /// Whether this is the first piece of the stream and a byte order mark, which is not in `bytes`, comes before it.
     pub is_marked: bool,
 }

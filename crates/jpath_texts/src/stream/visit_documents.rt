@@ -9,7 +9,7 @@ use json_recognizer::{Kind, ReadFailure, StreamBuffer};
 use jsonpath_streams::Input;
 use std::alloc::Global;
 
-/// What a visitor of documents reports after each: how many matches it has, and whether to stop.
+/// What a visitor of documents reports after each document: how many matches it has, and whether to stop.
 #[derive(Clone, Copy, Debug, Drop)]
 pub struct Taken {
     /// How many matches the visited document has.
@@ -38,8 +38,8 @@ pub trait Visitor {
         ensures stops { IfErr result (stops self.new) }
         ensures stay { StayGiven (gives self.old) (gives self.new) };
 
-    /// Visits the next piece of a stream (mostly a document), writes the output for it, and reports how many matches it
-    /// has. If it returns an error, nothing is written for the piece.
+    /// Writes the output for the next piece of a stream (a document, wrong bytes in place of one, or blanks), and
+    /// returns how many matches it has and whether to stop. After an error nothing is written for the piece.
     fn visit_piece(&mut self, piece: &Piece<'_>) -> Result<Taken, Self::Stop>
         ensures gives { IfOk result (λ taken. (text : List ℕ) × (written self.new ≡ written self.old ++ text)
             × gives self.new piece.now.kind piece.now.bytes.now taken text) }
@@ -72,11 +72,11 @@ pub struct Ended<S> {
     pub how: How<S>,
 }
 
-/// Visits the documents of a stream in order, each as soon as its bytes are read, and so writes the visitor's output
-/// for them in order. Returns how many matches they have together, and why the visits ended: the stream ended, a read
-/// failed, or the visitor wanted no more documents or returned an error. Wrong bytes are visited, too, as soon as the
-/// first byte is read with which no document can continue; the next document is looked for after the line on which the
-/// wrong bytes begin. A byte order mark at the beginning is skipped.
+/// Calls the visitor for each document of a stream, in order, as soon as the document's bytes are read. Returns how
+/// many matches the documents have together, and why the visits ended: the stream ended, a read failed, or the visitor
+/// wanted no more documents or returned an error. Wrong bytes are visited, too, as soon as the first byte is read with
+/// which no document can continue; the search for the next document begins after the line on which the wrong bytes
+/// begin. A byte order mark at the beginning is skipped.
 pub fn visit_documents<R: Input, V: Visitor>(
     alloc: Global,
     reader: &mut R,

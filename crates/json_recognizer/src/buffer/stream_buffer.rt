@@ -81,7 +81,7 @@ impl StreamBuffer {
     }
 
     /// For a current piece that is no document: the line and column in the stream of its first wrong byte. If the
-    /// stream ends within the piece, those of its last byte, or column 0 of a new line after a line end.
+    /// stream ends within the piece: those of the last byte, or column 0 of the next line if that is a line end.
     pub fn place_of_refusal(&self) -> LineColumn
         requires { IsSound self.now }
         ensures { (passed stream : List ℕ) → StandsBehind self.now passed → (wrong_in self.now ≡ Found.GoesOn → piece_of self.now ≡ stream) → ((more : List ℕ) × (stream ≡ left self.now ++ more)) → result ≡ place_of (wrong_in self.now) passed stream }
@@ -104,8 +104,8 @@ impl StreamBuffer {
         place_after(self.place, &self.bytes[self.start..])
     }
 
-    /// Skips a byte order mark at the front of the stream, and returns whether there is one; None if more bytes have to
-    /// be read to know.
+    /// Skips a byte order mark at the front of the stream, and returns whether there is one; `None` if more bytes have
+    /// to be read to know.
     pub fn pass_byte_order_mark(&mut self) -> Option<bool>
         requires { IsReady self.old }
         ensures ready { IsReady self.new }
@@ -128,8 +128,8 @@ impl StreamBuffer {
         }
     }
 
-    /// Searches the bytes that were read for the end of the next document, or for its first wrong byte, and returns
-    /// what the bytes up to there are; None if more bytes have to be read to know.
+    /// Searches the bytes read so far for the end of the next document, or for its first wrong byte, and returns what
+    /// kind of piece the bytes up to there are; `None` if more bytes have to be read to know.
     pub fn find_next_piece(&mut self) -> Option<Kind>
         requires { IsReady self.old }
         ensures sound { IsSound self.new }
@@ -215,8 +215,8 @@ impl StreamBuffer {
         self.begin_piece_at(behind);
     }
 
-    /// Skips the bytes of the stream up to and including the first line end, or all bytes that were read if they have
-    /// none. Returns whether the whole line was skipped: the line end was found, or the stream has ended.
+    /// Skips the bytes of the stream up to and including the first line end; if the bytes read so far have none, skips
+    /// all of them. Returns whether the whole line was skipped: the line end was found, or the stream has ended.
     pub fn pass_line(&mut self) -> bool
         requires { IsReady self.old }
         ensures ready { IsReady self.new }

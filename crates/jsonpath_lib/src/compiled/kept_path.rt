@@ -60,8 +60,8 @@ impl<P: AnyPath> KeptPath<P> {
         self.path.select(alloc, value)
     }
 
-    /// The document with each selected value below the root replaced by null, except those inside another such value.
-    /// The only error is `OutOfMemory`; the document is then dropped.
+    /// The document with each selected value replaced by null, except the root and values inside another replaced
+    /// value. The only error is `OutOfMemory`; the document is then dropped.
     ///
     /// ```text
     /// let document = read_document(alloc, b"[1, 2, 3]")?;
@@ -80,7 +80,8 @@ impl<P: AnyPath> KeptPath<P> {
 
     /// Calls the closure once for each selected location below the root, in document order, with the value that the
     /// earlier updates left there, and returns the document with the results: `Some` replaces the value, `None` removes
-    /// it. A location that no longer exists is skipped. The only error, before any call, is `OutOfMemory`.
+    /// it. A location that no longer exists is skipped. The only error is `OutOfMemory`; the closure is then not
+    /// called.
     ///
     /// ```text
     /// let document = read_document(alloc, b"[1, 2, 3]")?;

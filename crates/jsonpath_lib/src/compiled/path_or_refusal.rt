@@ -58,10 +58,8 @@ impl CompiledPath {
     }
 
     /// The values that the path selects in the document, in the path's order, with duplicates. They borrow the document
-    /// alone.
-    ///
-    /// Errors: `Path`, with `Parser`'s message, if the text was no path; `OutOfMemory` if memory ran out when the text
-    /// was compiled, or runs out in this call.
+    /// alone. Errors: `Path`, with `Parser`'s message, if the text was no path; `OutOfMemory` if memory ran out when
+    /// the text was compiled, or runs out in this call.
     ///
     /// ```text
     /// let document = read_document(alloc, b"[1, 2, 3]")?;

@@ -46,7 +46,7 @@ impl fmt::Debug for PathsFault {
 
 impl Error for PathsFault {}
 
-/// Converts to the field `fault`; the index is dropped.
+/// Converts the error to its field `fault`; the index is dropped.
 impl From<PathsFault> for JsonPathError {
     ghost from_gives = { λ refused error. error ≡ refused.fault };
 
@@ -69,8 +69,7 @@ pub(crate) fn write_paths_fault<W: fmt::Write>(
     }
 }
 
-/// Compiles each of the path texts, in order. The error has the index of the first text that is no path, or `None` if
-/// memory ran out.
+/// Compiles path texts, in order. The error has the index of the first that is no path, or `None` if memory ran out.
 ///
 /// ```text
 /// match compile_paths(alloc, &["$[0]", "$["]) {

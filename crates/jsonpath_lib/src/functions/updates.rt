@@ -8,7 +8,7 @@ use jsonpath_select::{AnyPath, JsonPathError, compile_path};
 use serde_json::Value;
 use std::alloc::Global;
 
-/// The document with each selected value below the root replaced by null, except those inside another such value.
+/// The document with each selected value replaced by null, except the root and values inside another replaced value.
 /// Errors: `Path` exactly if the text is no path, or `OutOfMemory`; the document is then dropped.
 ///
 /// ```text

@@ -25,7 +25,7 @@ pub struct PathSelector<'a> {
     pub(crate) json: &'a Value,
 }
 
-/// A selector for this document, to be used with any number of path texts. It takes no memory.
+/// A selector for this document, to be used with any number of path texts. The call allocates no memory.
 ///
 /// ```text
 /// let document = read_document(alloc, b"[1, 2, 3]")?;
@@ -70,7 +70,7 @@ pub struct PathSelectorAs<'a, T> {
     typed: PhantomData<T>,
 }
 
-/// A selector for this document that deserializes each selected value to a `T`. It takes no memory.
+/// A selector for this document that deserializes each selected value to a `T`. The call allocates no memory.
 ///
 /// ```text
 /// let document = read_document(alloc, b"[1, 2, 3]")?;

@@ -81,7 +81,7 @@ impl fmt::Debug for DocumentFault {
 
 impl Error for DocumentFault {}
 
-/// Converts to the field `error`; the line and column are then only in its message.
+/// Converts the error to its field `error`; the line and column are then only in its message.
 impl From<DocumentFault> for JsonPathError {
     ghost from_gives = { λ fault error. error ≡ fault.error };
 

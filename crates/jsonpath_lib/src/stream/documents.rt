@@ -10,8 +10,8 @@ use jsonpath_streams::{Bytes, Input};
 use serde_json::Value;
 use std::alloc::Global;
 
-/// Iterator over the documents of a text or of a stream. Line ends or blanks separate them; after a closing bracket, a
-/// quote or a word such as `true` nothing need do so. One is read at a time, so a log takes the memory of one record.
+/// Iterator over the JSON documents of a text or stream, separated by line ends or blanks (none needed after a closing
+/// bracket, a quote or a word such as `true`). It reads one at a time, so reading a log takes the memory of one record.
 ///
 /// A number ends before a blank, a bracket or a quote; any other document ends with its last byte. The first error is
 /// the last item of the iterator. A syntax error is at the first byte with which no document can continue.
@@ -41,7 +41,7 @@ pub struct Documents<R> {
 impl<'a> Documents<Bytes<'a>> {
     ghost use Rattle.jsonpath_lib.specs.stream.Documents.{IsNew};
 
-    /// An iterator over the documents of this text. It takes no memory.
+    /// An iterator over the documents of this text. The call allocates no memory.
     ///
     /// ```text
     /// let mut documents = Documents::new(alloc, b"[1]");
@@ -61,7 +61,7 @@ impl<R: Input> Documents<R> {
     ghost use Rattle.jsonpath_lib.specs.stream.Documents.{IsNew, IsPassed};
     ghost use Rattle.jsonpath_lib.specs.stream.Faults.{place_of_fault, Says, IsUnread};
 
-    /// An iterator over the documents in the rest of this input. The call takes no memory, and reads nothing yet.
+    /// An iterator over the documents in the rest of this input. The call allocates no memory, and reads nothing yet.
     ///
     /// ```text
     /// let input = Checked::new("[1] [2]".as_bytes());

@@ -40,9 +40,8 @@ pub fn mask(alloc: Global, value: Value, paths: &[&str]) -> Result<Value, MaskFa
     }
 }
 
-/// Puts null in place of each value below the root that any of the paths selects. All paths are applied to the
-/// original document, so their order does not matter. The only error is `OutOfMemory`, and then the document is
-/// unchanged.
+/// Puts null in place of each value below the root that any path selects. All paths are applied to the original
+/// document, so their order does not matter. The only error is `OutOfMemory`; the document is then unchanged.
 ///
 /// ```text
 /// let mut document = read_document(alloc, b"[1, 2, 3]")?;

@@ -59,7 +59,7 @@ impl fmt::Debug for MaskFault {
 
 impl Error for MaskFault {}
 
-/// Converts to the field `fault`; the index and the document are dropped.
+/// Converts the error to its field `fault`; the index and the document are dropped.
 impl From<MaskFault> for JsonPathError {
     ghost from_gives = { λ refused error. error ≡ refused.fault };
 

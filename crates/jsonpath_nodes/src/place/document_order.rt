@@ -22,7 +22,7 @@ use std::alloc::Global;
 use std::cmp::Ordering;
 use std::collections::BTreeSet;
 
-/// Sorts nodes into document order and keeps one node of each location. The only error is `NoMemory`.
+/// Sorts nodes into document order and keeps one node for each location. The only error is `NoMemory`.
 ///
 /// ```text
 /// let twice = [spots[1].clone()?, spots[0].clone()?, spots[1].clone()?];
@@ -127,8 +127,8 @@ fn ordered_spots<'a>(
     Ok(placed)
 }
 
-/// Drops each node of a list that is at or below the last node kept before it. If the list is in document order, the
-/// nodes kept are those with no ancestor in it. The only error is `NoMemory`.
+/// Goes through a list of nodes and drops each that is at or below the node that it kept last. If the list is in
+/// document order, the nodes kept are those with no ancestor in the list. The only error is `NoMemory`.
 ///
 /// ```text
 /// let below = Spot::root(alloc, &document).below(alloc)?;

@@ -110,7 +110,7 @@ impl Clone for Location {
     }
 }
 
-/// A clone of a step is equal to it. It takes memory for a name; the only error is out of memory.
+/// A clone of a step is equal to it. Cloning a name allocates memory; the only error is out of memory.
 impl Clone for LocStep {
     ghost is_clone = { λ step copy. owned_step copy ≡ owned_step step };
 

@@ -18,11 +18,12 @@ use crate::step::{candidates, children, descend};
 use serde_json::Value;
 use std::alloc::Global;
 
-/// Trait for a selected node: either `&Value` (no location) or `Spot` (value with location), so that evaluation code is
-/// written once.
+/// A selected node: either `&Value` (no location) or `Spot` (value with location). Evaluation code is generic over
+/// both.
 ///
-/// The same contracts hold for both types: in them, a list of `Mark`s is at a list of locations if each `Mark` has the
-/// value at its location and, if it is a `Spot`, this location. The only error of each call is `NoMemory`.
+/// The same contracts hold for both types. In them, a list of `Mark`s is at a list of locations if each `Mark` has the
+/// value at the location with its index and, if it is a `Spot`, has this location. The only error of each call is
+/// `NoMemory`.
 ///
 /// ```text
 /// let mut found = Vec::new(alloc);
@@ -41,7 +42,7 @@ pub trait Mark<'a>: Drop + Sized {
     fn value(&self) -> &'a Value
         ensures { view result.now ≡ content self.now };
 
-    /// Appends the children that a step selects.
+    /// Appends to `out` the children of this node that the step `plain` selects.
     fn add_selected_children(
         &self,
         alloc: Global,
@@ -50,7 +51,7 @@ pub trait Mark<'a>: Drop + Sized {
     ) -> Result<(), NoMemory>
         ensures { OnOk result (MarksGain located stand content (single_steps (plain_step_of plain.now)) (stand self.now) (content self.now) out.old.items out.new.items) };
 
-    /// Appends the member of this name, if the node is an object that has one. The name is taken literally.
+    /// Appends to `out` the member of this name, if this node is an object that has one. The name is taken literally.
     fn add_named_member(
         &self,
         alloc: Global,
@@ -59,7 +60,7 @@ pub trait Mark<'a>: Drop + Sized {
     ) -> Result<(), NoMemory>
         ensures { OnOk result (MarksGain located stand content (single_steps (named name.now)) (stand self.now) (content self.now) out.old.items out.new.items) };
 
-    /// Appends what a step selects in the value and in all its descendants, each of which comes before its children.
+    /// Appends to `out` what the step `plain` selects from this node and from each of its descendants, in preorder.
     fn add_selected_at_or_below(
         &self,
         alloc: Global,
@@ -68,13 +69,14 @@ pub trait Mark<'a>: Drop + Sized {
     ) -> Result<(), NoMemory>
         ensures { OnOk result (MarksGain located stand content (deep (plain_step_of plain.now)) (stand self.now) (content self.now) out.old.items out.new.items) };
 
-    /// Appends the non-array values left after flattening nested arrays: the value itself, if it is no array.
+    /// Appends to `out` the non-array values left after flattening this node's arrays: the node itself, if it is no
+    /// array.
     fn add_flattened(&self, alloc: Global, out: &mut Vec<Self>) -> Result<(), NoMemory>
         ensures { OnOk result (MarksGain located stand content flat (stand self.now) (content self.now) out.old.items out.new.items) };
 
-    /// Appends the candidates of a filter after `..` that uses a relative query with at least one segment: the
-    /// non-array values left after flattening nested arrays among the descendants, each once. The contract also says
-    /// that the names ascend in each object at or below the value, which is so for every value.
+    /// Appends to `out` the candidates, from this node, of a filter that comes after `..` and uses a relative query
+    /// with at least one segment: the non-array values left after flattening nested arrays among the descendants, each
+    /// once. The contract also says that in each object at or below this node the names ascend, as in every `Value`.
     fn add_candidates_below(&self, alloc: Global, out: &mut Vec<Self>) -> Result<(), NoMemory>
         ensures gains { OnOk result (MarksGain located stand content candidates_below (stand self.now) (content self.now) out.old.items out.new.items) }
         ensures document { OnOk result (IsDocument (content self.now)) };
@@ -138,7 +140,7 @@ impl<'a> Mark<'a> for &'a Value {
     }
 }
 
-/// A `Spot` has its whole location. Its children share that.
+/// A `Spot` has its whole location; the nodes of its children share its steps instead of copying them.
 impl<'a> Mark<'a> for Spot<'a> {
     ghost located = { true };
 

@@ -54,7 +54,7 @@ pub struct Spot<'a> {
 }
 
 /// The steps from the root to a node. A `for` loop goes through them from the root down, and `split_last` takes off the
-/// last one. The type borrows from the node and takes no memory.
+/// last one. The type borrows from the node and allocates nothing.
 ///
 /// ```text
 /// let below = root.below(alloc)?;
@@ -70,7 +70,7 @@ pub struct Steps<'b, 'a> {
 const _: () = prove!(size_of::<Spot<'static>>() <= 32);
 
 impl<'a> Spot<'a> {
-    /// The root node of a document, with the whole document as its value. It takes no memory.
+    /// The root node of a document, with the whole document as its value. The call allocates no memory.
     ///
     /// ```text
     /// let root = Spot::root(alloc, &document);
@@ -98,7 +98,7 @@ impl<'a> Spot<'a> {
         self.value
     }
 
-    /// The steps from the document's root to this node. They take no memory.
+    /// The steps from the document's root to this node. The call allocates no memory.
     ///
     /// ```text
     /// let root = Spot::root(alloc, &document);

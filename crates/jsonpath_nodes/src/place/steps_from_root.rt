@@ -8,8 +8,8 @@ ghost use Rattle.jsonpath_nodes.specs.place.SpotPlace.{location_at, path_locatio
 use crate::place::spot::{PathStep, Steps};
 use crate::place::trail::{PathTo, Trail};
 
-/// Iterator over the steps to a node, from the root down. It takes no memory: each step is looked up from the last step
-/// back.
+/// Iterator over the steps to a node, from the root down. It allocates no memory: to find each step, it goes back from
+/// the node's last step.
 ///
 /// ```text
 /// for list in root.children(alloc)?.as_slice() {
@@ -103,8 +103,8 @@ impl<'b, 'a> Iterator for StepsFromRoot<'b, 'a> {
     }
 }
 
-/// Iterates from the root down without taking memory: each step is looked up from the last step back, so the work is
-/// quadratic in the number of steps. The iterator ends after `usize::MAX` steps.
+/// Iterates from the root down without allocating memory: to find each step, it goes back from the last one, so the
+/// work is quadratic in the number of steps. The iterator ends after `usize::MAX` steps.
 ///
 /// ```text
 /// let document = read_document(alloc, br#"{"a": [1, {"b": 2}]}"#)?;

@@ -10,8 +10,7 @@ use crate::step::plain_step::PlainStep;
 use std::alloc::Global;
 use std::borrow::CowStr;
 
-/// What a step without a condition selects among the children of a value. Its names are those of members as they are,
-/// without quotes and escapes.
+/// What a step without a condition selects among a value's children. Names are without the path's quotes and escapes.
 ///
 /// ```text
 /// let both = Stride {
@@ -25,19 +24,19 @@ use std::borrow::CowStr;
 pub enum Selection<'t> {
     /// `*`: all children of an array or object.
     Every,
-    /// The member of this name, of an object.
+    /// The member with this name, in an object.
     Named(CowStr<'t, Global>),
-    /// The members of these names, of an object, in the list's order.
+    /// The members with these names, in an object, in the list's order.
     Listed(Vec<CowStr<'t, Global>>),
-    /// The item of an array at this index; below zero it counts from the end.
+    /// The item of an array at this index; a negative index counts from the end.
     Nth(i64),
-    /// The items of an array at these indexes, in the list's order; an index below zero counts from the end.
+    /// The items of an array at these indexes, in the list's order; a negative index counts from the end.
     Union(&'t [i64]),
     /// A slice of an array: its from, to and step, each of which may be missing.
     Range(Option<i64>, Option<i64>, Option<u64>),
 }
 
-/// A step of a path, without a condition, alone or after `..`. It can own its names.
+/// A step of a path that has no condition, with or without `..` before it. It can own the names that it selects.
 ///
 /// ```text
 /// let every = Stride {

@@ -18,7 +18,7 @@ use std::alloc::Global;
 
 /// The steps of a path, each as a function that applies it to a list of nodes at once.
 ///
-/// Every call returns what its step selects from each node, in the order of the nodes, with duplicates, but for
+/// Every call returns what its step selects from each node, in the order of the nodes, with duplicates, except for
 /// `walk_dedup_all` and `candidates_below`, which return each location once. The only error is `NoMemory`.
 ///
 /// ```text
@@ -62,8 +62,8 @@ impl ValueWalker {
         plain_step_from_each(alloc, spots, &PlainStep::Named(name))
     }
 
-    /// A list of names: from each node that is an object its members of these names, in the list's order. It selects
-    /// children alone. Named as in the Rust crate `jsonpath_lib`.
+    /// A list of names: from each node that is an object, its members of these names, in the list's order. It selects
+    /// only children, no deeper descendants. Named as in the Rust crate `jsonpath_lib`.
     ///
     /// ```text
     /// let found = ValueWalker::all_with_strs(alloc, items.as_slice(), &["b", "a"])?;
@@ -79,7 +79,7 @@ impl ValueWalker {
         plain_step_from_each(alloc, spots, &PlainStep::Listed(names))
     }
 
-    /// An index: from each node that is an array the item at this index, if there is one. A negative index counts from
+    /// An index: from each node that is an array, the item at this index, if there is one. A negative index counts from
     /// the end; one before the first item selects the first item.
     ///
     /// ```text
@@ -97,7 +97,7 @@ impl ValueWalker {
         plain_step_from_each(alloc, spots, &PlainStep::Nth(n))
     }
 
-    /// A list of indexes: from each node that is an array the items at these indexes, in the list's order.
+    /// A list of indexes: from each node that is an array, the items at these indexes, in the list's order.
     ///
     /// ```text
     /// let found = ValueWalker::next_with_nums(alloc, items.as_slice(), &[2, 0])?;
@@ -113,9 +113,8 @@ impl ValueWalker {
         plain_step_from_each(alloc, spots, &PlainStep::Union(ns))
     }
 
-    /// A slice: from each node that is an array the items at `from`, `from + step` and so on, before `to`. A negative
-    /// `from` or `to` counts from the end. A missing `from` is 0, `to` the length, `step` 1. A `step` of 0 selects
-    /// nothing.
+    /// A slice: from each array, the items at `from`, `from + step` and so on, before `to`. A negative `from` or `to`
+    /// counts from the end. If missing, `from` is 0, `to` the length, `step` 1. A `step` of 0 selects nothing.
     ///
     /// ```text
     /// let found = ValueWalker::next_with_range(alloc, items.as_slice(), Some(1), None, None)?;
@@ -212,9 +211,9 @@ impl ValueWalker {
         Ok(kept)
     }
 
-    /// The candidates of a filter after `..` that uses a relative query with at least one segment: the non-array values
-    /// left after flattening nested arrays, from the descendants of each node. Each location is returned once, at its
-    /// first occurrence.
+    /// The candidates of a filter that comes after `..` and uses a relative query with at least one segment: the
+    /// non-array values left after flattening nested arrays, from each node's descendants. Each is returned once, where
+    /// it first occurs.
     ///
     /// ```text
     /// let candidates = ValueWalker::candidates_below(alloc, &root)?;

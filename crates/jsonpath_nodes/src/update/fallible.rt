@@ -10,11 +10,9 @@ use crate::place::location::{LocStep, Location};
 use crate::update::single::{update_at_steps, value_at};
 use serde_json::Value;
 
-/// Updates the values at the locations one after another, each in what the earlier updates left, until the closure
-/// returns an error.
-///
-/// The closure gets a reference to the value there; `Some` replaces it, `None` removes the member or item. Its first
-/// error ends the updates and is returned: the updates before it remain, and the value for which it was returned is
+/// Updates the values at the locations one after another, each in the document that the earlier updates left. The
+/// closure gets a reference to the value there; `Some` replaces it, `None` removes the member or item. Its first error
+/// ends the updates and is returned: the updates before it remain, and the value for which it was returned is
 /// unchanged. The closure is not called at the root, nor at a location that doesn't exist.
 ///
 /// ```text

@@ -17,7 +17,7 @@ use serde_json::{Map, Value};
 /// array move down by one. Returns whether the closure was called. At the root, and if the location doesn't exist, it
 /// isn't called and nothing changes. A name selects in objects alone, an index in arrays alone.
 ///
-/// The update takes no memory, so the call always returns `Ok`.
+/// The update allocates no memory, so the call always returns `Ok`.
 ///
 /// ```text
 /// let mut document = read_document(alloc, b"[1, 2]")?;

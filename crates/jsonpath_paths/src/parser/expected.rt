@@ -13,7 +13,7 @@ use crate::token::tokenizer::lexemes_up_to_refusal;
 use crate::token::tokens::{Kind, Lexeme};
 use std::alloc::{AllocError, Global};
 
-/// The tokens that a path could go on with: all of one kind, or the words that are numbers of one kind.
+/// What a path could go on with at a syntax error: a token of some kind, or a word of some form, such as an index.
 ///
 /// ```text
 /// let expected = expected_tokens(alloc, "$[0,a]")?;
@@ -21,15 +21,15 @@ use std::alloc::{AllocError, Global};
 /// ```
 #[derive(Clone, Copy, Debug, PartialEq, Eq)]
 pub enum Expected {
-    /// Each token of this kind. `Kind::Key` is each word, as behind a dot.
+    /// Any token of this kind. `Kind::Key` means any word, as after a dot.
     Token(Kind),
     /// A word that is an index.
     Index,
-    /// A word that is the step of a range.
+    /// A word that is the step of a slice.
     RangeStep,
-    /// A word that is `true`, `false`, or a number or the whole part of one.
+    /// A word that is `true`, `false`, a number, or the part of a number before its point.
     Literal,
-    /// A word that is the digits behind the point of a number.
+    /// A word that is the digits after the point of a number.
     Fraction,
 }
 
@@ -43,7 +43,7 @@ pub enum Expected {
 pub struct ExpectedTokens {
     /// The tokens that a path could go on with, each once, in a fixed order.
     pub tokens: Vec<Expected>,
-    /// Whether what comes before is a path.
+    /// Whether the path could have ended there, since the text before the error is itself a path.
     pub end: bool,
 }
 
@@ -171,7 +171,7 @@ fn longest_front(alloc: Global, text: &str) -> Result<Option<Vec<Lexeme>>, Alloc
     Ok(Some(found))
 }
 
-/// What could have been where a path text has a syntax error: each token with which some path goes on behind the tokens
+/// What could have been where a path text has a syntax error: each token that can follow, in some path, the tokens
 /// before the error. `None` for a text that is a path. The only error is that memory runs out.
 ///
 /// ```text

@@ -74,8 +74,8 @@ fn error_at_refused_token_or_character(
 
 impl<'a> PathParser<'a> {
     /// Parses a path text: `Ok` for exactly the texts of the grammar, unless memory runs out. A syntax error is at the
-    /// first token with which no path can continue, or at the first character that begins no token: `Position` with the
-    /// byte position after it, or `Eof` if it ends the text, or if the text ends too early.
+    /// first token with which no path can continue, or at the first character that begins no token. It is `Position`
+    /// with the byte position just after that, or `Eof` if that is the end of the text or if the text ends too early.
     ///
     /// ```text
     /// let refused = PathParser::compile(alloc, "$.a[b]").err();
@@ -156,7 +156,7 @@ impl<'a> PathParser<'a> {
         &self.tree
     }
 
-    /// The token list of this path's syntax tree. The call takes no memory.
+    /// The token list of this path's syntax tree. The call allocates no memory.
     ///
     /// ```text
     /// let path = PathParser::compile(alloc, "$..a")?;

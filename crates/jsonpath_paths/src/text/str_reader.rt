@@ -244,7 +244,7 @@ impl<'a> StrReader<'a> {
     }
 }
 
-/// A copy of a reader has the same text and the same position in it. It takes no memory.
+/// A copy of a reader has the same text and the same position in it. Copying allocates no memory.
 impl<'a> Clone for StrReader<'a> {
     ghost use Rattle.std.specs.Prelude.{⊤};
 

@@ -15,7 +15,7 @@ use crate::token::tokens::{Token, TokenError};
 use std::alloc::AllocError;
 use std::marker::Model;
 
-/// Reads a path text token by token, and records the position up to which the text was read or looked at.
+/// Reads a path text token by token, and records the position up to which it has read or peeked.
 ///
 /// ```text
 /// let mut reader = TokenReader::new("[0]");
@@ -55,7 +55,7 @@ impl<'a> TokenReader<'a> {
     }
 
     /// Returns the next token without taking it; `next_token` then returns the same. If no token begins at the reader's
-    /// position, returns the error of `next_token`, and the position for `to_error` is then the reader's.
+    /// position, returns the error of `next_token`; the position that `to_error` reports is then the reader's.
     ///
     /// ```text
     /// let mut reader = TokenReader::new("==1");
@@ -74,8 +74,8 @@ impl<'a> TokenReader<'a> {
         found
     }
 
-    /// Takes the next token. If no token begins at the reader's position, this and each later call return the same
-    /// error, and the position stays: `Eof` at the end of the text, in a quoted text that is not closed, or if a single
+    /// Takes the next token. If no token begins at the reader's position, the position stays, and this and each later
+    /// call return the same error: `Eof` at the end of the text, at a quoted text that is not closed, or if a single
     /// character is left; else `Position` with the reader's position.
     ///
     /// ```text
@@ -95,7 +95,7 @@ impl<'a> TokenReader<'a> {
         found
     }
 
-    /// The syntax error at the position up to which the text was read or looked at: `Eof` if this is the end of the
+    /// The syntax error at the position up to which this reader has read or peeked: `Eof` if this is the end of the
     /// text, else `Position` with this position.
     ///
     /// ```text
@@ -130,7 +130,7 @@ impl<'a> TokenReader<'a> {
     }
 }
 
-/// A copy of a reader has the same text and the same position in it. It takes no memory.
+/// A copy of a reader has the same text and the same position in it. Copying allocates no memory.
 impl<'a> Clone for TokenReader<'a> {
     ghost use Rattle.std.specs.Prelude.{⊤};
 

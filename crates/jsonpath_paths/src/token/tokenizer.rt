@@ -366,9 +366,9 @@ impl<'a> Tokenizer<'a> {
         self.reader.copy_of_place().peek_char().is_err()
     }
 
-    /// Takes the next token. If no token begins at the tokenizer's position, this and each later call return the same
-    /// error, and the position stays: `Eof` at the end of the text, in a quoted text that is not closed, or if a single
-    /// character is left; else `Position` with the tokenizer's position.
+    /// Takes the next token. If no token begins at the tokenizer's position, the position stays, and this and each
+    /// later call return the same error: `Eof` at the end of the text, at a quoted text that is not closed, or if a
+    /// single character is left; else `Position` with the tokenizer's position.
     ///
     /// ```text
     /// let mut tokenizer = Tokenizer::new("=1");
@@ -386,7 +386,7 @@ impl<'a> Tokenizer<'a> {
     }
 }
 
-/// A copy of a tokenizer has the same text and the same position in it. It takes no memory.
+/// A copy of a tokenizer has the same text and the same position in it. Copying allocates no memory.
 impl<'a> Clone for Tokenizer<'a> {
     ghost use Rattle.std.specs.Prelude.{⊤};
 

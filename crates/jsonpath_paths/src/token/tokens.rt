@@ -26,9 +26,8 @@ use std::fmt;
 pub enum TokenError {
     /// The path text ends too early, or the error is at its very end.
     Eof,
-    /// A byte position in the text, at most its length. From `Tokenizer` it is where the wrong character begins; from
-    /// `PathParser`, where the wrong token or character ends; from `TokenReader::to_error`, where the text that was
-    /// read or looked at ends.
+    /// A byte position in the text: from `Tokenizer`, where the wrong character begins; from `PathParser`, where the
+    /// wrong token or character ends; from `TokenReader::to_error`, how far the text was read or peeked.
     Position(usize),
     /// Memory ran out.
     OutOfMemory,
@@ -122,7 +121,7 @@ pub struct Lexeme {
     pub span: StrRange,
 }
 
-/// A token of a path text with its span, quotes included.
+/// A token of a path text, with its span in the text. The span of a quoted text includes the quotes.
 ///
 /// ```text
 /// let mut tokenizer = Tokenizer::new("'a b'");
@@ -370,8 +369,8 @@ pub enum ParseToken {
     Relative,
     /// Begins a step after a single dot: it selects among the children of each node.
     In,
-    /// Begins a step after `..`: it selects among the children of each node that the steps before selected, and among
-    /// the children of all descendants of these nodes.
+    /// Begins a step after `..`: it selects among the children of each node that the steps before it have selected, and
+    /// among the children of all descendants of these nodes.
     Leaves,
     /// `*`: the step selects all children.
     All,

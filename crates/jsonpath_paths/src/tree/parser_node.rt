@@ -40,7 +40,7 @@ pub struct ParserStep {
     pub inner: Inner,
 }
 
-/// What a step of a path selects: by a token without a condition, or by a filter.
+/// What a step of a path selects, given by one token or by a filter.
 ///
 /// ```text
 /// let path = PathParser::compile(alloc, "$.*")?;

@@ -21,9 +21,9 @@ use crate::tree::token_list::root_token;
 /// impl ParserNodeVisitor for Walker {}
 /// ```
 pub trait ParserNodeVisitor {
-    /// Passes the token list of the tree to the receiver `handler`, in order, even after it has failed. `reader` turns
-    /// a span of the path text into a `V`, mostly a `&str`. The receiver may call it; the results of `reader` have to
-    /// satisfy the receiver's `takes`.
+    /// Passes the token list of the syntax tree `node` to `handler`, in order, even after `handler` has failed. With
+    /// each token it passes `reader`, which turns a span of the path text into a `V`, mostly a `&str`. What `reader`
+    /// returns has to satisfy the handler's `takes`.
     fn visit<V, H: ParserTokenHandler<V>, R: Fn(&StrRange) -> V>(
         &self,
         node: &ParserNode,

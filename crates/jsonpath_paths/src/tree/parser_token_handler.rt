@@ -5,8 +5,8 @@ ghost use Rattle.std.specs.Prelude.{◌≡◌, ◌++◌, ◌∷◌, [], List, Bo
 use crate::text::str_reader::StrRange;
 use crate::token::tokens::ParseToken;
 
-/// Receives the token list of a syntax tree, one `ParseToken` at a time. `V` is what its reader makes of a span of
-/// the path text, for example a `&str`.
+/// Receives the token list of a syntax tree, one `ParseToken` at a time, each with a function that turns a span of the
+/// path text into a `V`, for example a `&str`.
 ///
 /// ```text
 /// impl<V> ParserTokenHandler<V> for Collector {
@@ -42,7 +42,7 @@ pub trait ParserTokenHandler<V> {
     /// For proofs: whether this receiver has failed; from then on its `tokens` mean nothing.
     ghost has_failed: { Self → Bool };
 
-    /// For proofs: which values of a reader this receiver accepts for a span of the path text. By default any.
+    /// For proofs: which results of a `reader` this receiver accepts for a span of the path text. By default all.
     ghost takes: { Self → StrRange → V → Type 0 } = { λ _ _ _. Unit {0} };
 
     /// Receives the next token of a path, or fails, as when memory runs out. It may call `reader` on the spans of the

@@ -8,8 +8,7 @@ use crate::error::{JsonPathError, serde_error};
 use serde_json::Value;
 use std::alloc::{AllocError, Global};
 
-/// Reads a JSON text. Errors: `Serde`, with `serde_json`'s message, if the bytes are no JSON document, or
-/// `OutOfMemory`.
+/// Reads a JSON text. Errors: `Serde`, with `serde_json`'s message, if it is no JSON document, or `OutOfMemory`.
 ///
 /// ```text
 /// let document = read_document(alloc, b"{\"b\": 1, \"a\": [2]}")?;

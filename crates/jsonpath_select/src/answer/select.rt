@@ -44,9 +44,9 @@ pub fn select_path<'a>(
 /// The nodes that the path with this token list selects in the value, in the path's order, with duplicates. They borrow
 /// only the value. The only error is `OutOfMemory`.
 ///
-/// Precondition: the tokens are the token list of some path, however deeply nested, and the text has an unquoted or a
-/// quoted name at the span of each name in them. If `tokens_fit` returned true, this is proved. The text itself need
-/// not be a path.
+/// Precondition, which holds if `tokens_fit` returned true: the tokens are the token list of some path, however deeply
+/// nested, and the text has an unquoted or a quoted name at the span of each name in them. The text itself need not be
+/// a path.
 ///
 /// ```text
 /// let document = read_document(alloc, br#"{"a": 1}"#)?;

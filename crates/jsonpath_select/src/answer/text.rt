@@ -12,8 +12,7 @@ use serde_json::Value;
 use std::alloc::{AllocError, Global};
 
 /// The JSON text of a list of values: their compact texts in order, joined by commas, in brackets. Errors: `Serde`
-/// exactly if one of the values contains, at any depth, a number that is neither an `i64` nor a `u64`, such as 1.5; or
-/// `OutOfMemory`.
+/// exactly if a value contains, at any depth, a number that is neither `i64` nor `u64`, such as 1.5; or `OutOfMemory`.
 ///
 /// ```text
 /// let document = read_document(alloc, b"[1, \"b\"]")?;

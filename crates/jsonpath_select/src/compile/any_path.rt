@@ -57,7 +57,7 @@ pub trait AnyPath {
     // The text of the path.
     ghost spelling: { Self → List ℕ };
 
-    /// The text, syntax tree and token list of this path, borrowed. The call takes no memory.
+    /// The text, syntax tree and token list of this path, borrowed. The call allocates no memory.
     ///
     /// ```text
     /// let path = compile_path(alloc, "$.*")?;
@@ -104,8 +104,7 @@ pub trait AnyPath {
         spots_by_parts(alloc, value, self.parts())
     }
 
-    /// The locations that the path selects in the document, in the path's order, with duplicates. The only error is
-    /// `OutOfMemory`.
+    /// The locations that the path selects, in the path's order, with duplicates. The only error is `OutOfMemory`.
     ///
     /// ```text
     /// let document = read_document(alloc, b"[1, 2, 3]")?;
@@ -208,8 +207,8 @@ pub trait AnyPath {
         exists_by_parts(alloc, value, self.parts())
     }
 
-    /// Replaces each selected value below the root by null, except those inside another such value. All else stays as
-    /// it is. The only error is `OutOfMemory`, and then the document is unchanged.
+    /// Replaces each selected value by null, except the root and values inside another replaced value. All else stays
+    /// as it is. The only error is `OutOfMemory`, and then the document is unchanged.
     ///
     /// ```text
     /// let mut document = read_document(alloc, b"[1, [2, 3]]")?;
@@ -246,7 +245,7 @@ pub trait AnyPath {
         Ok(())
     }
 
-    /// Replaces each selected value below the root by a copy of `new`, all at once, except those inside another such
+    /// Replaces each selected value by a copy of `new`, all at once, except the root and values inside another replaced
     /// value. All else stays as it is. The only error is `OutOfMemory`, and then the document is unchanged.
     ///
     /// ```text
@@ -296,7 +295,7 @@ pub trait AnyPath {
     /// Calls the closure once for each selected location, in document order, with a reference to the value that the
     /// earlier updates left there: `Some` replaces the value, `None` removes it. A location that no longer exists is
     /// skipped, and so is the root. The closure's first error ends the updates, as `Refused`; the updates before it
-    /// remain. The only other error, before any call, is `Unasked` with `OutOfMemory`.
+    /// remain. The only other error is `Unasked` with `OutOfMemory`, before the closure is called.
     ///
     /// ```text
     /// let mut document = read_document(alloc, b"[1, \"x\", 3]")?;

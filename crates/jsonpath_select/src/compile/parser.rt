@@ -79,8 +79,7 @@ impl Error for ParseFault {}
 pub struct Parser;
 
 impl Parser {
-    /// Compiles a path text, with a copy of the text. Errors: `Text` exactly if the text is outside the grammar, or
-    /// `OutOfMemory`.
+    /// Compiles a copy of a path text. Errors: `Text` exactly if it is outside the grammar, or `OutOfMemory`.
     ///
     /// ```text
     /// let node = Parser::compile(alloc, "$[0]")?;

@@ -13,8 +13,8 @@ use serde_json::Value;
 use std::alloc::Global;
 
 impl<P: AnyPath> HeldPair<P, Value> {
-    /// Replaces each selected value below the root of the selector's document by null, except those inside another such
-    /// value. All else stays as it is.
+    /// Replaces each selected value of the selector's document by null, except the root and values inside another
+    /// replaced value. All else stays as it is.
     ///
     /// Errors: `EmptyPath` exactly if there is no path, `EmptyValue` exactly if there is a path and no document, else
     /// `OutOfMemory` alone; nothing has changed then.
@@ -62,8 +62,8 @@ impl<P: AnyPath> HeldPair<P, Value> {
         }
     }
 
-    /// Replaces each selected value below the root by a copy of `new`, except those inside another such value. Errors:
-    /// `EmptyPath` (no path), `EmptyValue` (a path, no document), else `OutOfMemory`; nothing has changed then.
+    /// Replaces each selected value by a copy of `new`, except the root and values inside another replaced value.
+    /// Errors: `EmptyPath` (no path), `EmptyValue` (a path, no document), else `OutOfMemory`; nothing has changed then.
     ///
     /// ```text
     /// let mut held = SelectorMut::new();
@@ -87,7 +87,8 @@ impl<P: AnyPath> HeldPair<P, Value> {
 
     /// Calls the closure once for each selected location below the root, in document order, with the value that earlier
     /// updates left there: `Some` replaces the value, `None` removes it. A location that no longer exists is skipped.
-    /// Errors, before any call: `EmptyPath` without a path, else `EmptyValue` without a document, else `OutOfMemory`.
+    /// Errors, before the closure is called: `EmptyPath` without a path, else `EmptyValue` without a document, else
+    /// `OutOfMemory`.
     ///
     /// ```text
     /// let mut held = SelectorMut::new();

@@ -77,7 +77,7 @@ impl<P: AnyPath, V: HeldValue> Model for HeldPair<P, V> {
     ghost view = { λ s. record { path = option_map P.spelling s.path; value = option_map V.held s.value } };
 }
 
-/// A selector, such as a `Selector` or a `SelectorMut`, with no path and no value. It takes no memory.
+/// A selector, such as a `Selector` or a `SelectorMut`, with no path and no value. The call allocates no memory.
 impl<P: AnyPath, V: HeldValue> Default for HeldPair<P, V> {
     ghost is_default = { λ held. held ≡ record { path = None; value = None } };
 
@@ -176,7 +176,7 @@ impl<P: AnyPath, V: HeldValue> HeldPair<P, V> {
         path.count(alloc, value.lent())
     }
 
-    /// Whether the path selects anything. Errors: `EmptyPath` (no path), `EmptyValue` (no value), `OutOfMemory`.
+    /// Whether the path selects any value. Errors: `EmptyPath` (no path), `EmptyValue` (no value), `OutOfMemory`.
     ///
     /// ```text
     /// let mut held = SelectorMut::new();

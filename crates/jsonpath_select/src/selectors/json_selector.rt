@@ -21,9 +21,9 @@ use std::rc::Rc;
 /// ```
 pub type JsonSelector<'a> = HeldPair<Rc<PathParser<'a>>, &'a Value>;
 
-/// Changes its own document at what a `PathParser` selects; this path borrows its text and may be shared. Path and
-/// document are optional; each is the one set last. An update changes the document alone, and leaves it unchanged on
-/// any error but the closure's own.
+/// A selector with a `PathParser`, which borrows its text and may be shared, and an owned document, which its updates
+/// change. Both are optional; each is the one set last. An update changes only the document; any error but one that the
+/// closure returned leaves it unchanged.
 ///
 /// ```text
 /// let document = read_document(alloc, b"[1, 2, 3]")?;
@@ -52,8 +52,8 @@ impl<'p, V: HeldValue> HeldPair<Rc<PathParser<'p>>, V> {
         Ok(HeldPair::new_ref(Rc::new(alloc, parser)?))
     }
 
-    /// Makes a `JsonSelector` or a `JsonSelectorMut` with this shared path and no value. It takes no memory. Named as
-    /// in the Rust crate `jsonpath_lib`.
+    /// Makes a `JsonSelector` or a `JsonSelectorMut` with this shared path and no value. The call allocates no memory.
+    /// Named as in the Rust crate `jsonpath_lib`.
     ///
     /// ```text
     /// let document = read_document(alloc, b"[1, 2, 3]")?;
@@ -114,8 +114,8 @@ impl<'p, V: HeldValue> HeldPair<Rc<PathParser<'p>>, V> {
         Ok(())
     }
 
-    /// Replaces the selector's path by this shared one; its value stays. It takes no memory. Named as in the Rust crate
-    /// `jsonpath_lib`.
+    /// Replaces the selector's path by this shared one; its value stays. The call allocates no memory. Named as in the
+    /// Rust crate `jsonpath_lib`.
     ///
     /// ```text
     /// let document = read_document(alloc, b"[1, 2, 3]")?;

@@ -12,8 +12,8 @@ use serde_json::Value;
 use std::alloc::Global;
 
 impl<'a, P: AnyPath> HeldPair<P, &'a Value> {
-    /// Sets the value that the selector searches, in place of the one before. It takes no memory. Named as in the Rust
-    /// crate `jsonpath_lib`.
+    /// Sets the value that the selector searches, in place of the one before. The call allocates no memory. Named as in
+    /// the Rust crate `jsonpath_lib`.
     ///
     /// ```text
     /// let document = read_document(alloc, b"[1, 2, 3]")?;

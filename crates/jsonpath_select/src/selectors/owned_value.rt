@@ -12,7 +12,7 @@ use serde_json::Value;
 use std::alloc::Global;
 
 impl<P: AnyPath> HeldPair<P, Value> {
-    /// Sets the document to change; the old one is dropped. It takes no memory. Named as in the crate `jsonpath_lib`.
+    /// Sets the document to change; the old one is dropped. Allocates no memory. Named as in the crate `jsonpath_lib`.
     ///
     /// ```text
     /// let mut held = SelectorMut::new();
@@ -28,7 +28,7 @@ impl<P: AnyPath> HeldPair<P, Value> {
         self
     }
 
-    /// Moves the document, with all changes made so far, out of the selector, which then has none. It takes no memory.
+    /// Moves the document, with all changes made so far, out of the selector, which then has none. Allocates no memory.
     ///
     /// ```text
     /// let mut held = SelectorMut::default();
@@ -61,8 +61,8 @@ impl<P: AnyPath> HeldPair<P, Value> {
         path.select(alloc, value)
     }
 
-    /// The nodes (values with locations) that the path selects in the document, in its order, with duplicates. Errors:
-    /// `EmptyPath` if there is no path, else `EmptyValue` if there is no document, else `OutOfMemory`.
+    /// The nodes (values with locations) that the path selects in the document, in the path's order, with duplicates.
+    /// Errors: `EmptyPath` if there is no path, else `EmptyValue` if there is no document, else `OutOfMemory`.
     ///
     /// ```text
     /// let mut held = SelectorMut::new();

@@ -14,8 +14,7 @@ use serde_json::Value;
 use std::alloc::Global;
 
 /// A selector with a compiled path, set as a path text or a `Node`, and a borrowed value to search. Both are optional;
-/// each is the one that was set last, by whichever call. A select call changes neither, whether it succeeds or not, and
-/// stores no answer.
+/// each is the one set last, by whichever call. A select call changes neither, successful or not, and stores no answer.
 ///
 /// ```text
 /// let document = read_document(alloc, b"[1, 2, 3]")?;
@@ -27,8 +26,9 @@ use std::alloc::Global;
 /// ```
 pub type Selector<'a, 'b> = HeldPair<WalkedPath<'b>, &'a Value>;
 
-/// Changes its own document at what a path selects. Path and document are optional; each is the one set last, by
-/// whichever call. An update changes the document alone, and leaves it unchanged on any error but the closure's own.
+/// A selector with a compiled path and an owned document, which its updates change. Both are optional; each is the one
+/// set last, by whichever call. An update changes only the document; any error but one that the closure returned leaves
+/// it unchanged.
 ///
 /// ```text
 /// let document = read_document(alloc, b"[1, 2, 3]")?;
@@ -87,7 +87,7 @@ impl<P: OfNode + Drop, V: HeldValue> HeldPair<P, V> {
 }
 
 impl<'a, 'b> Selector<'a, 'b> {
-    /// A selector with no path and no value. It takes no memory.
+    /// A selector with no path and no value. The call allocates no memory.
     ///
     /// ```text
     /// let held = Selector::new();
@@ -99,7 +99,7 @@ impl<'a, 'b> Selector<'a, 'b> {
         HeldPair::default()
     }
 
-    /// The selector's compiled path, or `None`. It takes no memory. Named as in the Rust crate `jsonpath_lib`.
+    /// The selector's compiled path, or `None`. Allocates no memory. Named as in the Rust crate `jsonpath_lib`.
     ///
     /// ```text
     /// let mut held = Selector::new();
@@ -116,8 +116,8 @@ impl<'a, 'b> Selector<'a, 'b> {
         }
     }
 
-    /// Sets the selector's path to this compiled one, borrowed. It takes no memory. Named as in the Rust crate
-    /// `jsonpath_lib`.
+    /// Sets the selector's path to this compiled one, which it borrows. The call allocates no memory. Named as in the
+    /// Rust crate `jsonpath_lib`.
     ///
     /// ```text
     /// let document = read_document(alloc, b"[1, 2, 3]")?;
@@ -136,7 +136,7 @@ impl<'a, 'b> Selector<'a, 'b> {
 }
 
 impl SelectorMut {
-    /// Makes a `SelectorMut` with no path and no document. It takes no memory.
+    /// Makes a `SelectorMut` with no path and no document. The call allocates no memory.
     ///
     /// ```text
     /// let mut held = SelectorMut::new();
@@ -148,7 +148,7 @@ impl SelectorMut {
         HeldPair::default()
     }
 
-    /// Sets the selector's path to this compiled one. It takes no memory. Named as in the Rust crate `jsonpath_lib`.
+    /// Sets the selector's path to this compiled one. Allocates no memory. Named as in the Rust crate `jsonpath_lib`.
     ///
     /// ```text
     /// let mut held = SelectorMut::new();

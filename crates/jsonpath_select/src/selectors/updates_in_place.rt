@@ -12,8 +12,9 @@ use serde_json::Value;
 use std::alloc::Global;
 
 impl<P: AnyPath> HeldPair<P, Value> {
-    /// Replaces each selected value below the root by null, except those inside another such value, as `delete` does.
-    /// Errors: `EmptyPath` (no path), `EmptyValue` (a path, no document), else `OutOfMemory`; nothing has changed then.
+    /// Replaces each selected value by null, except the root and values inside another replaced value, as `delete`
+    /// does. Errors: `EmptyPath` (no path), `EmptyValue` (a path, no document), else `OutOfMemory`; nothing has changed
+    /// then.
     ///
     /// ```text
     /// let mut held = SelectorMut::new();
@@ -58,7 +59,7 @@ impl<P: AnyPath> HeldPair<P, Value> {
         path.remove_in(alloc, value)
     }
 
-    /// Replaces each selected value below the root by a copy of `new`, all at once, except those inside another such
+    /// Replaces each selected value by a copy of `new`, all at once, except the root and values inside another replaced
     /// value, as `set` does, but returns no `&mut Self`. Errors: `EmptyPath` if there is no path, else `EmptyValue` if
     /// there is no document, else `OutOfMemory`; nothing has changed then.
     ///
@@ -83,7 +84,8 @@ impl<P: AnyPath> HeldPair<P, Value> {
     }
 
     /// Calls the closure once for each selected location, as `replace_with` does, but returns no `&mut Self`: `Some`
-    /// replaces the value, `None` removes it. Errors, before any call: `EmptyPath`, `EmptyValue` or `OutOfMemory`.
+    /// replaces the value, `None` removes it. Errors, before the closure is called: `EmptyPath` (no path), `EmptyValue`
+    /// (no document), `OutOfMemory`.
     ///
     /// ```text
     /// let mut held = SelectorMut::new();
@@ -115,8 +117,8 @@ impl<P: AnyPath> HeldPair<P, Value> {
 
     /// Calls the closure once for each selected location below the root that still exists, in document order, with a
     /// reference to the value that earlier updates left there: `Some` replaces the value, `None` removes it. The
-    /// closure's first error ends the updates, as `Refused`; those before it remain. Errors before any call are
-    /// `Unasked`: `EmptyPath` without a path, else `EmptyValue` without a document, else `OutOfMemory`.
+    /// closure's first error ends the updates, as `Refused`; the updates before it remain. Errors before the closure is
+    /// called are `Unasked`: `EmptyPath` without a path, else `EmptyValue` without a document, else `OutOfMemory`.
     ///
     /// ```text
     /// let mut held = SelectorMut::new();

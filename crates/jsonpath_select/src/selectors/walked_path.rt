@@ -10,8 +10,7 @@ use jsonpath_nodes::Spot;
 use serde_json::Value;
 use std::alloc::Global;
 
-/// The compiled path of a selector, owned or borrowed. The nodes that it selects are found by a walk over its syntax
-/// tree.
+/// The compiled path of a selector, owned or borrowed. What it selects is found by going through its syntax tree.
 ///
 /// ```text
 /// let path = WalkedPath::Own(Parser::compile(alloc, "$.a")?);

@@ -15,8 +15,8 @@ use serde_json::{Map, Value};
 /// Removes the values at all locations of a list, all at once: the other items of an array keep their order. The root
 /// and locations that don't exist are skipped.
 ///
-/// The list must be in document order, each location once, as `compute_paths` returns it. Removing takes no memory, so
-/// the call always returns `Ok`.
+/// The list must be in document order, each location once, as `compute_paths` returns it. Removing allocates no memory,
+/// so the call always returns `Ok`.
 ///
 /// ```text
 /// let mut document = Value::from_str(alloc, "[1, [2, 3]]")?;
