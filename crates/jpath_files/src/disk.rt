@@ -39,7 +39,7 @@ pub enum Call<'a> {
 pub enum Place {
     /// The file at the path of the edited file.
     Path,
-    /// Whatever file is at the path of the new file, which is beside the edited file.
+    /// The file, of whatever origin, at the path that is chosen for the new file.
     Beside,
     /// The new file that this edit has created and opened.
     NewFile,

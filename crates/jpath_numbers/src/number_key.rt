@@ -14,7 +14,7 @@ use std::cmp::Ordering;
 
 /// A key by which numbers compare: keys are ordered as their numbers are, and equal if these are equal. The number is
 /// 0.DIGITS times ten to the exponent; the digits neither begin nor end with 0. For a negative number, the exponent is
-/// negated, each digit is subtracted from 9, and a last digit above all others is added.
+/// negated, each digit is subtracted from 9, and a digit that is greater than 9 is appended.
 #[derive(Debug, Drop, PartialEq, Eq, PartialOrd, Ord)]
 pub struct NumberKey {
     side: i8,

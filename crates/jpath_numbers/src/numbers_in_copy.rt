@@ -31,7 +31,7 @@ pub enum Numbers {
     Scaled(u32),
     /// The copy has, in place of each number, its rank among these keys, which ascend.
     Ranked(Vec<NumberKey>),
-    /// The copy has one and the same number in place of each, since no filter compares numbers.
+    /// All numbers of the document are one and the same number in the copy, since no filter compares numbers.
     Alike,
 }
 

@@ -115,8 +115,8 @@ impl<T: Drop> From<AllocFailed<T>> for Refused {
 }
 
 /// Everything that the command line of `jpath` asks for: compiled paths, the task, the layout of lines and the files.
-/// Errors: the options contradict each other, a path has a syntax error, which is printed here with its position, only
-/// the paths were to be checked, or memory ran out.
+/// Returned as errors: the options contradict each other; a path has a syntax error, which is printed here with its
+/// position; memory ran out; or nothing is to be read, because the option `--check` is set and all paths are right.
 pub fn wanted_of_words<'a>(
     rt: &(impl Eprint + Alloc<A = Global>),
     words: &Words<'a>,

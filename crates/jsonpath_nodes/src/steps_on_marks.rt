@@ -155,8 +155,8 @@ pub fn stride_from_each<'a, M: Mark<'a>>(
     }
 }
 
-/// The non-array values left after flattening the nested arrays of each node, with duplicates. If no two nodes lead to
-/// the same value, these are the candidates of a filter that uses a relative query with at least one segment.
+/// The non-array values left after flattening the nested arrays of each node, node by node; a value at which two nodes
+/// arrive occurs twice. Without such values, they are the candidates of a filter whose `@` is followed by a segment.
 ///
 /// ```text
 /// let found = steps_on_marks::flattened_from_each(alloc, &[&document])?;

@@ -75,7 +75,7 @@ pub fn spelled_tree()
 {}
 
 /// Lemma: a text has a syntax error at a position exactly if `place_of_text` computes this position, so at one position
-/// at most. The position in a fixed text is proved by `refl`.
+/// at most. For a literal text, the proof of its error's position is thus the computation itself (`refl`).
 ///
 /// ```text
 /// laws::error_position();

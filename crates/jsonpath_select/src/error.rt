@@ -29,7 +29,8 @@ pub enum JsonPathError {
     /// A path is set in the selector, but no value. Printed as `json value not set`.
     EmptyValue,
     /// A text is no path. The message is `Eof` if the text ends too early, else `Position:` and the byte position
-    /// after the wrong token. For an error of `Parser` the message is the path text, a line end and a row of `^`.
+    /// after the wrong token. For an error of `Parser` it is the path text and a line of `^`, one for each byte up to
+    /// that position, or for each byte of the text if it ends too early.
     /// Printed as `path error: `, a line end, the message and a line end.
     Path(String),
     /// A text is no JSON, a value can't be deserialized to the wanted type, or a number to be printed or deserialized

@@ -26,8 +26,8 @@ pub fn price<'a>(alloc: Global, json: &'a Value) -> Result<Vec<&'a Value>, JsonP
     select(alloc, json, "$.price")
 }
 
-/// A list with the value at the location, or an empty list if it doesn't exist. The path is the location's text, so
-/// each index of the location must be below 2^63.
+/// A list with the value at the location, or an empty list if it doesn't exist. Compiles the location's text as a path;
+/// a path has no index from 2^63 on, so no index of the location may be that large.
 pub fn value_at<'a>(
     alloc: Global,
     json: &'a Value,

@@ -13,8 +13,8 @@ use json::Value as Exact;
 use std::alloc::{AllocError, Global};
 
 /// Appends an item of a JSON array to `out`, in colours or over several lines as `look` says, after a comma if
-/// `has_comma`. A name that an object has several times is written once. After an error `out` may end with a part of
-/// the item.
+/// `has_comma`. A name that an object has several times is written once: at its first position, with its last value.
+/// After an error `out` may end with a part of the item.
 pub fn add_array_item(
     alloc: Global,
     out: &mut Vec<u8>,

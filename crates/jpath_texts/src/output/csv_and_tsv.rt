@@ -17,8 +17,8 @@ pub enum Separated {
     ByTabs,
 }
 
-/// Appends the header of a table to `out`: a row of CSV or TSV with these column names. After an error `out` may end
-/// with a part of the row, or be empty.
+/// Appends the header of a table to `out`: a row of CSV or TSV with these column names. After an error the contents of
+/// `out` are of no use: a part of the row may follow them, and all may be gone.
 pub fn add_header(
     alloc: Global,
     names: &[&str],
@@ -34,8 +34,8 @@ pub fn add_header(
     add_row(alloc, fields.as_slice(), separated, out)
 }
 
-/// Appends a row of CSV or TSV with these fields to `out`. The only error is out of memory; then `out` may end with a
-/// part of the row, or be empty.
+/// Appends a row of CSV or TSV with these fields to `out`. The only error is out of memory; the contents of `out` are
+/// then of no use: a part of the row may follow them, and all may be gone.
 pub fn add_row(
     alloc: Global,
     fields: &[Vec<u8>],

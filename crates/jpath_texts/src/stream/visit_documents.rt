@@ -74,9 +74,9 @@ pub struct Ended<S> {
 
 /// Calls the visitor for each document of a stream, in order, as soon as the document's bytes are read. Returns how
 /// many matches the documents have together, and why the visits ended: the stream ended, a read failed, or the visitor
-/// wanted no more documents or returned an error. Wrong bytes are visited, too, as soon as the first byte is read with
-/// which no document can continue; the search for the next document begins after the line on which the wrong bytes
-/// begin. A byte order mark at the beginning is skipped.
+/// wanted no more documents or returned an error. A malformed document is visited, too, as soon as the first byte is
+/// read with which no document can continue; the next document is then looked for after the line on which the malformed
+/// one begins. A byte order mark at the beginning is skipped.
 pub fn visit_documents<R: Input, V: Visitor>(
     alloc: Global,
     reader: &mut R,

@@ -194,7 +194,7 @@ impl<'a> Spot<'a> {
     }
 }
 
-/// A clone of a node has the same value and location. It fails only if too many nodes to count share the location.
+/// A clone of a node has the same value and shares its location. It fails only if the count of sharers would overflow.
 impl<'a> Clone for Spot<'a> {
     ghost is_clone = { λ spot copy. sight_of copy ≡ sight_of spot };
 

@@ -46,7 +46,7 @@ impl ValueWalker {
         plain_step_from_each(alloc, spots, &PlainStep::Every)
     }
 
-    /// A name: the member of that name, from each node that is an object and has one. The name is taken literally.
+    /// Selects the member with this name from each node that is an object and has one. The name is taken literally.
     ///
     /// ```text
     /// let found = ValueWalker::next_with_str(alloc, items.as_slice(), "b")?;

@@ -21,7 +21,7 @@ use std::alloc::{AllocError, Global};
 /// ```
 #[derive(Clone, Copy, Debug, PartialEq, Eq)]
 pub enum Expected {
-    /// Any token of this kind. `Kind::Key` means any word, as after a dot.
+    /// Any token of this kind. `Kind::Key` means that any word is allowed, as it is after a dot.
     Token(Kind),
     /// A word that is an index.
     Index,

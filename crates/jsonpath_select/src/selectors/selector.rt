@@ -27,8 +27,8 @@ use std::alloc::Global;
 pub type Selector<'a, 'b> = HeldPair<WalkedPath<'b>, &'a Value>;
 
 /// A selector with a compiled path and an owned document, which its updates change. Both are optional; each is the one
-/// set last, by whichever call. An update changes only the document; any error but one that the closure returned leaves
-/// it unchanged.
+/// set last, by whichever call. An update changes only the document, and an error leaves it unchanged, unless a closure
+/// that makes the new values returned the error.
 ///
 /// ```text
 /// let document = read_document(alloc, b"[1, 2, 3]")?;
