@@ -36,6 +36,9 @@ const SELECTED: [(&str, &str, &str); 4] = [
     ("$.foo.bar", "{\"foo\":{\"bar\":\"baz\"}}", "[\"baz\"]"),
 ];
 
+// The rows of these that are also tried by each type that holds a path: a descent, and a filter in a filter.
+const HELD: [usize; 2] = [0, 2];
+
 // Path, document, the document after deleting.
 const DELETED: [(&str, &str, &str); 3] = [
     (
@@ -140,7 +143,8 @@ fn json_selector_grows<'a>(
 
 #[test]
 fn growths_of_json_selectors(rt: HostRuntime) {
-    for (path, json, text) in SELECTED {
+    for row in HELD {
+        let (path, json, text) = SELECTED[row];
         let document = made!(Value::from_str(rt.alloc(), json));
         json_selector_grows(&rt, path, &document, text);
     }
@@ -183,7 +187,8 @@ fn selector_grows(rt: &(impl Abort + AllocGlobal), path: &str, json: &str, text:
 
 #[test]
 fn growths_of_selectors(rt: HostRuntime) {
-    for (path, json, text) in SELECTED {
+    for row in HELD {
+        let (path, json, text) = SELECTED[row];
         selector_grows(&rt, path, json, text);
     }
 }
@@ -303,7 +308,8 @@ fn kept_path_grows(rt: &(impl Abort + AllocGlobal), path: &str, json: &str, text
 
 #[test]
 fn growths_of_compiled_paths(rt: HostRuntime) {
-    for (path, json, text) in SELECTED {
+    for row in HELD {
+        let (path, json, text) = SELECTED[row];
         shared_path_grows(&rt, path, json, text);
         owned_path_grows(&rt, path, json, text);
         kept_path_grows(&rt, path, json, text);

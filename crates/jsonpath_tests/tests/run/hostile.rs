@@ -139,7 +139,7 @@ fn deep_paths(rt: HostRuntime) -> Result<(), Fail> {
 #[test]
 fn paths_of_many_blanks(rt: HostRuntime) -> Result<(), Fail> {
     let rows: [(&[(&str, usize)], &str); 2] = [
-        (&[("$", 1), (" ", 10_000_000)], "ok\n"),
+        (&[("$", 1), (" ", 1_000_000)], "ok\n"),
         (&[("$[", 1), (" ", 1_000_000)], "path error: \nEof\n"),
     ];
     check_repeated(&rt, &rows)

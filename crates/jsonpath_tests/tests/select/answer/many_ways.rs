@@ -174,9 +174,9 @@ fn doubled(alloc: Global, times: usize) -> Result<String, Fail> {
 #[test]
 fn whether_there_is_any_is_told_by_places(rt: HostRuntime) -> Result<(), Fail> {
     let alloc = rt.alloc();
-    let document = nested(alloc, 64)?;
     let three = compile_path(alloc, "$..*..*..*")?;
-    check!(rt; three.count(alloc, &document)? == 41664);
+    check!(rt; three.count(alloc, &nested(alloc, 24)?)? == 2024);
+    let document = nested(alloc, 64)?;
     let ten = compile_path(alloc, "$..*..*..*..*..*..*..*..*..*..*")?;
     check!(rt; ten.exists(alloc, &document)?);
     let more = doubled(alloc, 64)?;
