@@ -14,7 +14,7 @@ use crate::memory::NoMemory;
 use crate::place::spot::Spot;
 use crate::step::descends::Descends;
 use crate::step::plain_step::PlainStep;
-use crate::step::{candidates, children, descend};
+use crate::step::{candidates, children, gather};
 use serde_json::Value;
 use std::alloc::Global;
 
@@ -140,7 +140,7 @@ impl<'a, M: ValueNode<'a>> Mark<'a> for M {
         plain: &PlainStep<'_>,
         out: &mut Vec<M>,
     ) -> Result<(), NoMemory> {
-        descend::add_selected_at_or_below(alloc, self, plain, out)
+        gather::add_selected_at_or_below(alloc, self, plain, out)
     }
 
     #[inline]
