@@ -15,7 +15,8 @@ use Rattle.jsonpath_nodes.specs.declared.place.spot.Spot.{Spot}
 use Rattle.jsonpath_nodes.proofs.place.SightLemmas.{Sight}
 use Rattle.jsonpath_nodes.proofs.step.DisjointLemmas.{disjoint_stands_apart}
 use Rattle.jsonpath_nodes.proofs.step.OnceLemmas.{step_same}
-use Rattle.jsonpath_nodes.proofs.step.SeparateLemmas.{all_then, apart_has_no_repeat_flat}
+use Rattle.jsonpath_nodes.proofs.step.DistinctLemmas.{all_then}
+use Rattle.jsonpath_nodes.proofs.step.SeparateLemmas.{apart_has_no_repeat_flat}
 use Rattle.jsonpath_nodes.proofs.update.SetLemmas.{step_eq, same_back}
 
 -- ---- coming apart is transitive
