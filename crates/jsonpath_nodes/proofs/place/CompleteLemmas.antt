@@ -3,7 +3,7 @@ use Rattle.std.proofs.Common.{◌≡◌, ℕ, zero, suc, ◌+◌, ◌<◌, lengt
 use Rattle.std.specs.Prelude.{option_and_then, Contains, IsSome}
 use Rattle.std.specs.Ordering.{match_ordering}
 use Rattle.std.specs.Cmp.Lexicographic.{slice_cmp}
-use Rattle.serde_json.specs.Data.{Data, null, boolean, number, string, array, object, Items, no_items, item, Members, no_members, member}
+use Rattle.serde_json.specs.Data.{Data, array, object, Items, no_items, item, Members, no_members, member}
 use Rattle.serde_json.specs.Find.{get_item, get_member}
 use Rattle.jsonpath_nodes.specs.place.Location.{Step, name, index, Location, at, child, below}
 use Rattle.jsonpath_nodes.specs.place.Order.{IsDocument}
@@ -47,12 +47,9 @@ below_child s l (x ∷ xs) (inr h) = let rest = below_child s l xs h in (rest.0,
 -- ---- below the children
 
 abbrev kids : Data → List Kid
-kids null = []
-kids (boolean b) = []
-kids (number n) = []
-kids (string s) = []
 kids (array ds) = item_kids 0 ds
 kids (object ms) = member_kids ms
+kids _ = []
 
 below-kids : (d : Data) → below d ≡ [] ∷ through below (kids d)
 below-kids (array ds) = ap (λ (ls : List Location). [] ∷ ls) (below_items-kids 0 ds)
@@ -85,13 +82,8 @@ member_kid k (member j d ms) c e = by (slice_cmp nat_cmp k j) refl (member_kid k
 
 child_kid : (s : Step) (d c : Data) → child s d ≡ Some c → IsKid s c (kids d)
 child_kid (name k) (object ms) c e = member_kid k ms c e
-child_kid (index i) null c e = cc
-child_kid (index i) (boolean b) c e = cc
-child_kid (index i) (number n) c e = cc
-child_kid (index i) (string t) c e = cc
 child_kid (index i) (array ds) c e = let at_front : 0 + i ≡ i = omega arith in subst (λ (j : ℕ). IsKid (index j) c (item_kids 0 ds)) at_front (item_kid i 0 ds c e)
-child_kid (index i) (object ms) c e = cc
-child_kid (name k) _ c e = cc
+child_kid _ _ c e = cc
 
 among_through : (s : Step) (c : Data) (l : Location) (ks : List Kid) → IsKid s c ks → IsAmong l (below c) → IsAmong (s ∷ l) (through below ks)
 among_through s c l [] k h = elim k [ ]

@@ -1,5 +1,5 @@
 -- Where the base locations ascend with none below another, no candidate is found twice.
-use Rattle.std.proofs.Common.{◌≡◌, List, [], ◌∷◌, map, Option, Some, None, Bool, true, false, not, ◌||◌, Ordering, Less, Equal, Greater, is_eq, refl, sym, ap, ap₂, ◌∙◌, subst}
+use Rattle.std.proofs.Common.{◌≡◌, List, [], ◌∷◌, map, Option, Some, None, Bool, true, false, not, ◌||◌, Ordering, Less, Equal, Greater, is_eq, refl, sym, ap, ◌∙◌, subst}
 use Rattle.std.specs.List.{AllByRecursion, IsDistinct}
 use Rattle.std.specs.Ordering.{match_ordering}
 use Rattle.serde_json.specs.Data.{Data}
@@ -14,6 +14,8 @@ use Rattle.jsonpath_nodes.specs.update.Topmost.{same_step}
 use Rattle.jsonpath_nodes.specs.declared.place.spot.Spot.{Spot}
 use Rattle.jsonpath_nodes.proofs.place.SightLemmas.{Sight}
 use Rattle.jsonpath_nodes.proofs.step.DisjointLemmas.{disjoint_stands_apart}
+use Rattle.std.proofs.lemmas.Simd.{map-map}
+use Rattle.jsonpath_nodes.proofs.step.FirstLemmas.{places-StandAt}
 use Rattle.jsonpath_nodes.proofs.step.OnceLemmas.{step_same}
 use Rattle.jsonpath_nodes.proofs.step.DistinctLemmas.{all_then}
 use Rattle.jsonpath_nodes.proofs.step.SeparateLemmas.{apart_has_no_repeat_flat}
@@ -70,13 +72,7 @@ ascend_disjoint (l ∷ ls) h = (all_then (λ m. first_difference_ascends l m ≡
 -- ---- spots
 
 pub located : (doc : Data) (ls : List Location) (spots : List Spot) → StandAt doc ls spots → map location_of spots ≡ ls
-located doc [] [] h = refl
-located doc [] (s ∷ spots) h = cc
-located doc (l ∷ ls) [] h = cc
-located doc (l ∷ ls) (s ∷ spots) h =
-    let here : sight_of s ≡ look doc l = cc in
-    let later : StandAt doc ls spots = cc in
-    ap₂ (λ (x : Location) (xs : List Location). x ∷ xs) (ap (λ (x : Sight). x.0) here) (located doc ls spots later)
+located doc ls spots h = sym (map-map (λ (x : Sight). x.0) sight_of spots) ∙ places-StandAt doc ls spots h
 
 pub leads_apart : (spots found : List Spot) → Ascend (map location_of spots) → LeadsBy (λ doc ls. from_each doc flat ls) spots found → LeadsBy flattened spots found
 leads_apart spots found h lead doc ls stand =

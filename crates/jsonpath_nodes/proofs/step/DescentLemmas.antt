@@ -12,7 +12,7 @@ use Rattle.jsonpath_nodes.specs.place.SpotPlace.{look_from}
 use Rattle.jsonpath_nodes.specs.step.Steps.{from, from_each, every, step, all_below, flattened}
 use Rattle.jsonpath_nodes.proofs.place.KeptLemmas.{seen-from_each}
 use Rattle.jsonpath_nodes.proofs.step.ChildLemmas.{through, item_kids, member_kids, flat_members-kids, below_items-kids, below_members-kids, all_items_at, members_at}
-use Rattle.jsonpath_nodes.proofs.step.ListLemmas.{map-nothing, from_each-through}
+use Rattle.jsonpath_nodes.proofs.step.DeepLemmas.{gathered-items, gathered-members}
 use Rattle.jsonpath_nodes.proofs.step.OneDescentLemmas.{from_one}
 use Rattle.jsonpath_nodes.proofs.step.SeparateLemmas.{apart_has_no_repeat_flat, one_is_apart}
 use Rattle.jsonpath_nodes.proofs.place.SightLemmas.{Sight, member_sights, members-sights}
@@ -25,11 +25,8 @@ members_flat-sights l ms h = sym (members-sights flat l ms h) ∙ ap (map (look_
 -- what is flat in the objects of a document, as one descent gathers it
 mutual
   pub flat_gathered : (d : Data) → IsDocument d → all_gathered flat_in_object d ≡ in_objects d
-  flat_gathered (array ds) h =
-      ap (from_each (array ds) flat_in_object) (below_items-kids 0 ds) ∙ from_each-through flat_in_object below (array ds) (item_kids 0 ds) (all_items_at ds) ∙ items_gathered 0 ds h
-  flat_gathered (object ms) h =
-      ap₂ (λ (x y : List Location). x ++ y) (map-nothing (flat_members ms))
-      (ap (from_each (object ms) flat_in_object) (below_members-kids ms) ∙ from_each-through flat_in_object below (object ms) (member_kids ms) (members_at ms h.0) ∙ members_gathered ms h.1)
+  flat_gathered (array ds) h = gathered-items flat_in_object ds ∙ items_gathered 0 ds h
+  flat_gathered (object ms) h = gathered-members flat_in_object ms h.0 ∙ ap (λ (ls : List Location). flat_members ms ++ ls) (members_gathered ms h.1)
   flat_gathered _ h = refl
 
   items_gathered : (n : ℕ) (ds : Items) → AreDocuments ds → through (all_gathered flat_in_object) (item_kids n ds) ≡ in_objects_items n ds
@@ -44,11 +41,7 @@ mutual
 
 flat_single : (d : Data) → as_array d ≡ None → flat d ≡ [] ∷ []
 flat_single (array ds) h = cc
-flat_single null h = refl
-flat_single (boolean b) h = refl
-flat_single (number n) h = refl
-flat_single (string s) h = refl
-flat_single (object ms) h = refl
+flat_single _ h = refl
 
 pub flat_itself : {M : Type 0} (b : Bool) (stand : M → Location) (content : M → Data) (m copy : M) (before after : List M) → as_array (content m) ≡ None → after ≡ before ++ copy ∷ []
     → shown stand content copy ≡ (kept_location b (stand m), Some (content m)) → MarksGain b stand content flat (stand m) (content m) before after

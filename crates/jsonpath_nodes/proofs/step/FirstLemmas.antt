@@ -24,7 +24,7 @@ looked : (doc : Data) (ls : List Location) → map (λ (x : Sight). x.0) (map (l
 looked doc [] = refl
 looked doc (l ∷ ls) = ap (λ (ms : List Location). l ∷ ms) (looked doc ls)
 
-places-StandAt : (doc : Data) (ls : List Location) (spots : List Spot) → StandAt doc ls spots → places spots ≡ ls
+pub places-StandAt : (doc : Data) (ls : List Location) (spots : List Spot) → StandAt doc ls spots → places spots ≡ ls
 places-StandAt doc ls spots stand = ap (map (λ (x : Sight). x.0)) stand ∙ looked doc ls
 
 last_of : (doc : Data) (ls : List Location) (spots : List Spot) (s : Spot) → StandAt doc ls (spots ++ s ∷ [])

@@ -39,12 +39,9 @@ listed_of_items ds ks = ap (map (λ (s : Step). s ∷ [])) (listed_nowhere (arra
 -- ---- a value without children
 
 abbrev pub IsLeaf : Data → Type 0
-IsLeaf null = Unit {0}
-IsLeaf (boolean b) = Unit {0}
-IsLeaf (number n) = Unit {0}
-IsLeaf (string s) = Unit {0}
 IsLeaf (array ds) = ⊥
 IsLeaf (object ms) = ⊥
+IsLeaf _ = Unit {0}
 
 pub leaf_by : (P : Data → Type 0) → P null → ((b : Bool) → P (boolean b)) → ((n : _) → P (number n)) → ((s : List ℕ) → P (string s)) → (d : Data) → IsLeaf d → P d
 leaf_by P of_null of_boolean of_number of_string null h = of_null

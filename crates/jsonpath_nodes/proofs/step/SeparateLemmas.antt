@@ -12,7 +12,7 @@ use Rattle.std.proofs.lemmas.Bool.{and_parts, or_parts}
 use Rattle.std.proofs.lemmas.Bool.Decides.{eqb_tells, leb_tells}
 use Rattle.std.proofs.lemmas.Cmp.{int_cmp_total}
 use Rattle.std.proofs.lemmas.Map.Keys.{IsDistinct-from_sorted}
-use Rattle.serde_json.specs.Data.{Data, null, boolean, number, string, array, object, Items, no_items, item, Members, no_members, member}
+use Rattle.serde_json.specs.Data.{Data, null, array, object, Items, no_items, item, Members, no_members, member}
 use Rattle.serde_json.specs.Events.{items_len}
 use Rattle.serde_json.specs.Find.{get_item}
 use Rattle.jsonpath_nodes.specs.place.Location.{Step, name, index, Location, at, child, children, indexes_from, names, below, flat, flat_items, is_same, step_cmp, location_cmp}
@@ -473,12 +473,8 @@ apart_has_no_repeat_flat doc ls h = kept_whole [] (from_each doc flat ls) tt (fl
 -- a value that is there and no array
 abbrev no_array : Option Data → Bool
 no_array None = false
-no_array (Some null) = true
-no_array (Some (boolean b)) = true
-no_array (Some (number n)) = true
-no_array (Some (string s)) = true
 no_array (Some (array ds)) = false
-no_array (Some (object ms)) = true
+no_array (Some _) = true
 
 no_item : (d : Data) (i : ℕ) (m : Location) → no_array (Some d) ≡ true → no_array (at d (index i ∷ m)) ≡ true → ⊥
 no_item null i m h k = cc
