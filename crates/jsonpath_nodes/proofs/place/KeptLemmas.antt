@@ -9,8 +9,8 @@ use Rattle.jsonpath_nodes.specs.step.Steps.{Plain, every, single_steps, from, fr
 use Rattle.jsonpath_nodes.specs.place.SpotPlace.{LeadsBy, location_of, look, look_from, sight_of, value_of}
 use Rattle.jsonpath_nodes.specs.declared.place.spot.Spot.{Spot}
 use Rattle.jsonpath_nodes.specs.place.Mark.{kept_location, shown, look_kept, look_kept_from, MarksStandAt, MarksLeadBy, seen_from_each}
-use Rattle.jsonpath_nodes.proofs.place.SightLemmas.{Sight, kid_sights, items_children-sights, members_children-sights}
-use Rattle.jsonpath_nodes.proofs.step.ChildLemmas.{Kid, item_kids, member_kids, itself}
+use Rattle.jsonpath_nodes.proofs.place.SightLemmas.{Sight, kid_sights, items-sights, members-sights, items_children-sights, members_children-sights}
+use Rattle.jsonpath_nodes.proofs.step.ChildLemmas.{Kid, through, item_kids, member_kids, itself}
 use Rattle.jsonpath_nodes.proofs.step.DeepLemmas.{gathered_items, gathered_members}
 use Rattle.jsonpath_nodes.proofs.step.ListLemmas.{from_each-twice}
 use Rattle.jsonpath_nodes.proofs.place.LeadLemmas.{look-below}
@@ -94,10 +94,6 @@ pub gathered_of_members : (b : Bool) (own : Data → List Location) (l : Locatio
     → map (look_kept_from b l (object ms)) (all_gathered own (object ms)) ≡ map (look_kept_from b l (object ms)) (own (object ms)) ++ seen_members b (all_gathered own) l ms
 gathered_of_members b own l ms h = gathered_of_kids b own l (object ms) (member_kids ms) (gathered_members own l ms h)
 
--- the same of any walk
-pub of_kids : (b : Bool) (f : Data → List Location) (l : Location) (d : Data) (ks : List Kid) (own : List Location) → kid_sights f l ks ≡ map (look_from l d) own → seen_kids b f l ks ≡ map (look_kept_from b l d) own
-of_kids b f l d ks own is = seen_kids-sights b f l ks ∙ ap (map (keep b)) is ∙ sym (seen b l d own)
-
 -- ---- the ends of the loops, for whatever stands for the children (seen_items, shown_items, ..)
 
 pub items_end : (child_sights : ℕ → Items → List Sight) (i : ℕ) (left all : Items) (before out after : List Sight) → ((n : ℕ) → child_sights n no_items ≡ []) → left ≡ no_items
@@ -109,6 +105,21 @@ pub members_end : (child_sights : Members → List Sight) (left all : Members) (
     → out ++ child_sights left ≡ before ++ child_sights all → child_sights all ≡ after → out ≡ before ++ after
 members_end child_sights left all before out after no_more none invariant is =
     sym (append-nil out) ∙ ap (λ (ws : List Sight). out ++ ws) (sym no_more) ∙ ap (λ (ws : Members). out ++ child_sights ws) (sym none) ∙ invariant ∙ ap (λ (ss : List Sight). before ++ ss) is
+
+-- after the loop, at the place where the way began: own is what f gives through the children
+pub items_gained : (b : Bool) (f : Data → List Location) (there here : Location) (i : ℕ) (left all : Items) (before out : List Sight) (own : List Location) → there ≡ here → left ≡ no_items
+    → out ++ seen_items b f there i left ≡ before ++ seen_items b f there 0 all → own ≡ through f (item_kids 0 all) → out ≡ before ++ map (look_kept_from b here (array all)) own
+items_gained b f there here i left all before out own same none invariant is =
+    items_end (seen_items b f there) i left all before out _ (λ n. refl) none invariant
+    (ap (λ (l : Location). seen_items b f l 0 all) same ∙ seen_kids-sights b f here (item_kids 0 all)
+    ∙ ap (map (keep b)) (sym (items-sights f here all) ∙ ap (map (look_from here (array all))) (sym is)) ∙ sym (seen b here (array all) own))
+
+pub members_gained : (b : Bool) (f : Data → List Location) (there here : Location) (left all : Members) (before out : List Sight) (own : List Location) → NamesAscend all → there ≡ here → left ≡ no_members
+    → out ++ seen_members b f there left ≡ before ++ seen_members b f there all → own ≡ through f (member_kids all) → out ≡ before ++ map (look_kept_from b here (object all)) own
+members_gained b f there here left all before out own ascend same none invariant is =
+    members_end (seen_members b f there) left all before out _ refl none invariant
+    (ap (λ (l : Location). seen_members b f l all) same ∙ seen_kids-sights b f here (member_kids all)
+    ∙ ap (map (keep b)) (sym (members-sights f here all ascend) ∙ ap (map (look_from here (object all))) (sym is)) ∙ sym (seen b here (object all) own))
 
 -- ---- lists of marks in a document
 

@@ -1,6 +1,6 @@
 -- Ways that go a step down and back.
 use Rattle.std.proofs.Common.{◌≡◌, ℕ, suc, ◌+◌, List, [], ◌∷◌, ◌++◌, map, Bool, true, false, Some, refl, sym, ap, ap₂, ◌∙◌, append_assoc, append-nil, arith}
-use Rattle.serde_json.specs.Data.{Data, null, boolean, number, string, array, object, Items, item, Members, member}
+use Rattle.serde_json.specs.Data.{Data, array, object, Items, item, Members, member}
 use Rattle.jsonpath_nodes.specs.place.Location.{Step, name, index, Location, below}
 use Rattle.jsonpath_nodes.specs.plan.Containers.{descendants}
 use Rattle.jsonpath_nodes.specs.place.Mark.{kept_location, look_kept_from}

@@ -1,26 +1,22 @@
 -- The candidates after `..*` in one descent, child by child and from a mark.
 use Rattle.std.proofs.Common.{◌≡◌, ℕ, suc, List, [], ◌∷◌, ◌++◌, map, Bool, Some, None, refl, sym, ap, ap₂, ◌∙◌, append-nil, subst}
 use Rattle.std.proofs.lemmas.List.{map-append}
-use Rattle.serde_json.specs.Data.{Data, null, boolean, number, string, array, object, Items, no_items, item, Members, no_members, member}
+use Rattle.serde_json.specs.Data.{Data, array, object, Items, no_items, item, Members, no_members, member}
 use Rattle.serde_json.specs.Find.{as_array}
 use Rattle.jsonpath_nodes.specs.step.Candidates.{flat_members, in_objects, in_objects_items, in_objects_members, candidates_below}
 use Rattle.jsonpath_nodes.specs.plan.Gathered.{all_gathered, flat_in_object}
-use Rattle.jsonpath_nodes.specs.place.Location.{name, index, Location, at, below, flat}
+use Rattle.jsonpath_nodes.specs.place.Location.{name, index, Location, at, flat}
 use Rattle.jsonpath_nodes.specs.place.Mark.{MarksGain, kept_location, shown, look_kept, look_kept_from, MarksLeadBy}
-use Rattle.jsonpath_nodes.specs.place.Order.{NamesAscend, IsDocument, AreDocuments, HoldDocuments}
-use Rattle.jsonpath_nodes.specs.place.SpotPlace.{look_from}
+use Rattle.jsonpath_nodes.specs.place.Order.{IsDocument, AreDocuments, HoldDocuments}
 use Rattle.jsonpath_nodes.specs.step.Steps.{from, from_each, every, step, all_below, flattened}
 use Rattle.jsonpath_nodes.proofs.place.KeptLemmas.{seen-from_each}
-use Rattle.jsonpath_nodes.proofs.step.ChildLemmas.{through, item_kids, member_kids, flat_members-kids, below_items-kids, below_members-kids, all_items_at, members_at}
+use Rattle.jsonpath_nodes.proofs.step.ChildLemmas.{through, item_kids, member_kids}
 use Rattle.jsonpath_nodes.proofs.step.DeepLemmas.{gathered-items, gathered-members}
 use Rattle.jsonpath_nodes.proofs.step.OneDescentLemmas.{from_one}
 use Rattle.jsonpath_nodes.proofs.step.SeparateLemmas.{apart_has_no_repeat_flat, one_is_apart}
-use Rattle.jsonpath_nodes.proofs.place.SightLemmas.{Sight, member_sights, members-sights}
+use Rattle.jsonpath_nodes.proofs.place.SightLemmas.{Sight}
 
 -- ---- child by child
-
-pub members_flat-sights : (l : Location) (ms : Members) → NamesAscend ms → member_sights flat l ms ≡ map (look_from l (object ms)) (flat_members ms)
-members_flat-sights l ms h = sym (members-sights flat l ms h) ∙ ap (map (look_from l (object ms))) (sym (flat_members-kids ms))
 
 -- what is flat in the objects of a document, as one descent gathers it
 mutual
