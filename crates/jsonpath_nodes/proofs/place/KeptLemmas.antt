@@ -2,6 +2,7 @@
 use Rattle.std.proofs.Common.{◌≡◌, ℕ, ◌≤◌, List, [], ◌∷◌, ◌++◌, map, length, drop, Bool, true, false, Option, Some, refl, sym, ap, ap₂, ◌∙◌, append-nil, drop_of_length-le}
 use Rattle.std.specs.Prelude.{flat_map, option_map, unwrap_or}
 use Rattle.std.proofs.lemmas.List.{map-append}
+use Rattle.std.proofs.lemmas.Simd.{map-map}
 use Rattle.serde_json.specs.Data.{Data, array, object, Items, no_items, Members, no_members}
 use Rattle.jsonpath_nodes.specs.place.Location.{Location, at, below}
 use Rattle.jsonpath_nodes.specs.place.Order.{NamesAscend}
@@ -29,8 +30,7 @@ kept-twice true l m = refl
 kept-twice false l m = refl
 
 pub seen : (b : Bool) (l : Location) (d : Data) (ms : List Location) → map (look_kept_from b l d) ms ≡ map (keep b) (map (look_from l d) ms)
-seen b l d [] = refl
-seen b l d (m ∷ ms) = ap (λ (xs : List Sight). look_kept_from b l d m ∷ xs) (seen b l d ms)
+seen b l d ms = sym (map-map (keep b) (look_from l d) ms)
 
 pub seen-kept : (b : Bool) (l : Location) (d : Data) (ms : List Location) → map (look_kept_from b (kept_location b l) d) ms ≡ map (keep b) (map (look_from l d) ms)
 seen-kept b l d [] = refl
@@ -124,8 +124,7 @@ members_gained b f there here left all before out own ascend same none invariant
 -- ---- lists of marks in a document
 
 looked : (b : Bool) (doc : Data) (ls : List Location) → map (keep b) (map (look doc) ls) ≡ map (look_kept b doc) ls
-looked b doc [] = refl
-looked b doc (l ∷ ls) = ap (λ (xs : List Sight). look_kept b doc l ∷ xs) (looked b doc ls)
+looked b doc ls = map-map (keep b) (look doc) ls
 
 -- what f sees from a mark of a document is what stands there
 seen-from : {M : Type 0} (b : Bool) (stand : M → Location) (content : M → Data) (doc : Data) (f : Data → List Location) (l : Location) (m : M) → shown stand content m ≡ look_kept b doc l

@@ -25,6 +25,7 @@ use Rattle.jsonpath_nodes.proofs.update.GroupLemmas.{is_equal}
 use Rattle.jsonpath_nodes.proofs.step.DistinctLemmas.{AllPairs, anything, all_of, all_then, all_append, all_map, all_filter, pairs_nothing, pairs_append, pairs_rest, pairs_map, distinct_append, distinct_map, distinct_filter, distinct_other}
 use Rattle.std.proofs.lemmas.Simd.{map-map}
 use Rattle.jsonpath_nodes.proofs.step.ChildLemmas.{Kid, other_index, item_kids, member_kids, AreDistinct, items_distinct, members_distinct, document_at}
+use Rattle.jsonpath_nodes.proofs.step.SingleLemmas.{past_end}
 use Rattle.jsonpath_nodes.proofs.place.LeadLemmas.{at-append}
 use Rattle.jsonpath_nodes.proofs.step.OnceLemmas.{step_same}
 use Rattle.jsonpath_nodes.proofs.update.SetLemmas.{same_location, location_eq, step_eq, same_back}
@@ -219,12 +220,6 @@ list_once d ks h = present_distinct d name ks h
 
 list_kind : (d : Data) (ks : List (List ℕ)) → AllByRecursion IsName (selected (listed ks) d)
 list_kind d ks = present_each IsName d name ks (anything ks)
-
--- a union: an index from the front that is past the end leads nowhere
-past_end : (i : ℕ) (ds : Items) → items_len ds ≤ i → get_item i ds ≡ None
-past_end i no_items h = refl
-past_end zero (item d ds) h = absurd (omega arith)
-past_end (suc i) (item d ds) h = past_end i ds (omega arith)
 
 from_front : (d : Data) (n : ℕ) → nth_of d (pos n) ≡ present d (index n)
 from_front (array ds) n = by (leb_tells n (items_len ds))

@@ -22,8 +22,7 @@ same_location (t ∷ m) [] = false
 same_location (t ∷ m) (s ∷ l) = same_step t s && same_location m l
 
 abbrev pub contains : Location → List Location → Bool
-contains l [] = false
-contains l (m ∷ ls) = same_location m l || contains l ls
+contains l ls = list_any (λ m. same_location m l) ls
 
 -- ---- steps that are the same
 

@@ -1,5 +1,4 @@
-use Rattle.std.proofs.Common.{◌≡◌, ◌∷◌, [], ◌++◌, map, Some, refl, ap, ◌∙◌, rules}
-use Rattle.serde_json.specs.Data.{array, object}
+use Rattle.std.proofs.Common.{◌≡◌, ◌∷◌, [], ◌++◌, map, Some, ap, ◌∙◌, rules}
 use Rattle.jsonpath_nodes.specs.place.Location.{Location, below, below_items, below_members, index, name}
 use Rattle.jsonpath_nodes.specs.place.Mark.{kept_location, look_kept_from, shown}
 use Rattle.jsonpath_nodes.specs.plan.Containers.{descendants}
