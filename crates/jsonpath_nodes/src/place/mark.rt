@@ -1,18 +1,18 @@
 //! `Mark`, a reference to a selected node: either the value alone, or a `Spot`, which has the location too.
 
-ghost use Rattle.std.specs.Prelude.{◌≡◌, Bool, OnOk};
+ghost use Rattle.std.specs.Prelude.{◌≡◌, [], Bool, true, false, OnOk};
 ghost use Rattle.serde_json.specs.Data.{Data};
 ghost use Rattle.serde_json.specs.View.{view};
 ghost use Rattle.jsonpath_nodes.specs.place.Location.{Location, flat};
 ghost use Rattle.jsonpath_nodes.specs.place.Mark.{MarksGain};
 ghost use Rattle.jsonpath_nodes.specs.place.Order.{IsDocument};
+ghost use Rattle.jsonpath_nodes.specs.place.SpotPlace.{location_of, value_of};
 ghost use Rattle.jsonpath_nodes.specs.step.Candidates.{candidates_below};
 ghost use Rattle.jsonpath_nodes.specs.step.PlainSteps.{plain_step_of};
 ghost use Rattle.jsonpath_nodes.specs.step.Steps.{deep, named, single_steps};
 
 use crate::memory::NoMemory;
 use crate::place::spot::Spot;
-use crate::step::descends::Descends;
 use crate::step::plain_step::PlainStep;
 use crate::step::{candidates, children, gather};
 use serde_json::Value;
@@ -80,37 +80,17 @@ pub trait Mark<'a>: Drop + Sized {
         ensures document { OnOk result (IsDocument (content self.now)) };
 }
 
-// A node of a tree of `serde_json`.
-pub trait ValueNode<'a>: Descends {
-    fn lent_value(&self) -> &'a Value
-        ensures { view result.now ≡ Self.Descends.content self.now };
-}
+/// A reference has no location: it is the value alone.
+impl<'a> Mark<'a> for &'a Value {
+    ghost located = { false };
 
-impl<'a> ValueNode<'a> for &'a Value {
-    #[inline(always)]
-    fn lent_value(&self) -> &'a Value {
-        *self
-    }
-}
+    ghost stand = { λ mark. [] };
 
-impl<'a> ValueNode<'a> for Spot<'a> {
-    #[inline(always)]
-    fn lent_value(&self) -> &'a Value {
-        self.value
-    }
-}
-
-/// A reference has no location: it is the value alone. A `Spot` has its whole location, which its children share.
-impl<'a, M: ValueNode<'a>> Mark<'a> for M {
-    ghost located = { M.located };
-
-    ghost stand = { M.stand };
-
-    ghost content = { M.content };
+    ghost content = { λ mark. view mark.now };
 
     #[inline(always)]
     fn value(&self) -> &'a Value {
-        self.lent_value()
+        *self
     }
 
     #[inline(always)]
@@ -118,7 +98,7 @@ impl<'a, M: ValueNode<'a>> Mark<'a> for M {
         &self,
         alloc: Global,
         plain: &PlainStep<'_>,
-        out: &mut Vec<M>,
+        out: &mut Vec<&'a Value>,
     ) -> Result<(), NoMemory> {
         children::add_selected_children(self, alloc, plain, out)
     }
@@ -128,7 +108,7 @@ impl<'a, M: ValueNode<'a>> Mark<'a> for M {
         &self,
         alloc: Global,
         name: &str,
-        out: &mut Vec<M>,
+        out: &mut Vec<&'a Value>,
     ) -> Result<(), NoMemory> {
         children::add_named_member(self, alloc, name, out)
     }
@@ -138,18 +118,76 @@ impl<'a, M: ValueNode<'a>> Mark<'a> for M {
         &self,
         alloc: Global,
         plain: &PlainStep<'_>,
-        out: &mut Vec<M>,
+        out: &mut Vec<&'a Value>,
     ) -> Result<(), NoMemory> {
         gather::add_selected_at_or_below(alloc, self, plain, out)
     }
 
     #[inline]
-    fn add_flattened(&self, alloc: Global, out: &mut Vec<M>) -> Result<(), NoMemory> {
+    fn add_flattened(&self, alloc: Global, out: &mut Vec<&'a Value>) -> Result<(), NoMemory> {
         candidates::add_flattened(alloc, self, out)
     }
 
     #[inline]
-    fn add_candidates_below(&self, alloc: Global, out: &mut Vec<M>) -> Result<(), NoMemory> {
+    fn add_candidates_below(
+        &self,
+        alloc: Global,
+        out: &mut Vec<&'a Value>,
+    ) -> Result<(), NoMemory> {
+        candidates::add_candidates_below(alloc, self, out)
+    }
+}
+
+/// A `Spot` has its whole location. Its children share that.
+impl<'a> Mark<'a> for Spot<'a> {
+    ghost located = { true };
+
+    ghost stand = { location_of };
+
+    ghost content = { value_of };
+
+    #[inline(always)]
+    fn value(&self) -> &'a Value {
+        self.value
+    }
+
+    #[inline(always)]
+    fn add_selected_children(
+        &self,
+        alloc: Global,
+        plain: &PlainStep<'_>,
+        out: &mut Vec<Spot<'a>>,
+    ) -> Result<(), NoMemory> {
+        children::add_selected_children(self, alloc, plain, out)
+    }
+
+    #[inline(always)]
+    fn add_named_member(
+        &self,
+        alloc: Global,
+        name: &str,
+        out: &mut Vec<Spot<'a>>,
+    ) -> Result<(), NoMemory> {
+        children::add_named_member(self, alloc, name, out)
+    }
+
+    #[inline]
+    fn add_selected_at_or_below(
+        &self,
+        alloc: Global,
+        plain: &PlainStep<'_>,
+        out: &mut Vec<Spot<'a>>,
+    ) -> Result<(), NoMemory> {
+        gather::add_selected_at_or_below(alloc, self, plain, out)
+    }
+
+    #[inline]
+    fn add_flattened(&self, alloc: Global, out: &mut Vec<Spot<'a>>) -> Result<(), NoMemory> {
+        candidates::add_flattened(alloc, self, out)
+    }
+
+    #[inline]
+    fn add_candidates_below(&self, alloc: Global, out: &mut Vec<Spot<'a>>) -> Result<(), NoMemory> {
         candidates::add_candidates_below(alloc, self, out)
     }
 }

@@ -18,7 +18,7 @@ use crate::memory::NoMemory;
 use crate::place::location::{LocStep, Location};
 use crate::place::spot::Spot;
 use crate::step::child_lookup::is_container;
-use crate::step::descends::Descends;
+use crate::step::descends::{Descends, DownStep};
 use crate::step::gather::{Gathered, add_at_or_below};
 use crate::tree::Tree;
 use std::alloc::Global;
@@ -62,7 +62,7 @@ fn add_flattened_items<M: Descends>(
     let mut i = 0;
     while let Some(item) = <M::Tree as Tree>::next_item(&mut left) {
         if let Some(inner) = item.as_array() {
-            M::go_to_item(way, i)?;
+            M::go_down(way, DownStep::Item(i))?;
             add_flattened_items::<M>(inner, way, out)?;
             M::go_back(way);
         } else {
@@ -89,7 +89,7 @@ pub(crate) fn add_flattened_members<M: Descends>(
     let mut left = <M::Tree as Tree>::each_member(members);
     while let Some((name, member)) = <M::Tree as Tree>::next_member(&mut left) {
         if let Some(inner) = member.as_array() {
-            M::go_to_member(way, name)?;
+            M::go_down(way, DownStep::Member(name))?;
             add_flattened_items::<M>(inner, way, out)?;
             M::go_back(way);
         } else {

@@ -5,37 +5,15 @@ ghost use Rattle.serde_json.specs.Data.{array, object};
 ghost use Rattle.jsonpath_nodes.specs.place.Location.{below, below_items, below_members};
 ghost use Rattle.jsonpath_nodes.specs.place.Mark.{MarksGain};
 ghost use Rattle.jsonpath_nodes.specs.plan.Containers.{descendants};
-ghost use Rattle.jsonpath_nodes.specs.plan.Way.{down_step, way_stand, AreSame, Stays};
+ghost use Rattle.jsonpath_nodes.specs.plan.Way.{down_step, way_stand, Stays};
 
 pub(crate) mod descent_path;
 
 use crate::memory::NoMemory;
 use crate::step::child_lookup::is_container;
-use crate::step::descends::Descends;
+use crate::step::descends::{Descends, DownStep};
 use crate::tree::Tree;
 use std::alloc::Global;
-
-// A step down, to an item of an array or to a member of an object.
-#[derive(Clone, Copy)]
-pub enum DownStep<N> {
-    Item(usize),
-    Member(N),
-}
-
-// Goes on by a step.
-#[inline(always)]
-pub(crate) fn go_down<M: Descends>(
-    way: &mut M::Way,
-    step: DownStep<<M::Tree as Tree>::Name>,
-) -> Result<(), NoMemory>
-    ensures start { OnOk result (M.start way.new ≡ M.start way.old) }
-    ensures steps { OnOk result (AreSame M.located (M.steps way.new) (M.steps way.old ++ down_step M.Tree.name_bytes step ∷ [])) }
-{
-    match step {
-        DownStep::Item(index) => M::go_to_item(way, index),
-        DownStep::Member(name) => M::go_to_member(way, name),
-    }
-}
 
 // Adds a node and all below it, each value before its children.
 pub(crate) fn add_node_and_all_below<M: Descends>(
@@ -83,7 +61,7 @@ fn add_all_under_child<M: Descends>(
     ensures stays { OnOk result (Stays M.located (M.start way.old) (M.steps way.old) (M.start way.new) (M.steps way.new)) }
 {
     if is_container(value) {
-        go_down::<M>(way, step)?;
+        M::go_down(way, step)?;
         add_all_under::<M>(value, way, out)?;
         M::go_back(way);
     }

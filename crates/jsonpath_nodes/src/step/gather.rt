@@ -14,8 +14,7 @@ use crate::memory::NoMemory;
 use crate::step::candidates::add_flattened_members;
 use crate::step::child_lookup::is_container;
 use crate::step::children::{add_selected_items, add_selected_members, may_select_item};
-use crate::step::descend::{DownStep, go_down};
-use crate::step::descends::Descends;
+use crate::step::descends::{Descends, DownStep};
 use crate::step::plain_step::PlainStep;
 use crate::tree::Tree;
 use std::alloc::Global;
@@ -80,7 +79,7 @@ fn add_at_or_below_child<M: Descends>(
     ensures document { OnOk result (IsDocument (M.Tree.content value)) }
 {
     if is_container(value) {
-        go_down::<M>(way, step)?;
+        M::go_down(way, step)?;
         add_at_or_below::<M>(value, way, what, out)?;
         M::go_back(way);
     }

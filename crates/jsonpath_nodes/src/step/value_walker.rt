@@ -208,8 +208,7 @@ impl ValueWalker {
         if candidates::are_ordered_and_disjoint(alloc, spots)? {
             return Ok(found);
         }
-        let kept = candidates::first_of_each_location(alloc, found)?;
-        Ok(kept)
+        candidates::first_of_each_location(alloc, found)
     }
 
     /// The candidates of a filter after `..` that uses a relative query with at least one segment: the non-array values
