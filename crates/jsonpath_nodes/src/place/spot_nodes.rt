@@ -1,7 +1,8 @@
 //! `Spot` as a node whose children are nodes: they share its location.
 
-ghost use Rattle.std.specs.Prelude.{◌≡◌, [], ◌∷◌, ◌++◌, true, OnOk};
-ghost use Rattle.jsonpath_nodes.specs.plan.DescentPath.{own_step};
+ghost use Rattle.std.specs.Prelude.{◌≡◌, [], ◌∷◌, ◌++◌, true, string_bytes, OnOk};
+ghost use Rattle.jsonpath_nodes.specs.declared.step.descends.DownStep.TheVariants.{Item, Member};
+ghost use Rattle.jsonpath_nodes.specs.place.Location.{name as by_name, index as by_index};
 ghost use Rattle.jsonpath_nodes.specs.place.SpotPlace.{location_of, value_of, location_at, held_path_location};
 
 use crate::memory::NoMemory;
@@ -113,7 +114,7 @@ impl<'a> Descends for Spot<'a> {
     #[inline]
     fn go_down(way: &mut DescentPath<'a>, step: DownStep<&'a String>) -> Result<(), NoMemory>
         ensures start { OnOk result (way.new.0 ≡ way.old.0) }
-        ensures steps { OnOk result (way.new.1 ≡ way.old.1 ++ own_step step.entry ∷ []) }
+        ensures steps { OnOk result (way.new.1 ≡ way.old.1 ++ (elim step.entry [ Item i ↦ by_index i | Member k ↦ by_name (string_bytes k.now) ]) ∷ []) }
     {
         way.path.go_step_down(step)
     }

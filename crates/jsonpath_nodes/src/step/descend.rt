@@ -1,6 +1,6 @@
 //! A value with all its descendants, in one descent.
 
-ghost use Rattle.std.specs.Prelude.{◌≡◌, [], ◌∷◌, ◌++◌, OnOk};
+ghost use Rattle.std.specs.Prelude.{[], ◌∷◌, ◌++◌, OnOk};
 ghost use Rattle.serde_json.specs.Data.{array, object};
 ghost use Rattle.jsonpath_nodes.specs.place.Location.{below, below_items, below_members};
 ghost use Rattle.jsonpath_nodes.specs.place.Mark.{MarksGain};
