@@ -14,6 +14,7 @@ pub mod OnceLemmas
 pub mod AscendingLemmas
 pub mod InOrderLemmas
 pub mod RepeatLemmas
+pub mod DistinctLemmas
 pub mod SeparateLemmas
 pub mod DisjointLemmas
 pub mod CoveredLemmas

@@ -2,6 +2,7 @@
 pub mod Way
 pub mod DescentPath
 pub mod Containers
+pub mod Gathered
 pub mod Groups
 pub mod Ascending
 pub mod OrderedSpots

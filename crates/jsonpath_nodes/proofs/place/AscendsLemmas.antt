@@ -8,6 +8,7 @@ use Rattle.std.proofs.lemmas.Cmp.{nat_cmp_total, nat_list_cmp_total, tied_itself
 use Rattle.serde_json.specs.Data.{Data, array, object, Items, no_items, item, Members, no_members, member}
 use Rattle.jsonpath_nodes.specs.place.Location.{Step, name, index, Location, names, below, below_items, below_members, flat, flat_items, step_cmp, location_cmp}
 use Rattle.jsonpath_nodes.specs.place.Order.{IsDocument, AreDocuments, HoldDocuments}
+use Rattle.jsonpath_nodes.proofs.step.DistinctLemmas.{all_of, all_then, all_append, all_map}
 
 -- the location begins with a step that P holds of
 abbrev pub Begins : (Step → Type 0) → Location → Type 0
@@ -18,13 +19,8 @@ Begins P (s ∷ l) = P s
 abbrev pub Precedes : Step → Step → Type 0
 Precedes s t = step_cmp s t ≡ Less
 
-pub all_append : (P : Location → Type 0) (xs ys : List Location) → AllByRecursion P xs → AllByRecursion P ys → AllByRecursion P (xs ++ ys)
-all_append P [] ys h k = k
-all_append P (x ∷ xs) ys h k = (h.0, all_append P xs ys h.1 k)
-
 pub all_begin : (P : Step → Type 0) (s : Step) (ls : List Location) → P s → AllByRecursion (Begins P) (map (λ (l : Location). s ∷ l) ls)
-all_begin P s [] h = tt
-all_begin P s (l ∷ ls) h = (h, all_begin P s ls h)
+all_begin P s ls h = all_map (Begins P) (λ (l : Location). s ∷ l) ls (all_of (λ l. P s) ls (λ l. h))
 
 pub step-tied : (s : Step) → step_cmp s s ≡ Equal
 step-tied (name k) = tied_itself nat_list_cmp_total k
@@ -36,8 +32,8 @@ deeper-Less : (s : Step) (l m : Location) → location_cmp l m ≡ Less → loca
 deeper-Less s l m h = ap (λ (o : Ordering). ordering_then o (location_cmp l m)) (step-tied s) ∙ h
 
 all_deeper : (s : Step) (l : Location) (ls : List Location) → AllByRecursion (λ m. location_cmp l m ≡ Less) ls → AllByRecursion (λ m. location_cmp (s ∷ l) m ≡ Less) (map (λ (m : Location). s ∷ m) ls)
-all_deeper s l [] h = tt
-all_deeper s l (m ∷ ls) h = (deeper-Less s l m h.0, all_deeper s l ls h.1)
+all_deeper s l ls h =
+    all_map (λ m. location_cmp (s ∷ l) m ≡ Less) (λ (m : Location). s ∷ m) ls (all_then (λ m. location_cmp l m ≡ Less) (λ m. location_cmp (s ∷ l) (s ∷ m) ≡ Less) ls (deeper-Less s l) h)
 
 all_later : (s : Step) (l : Location) (ls : List Location) → AllByRecursion (Begins (Precedes s)) ls → AllByRecursion (λ m. location_cmp (s ∷ l) m ≡ Less) ls
 all_later s l [] h = tt
@@ -104,8 +100,8 @@ common [] a b = refl
 common (s ∷ l) a b = ap (λ (o : Ordering). ordering_then o (location_cmp (l ++ a) (l ++ b))) (step-tied s) ∙ common l a b
 
 all_common : (l a : Location) (ls : List Location) → AllByRecursion (λ b. location_cmp a b ≡ Less) ls → AllByRecursion (λ b. location_cmp (l ++ a) b ≡ Less) (map (λ (m : Location). l ++ m) ls)
-all_common l a [] h = tt
-all_common l a (b ∷ ls) h = (common l a b ∙ h.0, all_common l a ls h.1)
+all_common l a ls h =
+    all_map (λ b. location_cmp (l ++ a) b ≡ Less) (λ (m : Location). l ++ m) ls (all_then (λ b. location_cmp a b ≡ Less) (λ b. location_cmp (l ++ a) (l ++ b) ≡ Less) ls (λ b k. common l a b ∙ k) h)
 
 pub sorted_deeper : (l : Location) (ls : List Location) → IsStrictlySortedBy location_cmp ls → IsStrictlySortedBy location_cmp (map (λ (m : Location). l ++ m) ls)
 unfolding IsStrictlySortedBy

@@ -3,7 +3,7 @@ use Rattle.std.proofs.Common.{◌≡◌, ℕ, zero, suc, ◌+◌, ◌<◌, lengt
 use Rattle.std.specs.Prelude.{option_and_then, Contains, IsSome}
 use Rattle.std.specs.Ordering.{match_ordering}
 use Rattle.std.specs.Cmp.Lexicographic.{slice_cmp}
-use Rattle.serde_json.specs.Data.{Data, null, boolean, number, string, array, object, Items, no_items, item, Members, no_members, member}
+use Rattle.serde_json.specs.Data.{Data, array, object, Items, no_items, item, Members, no_members, member}
 use Rattle.serde_json.specs.Find.{get_item, get_member}
 use Rattle.jsonpath_nodes.specs.place.Location.{Step, name, index, Location, at, child, below}
 use Rattle.jsonpath_nodes.specs.place.Order.{IsDocument}
@@ -24,10 +24,10 @@ pub among_back : (l : Location) (xs ys : List Location) → IsAmong l ys → IsA
 among_back l [] ys h = h
 among_back l (x ∷ xs) ys h = inr (among_back l xs ys h)
 
-among_map : (s : Step) (l : Location) (xs : List Location) → IsAmong l xs → IsAmong (s ∷ l) (map (λ m. s ∷ m) xs)
-among_map s l [] h = elim h [ ]
-among_map s l (x ∷ xs) (inl e) = inl (ap (λ (m : Location). s ∷ m) e)
-among_map s l (x ∷ xs) (inr h) = inr (among_map s l xs h)
+pub among_map : (to : Location → Location) (l : Location) (xs : List Location) → IsAmong l xs → IsAmong (to l) (map to xs)
+among_map to l [] h = elim h [ ]
+among_map to l (x ∷ xs) (inl e) = inl (ap to e)
+among_map to l (x ∷ xs) (inr h) = inr (among_map to l xs h)
 
 pub among_split : (l : Location) (xs ys : List Location) → IsAmong l (xs ++ ys) → IsAmong l xs ⊎ IsAmong l ys
 among_split l [] ys h = inr h
@@ -38,21 +38,17 @@ among_split l (x ∷ xs) ys (inr h) = by (among_split l xs ys h)
     by (inl k) = inl (inr k)
     by (inr k) = inr k
 
--- a location among those below a child begins with the step to it
-below_child : (s : Step) (l : Location) (xs : List Location) → IsAmong l (map (λ (m : Location). s ∷ m) xs) → (m : Location) × (l ≡ s ∷ m) × IsAmong m xs
-below_child s l [] h = elim h [ ]
-below_child s l (x ∷ xs) (inl e) = (x, e, inl refl)
-below_child s l (x ∷ xs) (inr h) = let rest = below_child s l xs h in (rest.0, rest.1, inr rest.2)
+pub among_mapped : (to : Location → Location) (l : Location) (xs : List Location) → IsAmong l (map to xs) → (m : Location) × (l ≡ to m) × IsAmong m xs
+among_mapped to l [] h = elim h [ ]
+among_mapped to l (x ∷ xs) (inl e) = (x, e, inl refl)
+among_mapped to l (x ∷ xs) (inr h) = let rest = among_mapped to l xs h in (rest.0, rest.1, inr rest.2)
 
 -- ---- below the children
 
 abbrev kids : Data → List Kid
-kids null = []
-kids (boolean b) = []
-kids (number n) = []
-kids (string s) = []
 kids (array ds) = item_kids 0 ds
 kids (object ms) = member_kids ms
+kids _ = []
 
 below-kids : (d : Data) → below d ≡ [] ∷ through below (kids d)
 below-kids (array ds) = ap (λ (ls : List Location). [] ∷ ls) (below_items-kids 0 ds)
@@ -85,19 +81,14 @@ member_kid k (member j d ms) c e = by (slice_cmp nat_cmp k j) refl (member_kid k
 
 child_kid : (s : Step) (d c : Data) → child s d ≡ Some c → IsKid s c (kids d)
 child_kid (name k) (object ms) c e = member_kid k ms c e
-child_kid (index i) null c e = cc
-child_kid (index i) (boolean b) c e = cc
-child_kid (index i) (number n) c e = cc
-child_kid (index i) (string t) c e = cc
 child_kid (index i) (array ds) c e = let at_front : 0 + i ≡ i = omega arith in subst (λ (j : ℕ). IsKid (index j) c (item_kids 0 ds)) at_front (item_kid i 0 ds c e)
-child_kid (index i) (object ms) c e = cc
-child_kid (name k) _ c e = cc
+child_kid _ _ c e = cc
 
 among_through : (s : Step) (c : Data) (l : Location) (ks : List Kid) → IsKid s c ks → IsAmong l (below c) → IsAmong (s ∷ l) (through below ks)
 among_through s c l [] k h = elim k [ ]
 among_through s c l (j ∷ ks) (inl e) h =
     let own = map (λ m. j.0 ∷ m) (below j.1) in
-    among_front (s ∷ l) own (through below ks) (subst (λ (t : Step). IsAmong (t ∷ l) own) e.0 (among_map j.0 l (below j.1) (subst (λ (x : Data). IsAmong l (below x)) (sym e.1) h)))
+    among_front (s ∷ l) own (through below ks) (subst (λ (t : Step). IsAmong (t ∷ l) own) e.0 (among_map (λ (m : Location). j.0 ∷ m) l (below j.1) (subst (λ (x : Data). IsAmong l (below x)) (sym e.1) h)))
 among_through s c l (j ∷ ks) (inr k) h = among_back (s ∷ l) (map (λ m. j.0 ∷ m) (below j.1)) (through below ks) (among_through s c l ks k h)
 
 pub below_complete : (l : Location) (d c : Data) → at d l ≡ Some c → IsAmong l (below d)
@@ -129,7 +120,7 @@ through_back l [] h = elim h [ ]
 through_back l (k ∷ ks) h = by (among_split l (map (λ (m : Location). k.0 ∷ m) (below k.1)) (through below ks) h) (through_back l ks)
   where
     by : IsAmong l (map (λ (m : Location). k.0 ∷ m) (below k.1)) ⊎ IsAmong l (through below ks) → (IsAmong l (through below ks) → Through l ks) → Through l (k ∷ ks)
-    by (inl here) go = let found = below_child k.0 l (below k.1) here in (k.0, k.1, found.0, found.1, inl (refl, refl), found.2)
+    by (inl here) go = let found = among_mapped (λ (m : Location). k.0 ∷ m) l (below k.1) here in (k.0, k.1, found.0, found.1, inl (refl, refl), found.2)
     by (inr later) go = let found = go later in (found.0, found.1, found.2, found.3, inr found.4, found.5)
 
 pub below_sound : (l : Location) (d : Data) → IsDocument d → IsAmong l (below d) → (c : Data) × (at d l ≡ Some c)

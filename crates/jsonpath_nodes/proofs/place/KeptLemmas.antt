@@ -2,6 +2,7 @@
 use Rattle.std.proofs.Common.{◌≡◌, ℕ, ◌≤◌, List, [], ◌∷◌, ◌++◌, map, length, drop, Bool, true, false, Option, Some, refl, sym, ap, ap₂, ◌∙◌, append-nil, drop_of_length-le}
 use Rattle.std.specs.Prelude.{flat_map, option_map, unwrap_or}
 use Rattle.std.proofs.lemmas.List.{map-append}
+use Rattle.std.proofs.lemmas.Simd.{map-map}
 use Rattle.serde_json.specs.Data.{Data, array, object, Items, no_items, Members, no_members}
 use Rattle.jsonpath_nodes.specs.place.Location.{Location, at, below}
 use Rattle.jsonpath_nodes.specs.place.Order.{NamesAscend}
@@ -9,13 +10,15 @@ use Rattle.jsonpath_nodes.specs.step.Steps.{Plain, every, single_steps, from, fr
 use Rattle.jsonpath_nodes.specs.place.SpotPlace.{LeadsBy, location_of, look, look_from, sight_of, value_of}
 use Rattle.jsonpath_nodes.specs.declared.place.spot.Spot.{Spot}
 use Rattle.jsonpath_nodes.specs.place.Mark.{kept_location, shown, look_kept, look_kept_from, MarksStandAt, MarksLeadBy, seen_from_each}
-use Rattle.jsonpath_nodes.proofs.place.SightLemmas.{Sight, kid_sights, items_children-sights, members_children-sights}
-use Rattle.jsonpath_nodes.proofs.step.ChildLemmas.{Kid, item_kids, member_kids, itself}
-use Rattle.jsonpath_nodes.proofs.step.DeepLemmas.{deep_items, deep_members}
+use Rattle.jsonpath_nodes.proofs.place.SightLemmas.{Sight, kid_sights, items-sights, members-sights, items_children-sights, members_children-sights}
+use Rattle.jsonpath_nodes.proofs.step.ChildLemmas.{Kid, through, item_kids, member_kids, itself}
+use Rattle.jsonpath_nodes.proofs.step.DeepLemmas.{gathered_items, gathered_members}
 use Rattle.jsonpath_nodes.proofs.step.ListLemmas.{from_each-twice}
 use Rattle.jsonpath_nodes.proofs.place.LeadLemmas.{look-below}
-use Rattle.jsonpath_nodes.proofs.step.NowhereLemmas.{IsLeaf, leaf_selects, leaf_deep, nothing_deep, nothing_gained}
+use Rattle.jsonpath_nodes.proofs.step.NowhereLemmas.{IsLeaf, leaf_selects, leaf_gathered, nothing_at_leaf, nothing_in_leaves, nothing_gained}
+use Rattle.jsonpath_nodes.specs.declared.step.gather.Gathered.{Gathered}
 use Rattle.jsonpath_nodes.specs.plan.Containers.{some_container}
+use Rattle.jsonpath_nodes.specs.plan.Gathered.{gathered_at, all_gathered}
 
 -- ---- what is kept of a sight
 
@@ -27,8 +30,7 @@ kept-twice true l m = refl
 kept-twice false l m = refl
 
 pub seen : (b : Bool) (l : Location) (d : Data) (ms : List Location) → map (look_kept_from b l d) ms ≡ map (keep b) (map (look_from l d) ms)
-seen b l d [] = refl
-seen b l d (m ∷ ms) = ap (λ (xs : List Sight). look_kept_from b l d m ∷ xs) (seen b l d ms)
+seen b l d ms = sym (map-map (keep b) (look_from l d) ms)
 
 pub seen-kept : (b : Bool) (l : Location) (d : Data) (ms : List Location) → map (look_kept_from b (kept_location b l) d) ms ≡ map (keep b) (map (look_from l d) ms)
 seen-kept b l d [] = refl
@@ -77,23 +79,20 @@ pub children_of_members : (b : Bool) (l : Location) (ms : Members) → NamesAsce
 children_of_members b l ms h =
     shown_kids-sights b l (member_kids ms) ∙ ap (map (keep b)) (members_children-sights l ms h) ∙ sym (seen b l (object ms) (single_steps every (object ms)))
 
-deep_of_kids : (b : Bool) (p : Plain) (l : Location) (d : Data) (ks : List Kid) → map (look_from l d) (deep p d) ≡ map (look_from l d) (single_steps p d) ++ kid_sights (deep p) l ks
-    → map (look_kept_from b l d) (deep p d) ≡ map (look_kept_from b l d) (single_steps p d) ++ seen_kids b (deep p) l ks
-deep_of_kids b p l d ks is =
-    seen b l d (deep p d) ∙ ap (map (keep b)) is ∙ map-append (keep b) (map (look_from l d) (single_steps p d)) (kid_sights (deep p) l ks)
-    ∙ ap₂ (λ (x y : List Sight). x ++ y) (sym (seen b l d (single_steps p d))) (sym (seen_kids-sights b (deep p) l ks))
+gathered_of_kids : (b : Bool) (own : Data → List Location) (l : Location) (d : Data) (ks : List Kid)
+    → map (look_from l d) (all_gathered own d) ≡ map (look_from l d) (own d) ++ kid_sights (all_gathered own) l ks
+    → map (look_kept_from b l d) (all_gathered own d) ≡ map (look_kept_from b l d) (own d) ++ seen_kids b (all_gathered own) l ks
+gathered_of_kids b own l d ks is =
+    seen b l d (all_gathered own d) ∙ ap (map (keep b)) is ∙ map-append (keep b) (map (look_from l d) (own d)) (kid_sights (all_gathered own) l ks)
+    ∙ ap₂ (λ (x y : List Sight). x ++ y) (sym (seen b l d (own d))) (sym (seen_kids-sights b (all_gathered own) l ks))
 
-pub deep_of_items : (b : Bool) (p : Plain) (l : Location) (all : Items)
-    → map (look_kept_from b l (array all)) (deep p (array all)) ≡ map (look_kept_from b l (array all)) (single_steps p (array all)) ++ seen_items b (deep p) l 0 all
-deep_of_items b p l all = deep_of_kids b p l (array all) (item_kids 0 all) (deep_items p l all)
+pub gathered_of_items : (b : Bool) (own : Data → List Location) (l : Location) (all : Items)
+    → map (look_kept_from b l (array all)) (all_gathered own (array all)) ≡ map (look_kept_from b l (array all)) (own (array all)) ++ seen_items b (all_gathered own) l 0 all
+gathered_of_items b own l all = gathered_of_kids b own l (array all) (item_kids 0 all) (gathered_items own l all)
 
-pub deep_of_members : (b : Bool) (p : Plain) (l : Location) (ms : Members) → NamesAscend ms
-    → map (look_kept_from b l (object ms)) (deep p (object ms)) ≡ map (look_kept_from b l (object ms)) (single_steps p (object ms)) ++ seen_members b (deep p) l ms
-deep_of_members b p l ms h = deep_of_kids b p l (object ms) (member_kids ms) (deep_members p l ms h)
-
--- the same of any walk
-pub of_kids : (b : Bool) (f : Data → List Location) (l : Location) (d : Data) (ks : List Kid) (own : List Location) → kid_sights f l ks ≡ map (look_from l d) own → seen_kids b f l ks ≡ map (look_kept_from b l d) own
-of_kids b f l d ks own is = seen_kids-sights b f l ks ∙ ap (map (keep b)) is ∙ sym (seen b l d own)
+pub gathered_of_members : (b : Bool) (own : Data → List Location) (l : Location) (ms : Members) → NamesAscend ms
+    → map (look_kept_from b l (object ms)) (all_gathered own (object ms)) ≡ map (look_kept_from b l (object ms)) (own (object ms)) ++ seen_members b (all_gathered own) l ms
+gathered_of_members b own l ms h = gathered_of_kids b own l (object ms) (member_kids ms) (gathered_members own l ms h)
 
 -- ---- the ends of the loops, for whatever stands for the children (seen_items, shown_items, ..)
 
@@ -107,11 +106,25 @@ pub members_end : (child_sights : Members → List Sight) (left all : Members) (
 members_end child_sights left all before out after no_more none invariant is =
     sym (append-nil out) ∙ ap (λ (ws : List Sight). out ++ ws) (sym no_more) ∙ ap (λ (ws : Members). out ++ child_sights ws) (sym none) ∙ invariant ∙ ap (λ (ss : List Sight). before ++ ss) is
 
+-- after the loop, at the place where the way began: own is what f gives through the children
+pub items_gained : (b : Bool) (f : Data → List Location) (there here : Location) (i : ℕ) (left all : Items) (before out : List Sight) (own : List Location) → there ≡ here → left ≡ no_items
+    → out ++ seen_items b f there i left ≡ before ++ seen_items b f there 0 all → own ≡ through f (item_kids 0 all) → out ≡ before ++ map (look_kept_from b here (array all)) own
+items_gained b f there here i left all before out own same none invariant is =
+    items_end (seen_items b f there) i left all before out _ (λ n. refl) none invariant
+    (ap (λ (l : Location). seen_items b f l 0 all) same ∙ seen_kids-sights b f here (item_kids 0 all)
+    ∙ ap (map (keep b)) (sym (items-sights f here all) ∙ ap (map (look_from here (array all))) (sym is)) ∙ sym (seen b here (array all) own))
+
+pub members_gained : (b : Bool) (f : Data → List Location) (there here : Location) (left all : Members) (before out : List Sight) (own : List Location) → NamesAscend all → there ≡ here → left ≡ no_members
+    → out ++ seen_members b f there left ≡ before ++ seen_members b f there all → own ≡ through f (member_kids all) → out ≡ before ++ map (look_kept_from b here (object all)) own
+members_gained b f there here left all before out own ascend same none invariant is =
+    members_end (seen_members b f there) left all before out _ refl none invariant
+    (ap (λ (l : Location). seen_members b f l all) same ∙ seen_kids-sights b f here (member_kids all)
+    ∙ ap (map (keep b)) (sym (members-sights f here all ascend) ∙ ap (map (look_from here (object all))) (sym is)) ∙ sym (seen b here (object all) own))
+
 -- ---- lists of marks in a document
 
 looked : (b : Bool) (doc : Data) (ls : List Location) → map (keep b) (map (look doc) ls) ≡ map (look_kept b doc) ls
-looked b doc [] = refl
-looked b doc (l ∷ ls) = ap (λ (xs : List Sight). look_kept b doc l ∷ xs) (looked b doc ls)
+looked b doc ls = map-map (keep b) (look doc) ls
 
 -- what f sees from a mark of a document is what stands there
 seen-from : {M : Type 0} (b : Bool) (stand : M → Location) (content : M → Data) (doc : Data) (f : Data → List Location) (l : Location) (m : M) → shown stand content m ≡ look_kept b doc l
@@ -159,11 +172,13 @@ leads f s found h doc ls stand = h ∙ sym (append-nil (map (look_from (location
 
 -- ---- steps that lead nowhere
 
-pub nothing_seen : (b : Bool) (p : Plain) (l : Location) (ms : Members) → some_container ms ≡ false → seen_members b (deep p) l ms ≡ []
-nothing_seen b p l ms none = seen_kids-sights b (deep p) l (member_kids ms) ∙ ap (map (keep b)) (nothing_deep p l ms none)
+pub nothing_seen : (b : Bool) (what : Gathered) (l : Location) (ms : Members) → some_container ms ≡ false → seen_members b (all_gathered (gathered_at what)) l ms ≡ []
+nothing_seen b what l ms none =
+    seen_kids-sights b (all_gathered (gathered_at what)) l (member_kids ms) ∙ ap (map (keep b)) (nothing_in_leaves (gathered_at what) l ms (nothing_at_leaf what) none)
 
 pub leaf_step : (b : Bool) (p : Plain) (l : Location) (d : Data) (before : List Sight) → IsLeaf d → before ≡ before ++ map (look_kept_from b l d) (single_steps p d)
 leaf_step b p l d before leaf = nothing_gained b l d before (single_steps p d) (leaf_selects p d leaf)
 
-pub leaf_deep_step : (b : Bool) (p : Plain) (l : Location) (d : Data) (before : List Sight) → IsLeaf d → before ≡ before ++ map (look_kept_from b l d) (deep p d)
-leaf_deep_step b p l d before leaf = nothing_gained b l d before (deep p d) (leaf_deep p d leaf (leaf_selects p d leaf))
+pub leaf_gathered_step : (b : Bool) (what : Gathered) (l : Location) (d : Data) (before : List Sight) → IsLeaf d
+    → before ≡ before ++ map (look_kept_from b l d) (all_gathered (gathered_at what) d)
+leaf_gathered_step b what l d before leaf = nothing_gained b l d before (all_gathered (gathered_at what) d) (leaf_gathered (gathered_at what) d leaf (nothing_at_leaf what d leaf))

@@ -1,6 +1,7 @@
 -- Spots in document order, and the topmost of them, one spot after the other.
 use Rattle.std.proofs.Common.{◌≡◌, ℕ, zero, suc, ◌+◌, ◌<◌, ◌≤◌, List, [], ◌∷◌, ◌++◌, map, length, take, drop, get_or, Option, Some, None, Bool, true, false, cond, Ordering, Less, Equal, Greater, is_eq, ◌||◌, refl, sym, ap, ap₂, subst, ◌∙◌, append_assoc, append-nil, arith, add-one, drop-cons, drop_of_length-le}
 use Rattle.std.proofs.lemmas.List.{map-append, take_more, drop-map}
+use Rattle.std.proofs.lemmas.Simd.{map-map}
 use Rattle.std.proofs.lemmas.List.Sums.{fold-append}
 use Rattle.std.proofs.Math.Seq.{take-length}
 use Rattle.std.specs.BTreeSet.{insert_key}
@@ -32,16 +33,12 @@ spot_there doc (l ∷ ls) (s ∷ spots) (suc i) d stand below =
     let later : StandAt doc ls spots = cc in
     spot_there doc ls spots i d later (omega arith)
 
-looked : (doc : Data) (ls : List Location) → map (λ (x : Sight). x.0) (map (look doc) ls) ≡ ls
+pub looked : (doc : Data) (ls : List Location) → map (λ (x : Sight). x.0) (map (look doc) ls) ≡ ls
 looked doc [] = refl
 looked doc (l ∷ ls) = ap (λ (ms : List Location). l ∷ ms) (looked doc ls)
 
-seen : (spots : List Spot) → map (λ (x : Sight). x.0) (map sight_of spots) ≡ map location_of spots
-seen [] = refl
-seen (s ∷ spots) = ap (λ (ms : List Location). location_of s ∷ ms) (seen spots)
-
 pub locations-StandAt : (doc : Data) (ls : List Location) (spots : List Spot) → StandAt doc ls spots → map location_of spots ≡ ls
-locations-StandAt doc ls spots stand = sym (seen spots) ∙ ap (map (λ (x : Sight). x.0)) stand ∙ looked doc ls
+locations-StandAt doc ls spots stand = sym (map-map (λ (x : Sight). x.0) sight_of spots) ∙ ap (map (λ (x : Sight). x.0)) stand ∙ looked doc ls
 
 -- ---- in document order
 

@@ -3,11 +3,11 @@ use Rattle.std.proofs.Common.{◌≡◌, ℕ, List, [], ◌∷◌, ◌++◌, map
 use Rattle.std.specs.Prelude.{option_and_then}
 use Rattle.std.proofs.lemmas.List.{map-append}
 use Rattle.serde_json.specs.Data.{Data, array, object, Items, Members}
-use Rattle.jsonpath_nodes.specs.place.Location.{Step, Location, child, at, below, below_items, below_members, flat, flat_items}
+use Rattle.jsonpath_nodes.specs.place.Location.{Step, Location, child, at}
 use Rattle.jsonpath_nodes.specs.step.Steps.{single_steps, every}
 use Rattle.jsonpath_nodes.specs.place.SpotPlace.{look_from}
 use Rattle.jsonpath_nodes.specs.place.Order.{NamesAscend}
-use Rattle.jsonpath_nodes.proofs.step.ChildLemmas.{Kid, item_kids, member_kids, through, itself, below_items-kids, below_members-kids, flat_items-kids, indexes-kids, names-kids, AreAt, all_items_at, members_at}
+use Rattle.jsonpath_nodes.proofs.step.ChildLemmas.{Kid, item_kids, member_kids, through, itself, indexes-kids, names-kids, AreAt, all_items_at, members_at}
 
 abbrev pub Sight : Type 0
 Sight = Location × Option Data
@@ -55,12 +55,3 @@ items_children-sights l all = sym (items-sights itself l all) ∙ ap (map (look_
 
 pub members_children-sights : (l : Location) (ms : Members) → NamesAscend ms → member_sights itself l ms ≡ map (look_from l (object ms)) (single_steps every (object ms))
 members_children-sights l ms h = sym (members-sights itself l ms h) ∙ ap (map (look_from l (object ms))) (sym (names-kids ms))
-
-pub items_below-sights : (l : Location) (all : Items) → item_sights below l 0 all ≡ map (look_from l (array all)) (below_items 0 all)
-items_below-sights l all = sym (items-sights below l all) ∙ ap (map (look_from l (array all))) (sym (below_items-kids 0 all))
-
-pub members_below-sights : (l : Location) (ms : Members) → NamesAscend ms → member_sights below l ms ≡ map (look_from l (object ms)) (below_members ms)
-members_below-sights l ms h = sym (members-sights below l ms h) ∙ ap (map (look_from l (object ms))) (sym (below_members-kids ms))
-
-pub items_flat-sights : (l : Location) (all : Items) → item_sights flat l 0 all ≡ map (look_from l (array all)) (flat_items 0 all)
-items_flat-sights l all = sym (items-sights flat l all) ∙ ap (map (look_from l (array all))) (sym (flat_items-kids 0 all))

@@ -1,6 +1,6 @@
 -- Ways that go a step down and back.
-use Rattle.std.proofs.Common.{◌≡◌, ℕ, suc, ◌+◌, ◌-◌, List, [], ◌∷◌, ◌++◌, map, Bool, true, false, Some, refl, sym, ap, ap₂, ◌∙◌, append_assoc, append-nil, arith}
-use Rattle.serde_json.specs.Data.{Data, null, boolean, number, string, array, object, Items, item, Members, member}
+use Rattle.std.proofs.Common.{◌≡◌, ℕ, suc, ◌+◌, List, [], ◌∷◌, ◌++◌, map, Bool, true, false, Some, refl, sym, ap, ap₂, ◌∙◌, append_assoc, append-nil, arith}
+use Rattle.serde_json.specs.Data.{Data, array, object, Items, item, Members, member}
 use Rattle.jsonpath_nodes.specs.place.Location.{Step, name, index, Location, below}
 use Rattle.jsonpath_nodes.specs.plan.Containers.{descendants}
 use Rattle.jsonpath_nodes.specs.place.Mark.{kept_location, look_kept_from}
@@ -47,12 +47,9 @@ member_next b f l j k d ds left xs ys all first here gained kept =
 -- ---- a node, and then all below it
 
 below-descendants : (d : Data) → below d ≡ [] ∷ descendants d
-below-descendants null = refl
-below-descendants (boolean b) = refl
-below-descendants (number n) = refl
-below-descendants (string s) = refl
 below-descendants (array ds) = refl
 below-descendants (object ms) = refl
+below-descendants _ = refl
 
 pub node_then_descendants : (b : Bool) (k m : Location) (d : Data) (xs ys zs : List Sight) → ys ≡ xs ++ (kept_location b m, Some d) ∷ [] → k ≡ kept_location b m
     → zs ≡ ys ++ map (look_kept_from b k d) (descendants d) → zs ≡ xs ++ map (look_kept_from b k d) (below d)

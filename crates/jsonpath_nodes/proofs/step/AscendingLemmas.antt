@@ -1,21 +1,21 @@
 -- Where the base locations ascend with none below another, no candidate is found twice.
-use Rattle.std.proofs.Common.{◌≡◌, List, [], ◌∷◌, map, Option, Some, None, Bool, true, false, not, ◌||◌, Ordering, Less, Equal, Greater, is_eq, refl, sym, ap, ap₂, ◌∙◌, subst}
+use Rattle.std.proofs.Common.{◌≡◌, List, [], ◌∷◌, map, Option, Some, None, Bool, true, false, not, ◌||◌, Ordering, Less, Equal, Greater, is_eq, refl, sym, ap, ◌∙◌, subst}
 use Rattle.std.specs.List.{AllByRecursion, IsDistinct}
 use Rattle.std.specs.Ordering.{match_ordering}
-use Rattle.serde_json.specs.Data.{Data}
 use Rattle.jsonpath_nodes.specs.place.Location.{Step, Location, step_cmp, flat}
 use Rattle.jsonpath_nodes.specs.place.Order.{step_total}
 use Rattle.jsonpath_nodes.specs.step.Separate.{in_one_branch, IsDisjoint}
 use Rattle.jsonpath_nodes.specs.step.Steps.{from_each, flattened}
-use Rattle.jsonpath_nodes.specs.place.SpotPlace.{look, sight_of, location_of, StandAt, LeadsBy}
+use Rattle.jsonpath_nodes.specs.place.SpotPlace.{look, location_of, LeadsBy}
 use Rattle.jsonpath_nodes.specs.plan.Ascending.{first_difference_ascends, AscendFrom, Ascend}
 use Rattle.jsonpath_nodes.specs.update.Apart.{apart}
 use Rattle.jsonpath_nodes.specs.update.Topmost.{same_step}
 use Rattle.jsonpath_nodes.specs.declared.place.spot.Spot.{Spot}
-use Rattle.jsonpath_nodes.proofs.place.SightLemmas.{Sight}
 use Rattle.jsonpath_nodes.proofs.step.DisjointLemmas.{disjoint_stands_apart}
+use Rattle.jsonpath_nodes.proofs.place.OrderedSpotLemmas.{locations-StandAt}
 use Rattle.jsonpath_nodes.proofs.step.OnceLemmas.{step_same}
-use Rattle.jsonpath_nodes.proofs.step.SeparateLemmas.{all_then, apart_has_no_repeat_flat}
+use Rattle.jsonpath_nodes.proofs.step.DistinctLemmas.{all_then}
+use Rattle.jsonpath_nodes.proofs.step.SeparateLemmas.{apart_has_no_repeat_flat}
 use Rattle.jsonpath_nodes.proofs.update.SetLemmas.{step_eq, same_back}
 
 -- ---- coming apart is transitive
@@ -68,18 +68,9 @@ ascend_disjoint (l ∷ ls) h = (all_then (λ m. first_difference_ascends l m ≡
 
 -- ---- spots
 
-pub located : (doc : Data) (ls : List Location) (spots : List Spot) → StandAt doc ls spots → map location_of spots ≡ ls
-located doc [] [] h = refl
-located doc [] (s ∷ spots) h = cc
-located doc (l ∷ ls) [] h = cc
-located doc (l ∷ ls) (s ∷ spots) h =
-    let here : sight_of s ≡ look doc l = cc in
-    let later : StandAt doc ls spots = cc in
-    ap₂ (λ (x : Location) (xs : List Location). x ∷ xs) (ap (λ (x : Sight). x.0) here) (located doc ls spots later)
-
 pub leads_apart : (spots found : List Spot) → Ascend (map location_of spots) → LeadsBy (λ doc ls. from_each doc flat ls) spots found → LeadsBy flattened spots found
 leads_apart spots found h lead doc ls stand =
-    lead doc ls stand ∙ ap (map (look doc)) (sym (apart_has_no_repeat_flat doc ls (disjoint_stands_apart ls (ascend_disjoint ls (subst Ascend (located doc ls spots stand) h)))))
+    lead doc ls stand ∙ ap (map (look doc)) (sym (apart_has_no_repeat_flat doc ls (disjoint_stands_apart ls (ascend_disjoint ls (subst Ascend (locations-StandAt doc ls spots stand) h)))))
 
 -- ---- the loop: with l the last location, if what is left ascends from it then all do
 

@@ -7,7 +7,7 @@ use Rattle.std.specs.List.{AllByRecursion}
 use Rattle.std.specs.List.Sorted.{IsStrictlySortedBy}
 use Rattle.std.specs.Ordering.{match_ordering, ordering_reverse}
 use Rattle.std.proofs.lemmas.Cmp.{nat_list_cmp_total, tied_itself}
-use Rattle.serde_json.specs.Data.{Data, null, boolean, number, string, array, object, Items, no_items, item, Members, no_members, member}
+use Rattle.serde_json.specs.Data.{Data, array, object, Items, no_items, item, Members, no_members, member}
 use Rattle.serde_json.specs.Find.{get_item, get_member}
 use Rattle.jsonpath_nodes.specs.place.Location.{Step, name, index, Location, at, child, names, indexes_from, below, below_items, below_members, flat, flat_items, step_cmp}
 use Rattle.jsonpath_nodes.specs.step.Candidates.{flat_members}
@@ -134,13 +134,8 @@ document_member k (member j d ms) c h e = by (slice_cmp nat_cmp k j) (document_m
 
 pub document_child : (s : Step) (d c : Data) → IsDocument d → child s d ≡ Some c → IsDocument c
 document_child (name k) (object ms) c h e = document_member k ms c h.1 e
-document_child (index i) null c h e = cc
-document_child (index i) (boolean b) c h e = cc
-document_child (index i) (number n) c h e = cc
-document_child (index i) (string t) c h e = cc
 document_child (index i) (array ds) c h e = document_item i ds c h e
-document_child (index i) (object ms) c h e = cc
-document_child (name k) _ c h e = cc
+document_child _ _ c h e = cc
 
 pub document_at : (l : Location) (d c : Data) → IsDocument d → at d l ≡ Some c → IsDocument c
 document_at [] d c h e = let same : d ≡ c = cc in subst IsDocument same h

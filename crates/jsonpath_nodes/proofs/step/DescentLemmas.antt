@@ -1,82 +1,43 @@
 -- The candidates after `..*` in one descent, child by child and from a mark.
-use Rattle.std.proofs.Common.{◌≡◌, ℕ, suc, List, [], ◌∷◌, ◌++◌, map, Bool, false, Some, None, refl, sym, ap, ap₂, ◌∙◌, append-nil, subst}
-use Rattle.std.proofs.lemmas.Bool.{or_parts}
+use Rattle.std.proofs.Common.{◌≡◌, ℕ, suc, List, [], ◌∷◌, ◌++◌, map, Bool, Some, None, refl, sym, ap, ap₂, ◌∙◌, append-nil, subst}
 use Rattle.std.proofs.lemmas.List.{map-append}
-use Rattle.serde_json.specs.Data.{Data, null, boolean, number, string, array, object, Items, no_items, item, Members, no_members, member}
+use Rattle.serde_json.specs.Data.{Data, array, object, Items, no_items, item, Members, no_members, member}
 use Rattle.serde_json.specs.Find.{as_array}
 use Rattle.jsonpath_nodes.specs.step.Candidates.{flat_members, in_objects, in_objects_items, in_objects_members, candidates_below}
-use Rattle.jsonpath_nodes.specs.plan.Containers.{is_container, some_container}
+use Rattle.jsonpath_nodes.specs.plan.Gathered.{all_gathered, flat_in_object}
 use Rattle.jsonpath_nodes.specs.place.Location.{name, index, Location, at, flat}
 use Rattle.jsonpath_nodes.specs.place.Mark.{MarksGain, kept_location, shown, look_kept, look_kept_from, MarksLeadBy}
-use Rattle.jsonpath_nodes.specs.place.Order.{NamesAscend, IsDocument, HoldDocuments}
-use Rattle.jsonpath_nodes.specs.place.SpotPlace.{look_from}
+use Rattle.jsonpath_nodes.specs.place.Order.{IsDocument, AreDocuments, HoldDocuments}
 use Rattle.jsonpath_nodes.specs.step.Steps.{from, from_each, every, step, all_below, flattened}
 use Rattle.jsonpath_nodes.proofs.place.KeptLemmas.{seen-from_each}
-use Rattle.jsonpath_nodes.proofs.step.ChildLemmas.{through, item_kids, member_kids, flat_members-kids}
-use Rattle.jsonpath_nodes.proofs.step.NowhereLemmas.{IsLeaf, leaf_by, no_container}
+use Rattle.jsonpath_nodes.proofs.step.ChildLemmas.{through, item_kids, member_kids}
+use Rattle.jsonpath_nodes.proofs.step.DeepLemmas.{gathered-items, gathered-members}
 use Rattle.jsonpath_nodes.proofs.step.OneDescentLemmas.{from_one}
 use Rattle.jsonpath_nodes.proofs.step.SeparateLemmas.{apart_has_no_repeat_flat, one_is_apart}
-use Rattle.jsonpath_nodes.proofs.place.SightLemmas.{Sight, item_sights, member_sights, items-sights, members-sights}
+use Rattle.jsonpath_nodes.proofs.place.SightLemmas.{Sight}
 
 -- ---- child by child
 
-in_items-kids : (n : ℕ) (ds : Items) → in_objects_items n ds ≡ through in_objects (item_kids n ds)
-in_items-kids n no_items = refl
-in_items-kids n (item d ds) = ap (λ (ls : List Location). map (λ m. index n ∷ m) (in_objects d) ++ ls) (in_items-kids (suc n) ds)
+-- what is flat in the objects of a document, as one descent gathers it
+mutual
+  pub flat_gathered : (d : Data) → IsDocument d → all_gathered flat_in_object d ≡ in_objects d
+  flat_gathered (array ds) h = gathered-items flat_in_object ds ∙ items_gathered 0 ds h
+  flat_gathered (object ms) h = gathered-members flat_in_object ms h.0 ∙ ap (λ (ls : List Location). flat_members ms ++ ls) (members_gathered ms h.1)
+  flat_gathered _ h = refl
 
-in_members-kids : (ms : Members) → in_objects_members ms ≡ through in_objects (member_kids ms)
-in_members-kids no_members = refl
-in_members-kids (member k d ms) = ap (λ (ls : List Location). map (λ m. name k ∷ m) (in_objects d) ++ ls) (in_members-kids ms)
+  items_gathered : (n : ℕ) (ds : Items) → AreDocuments ds → through (all_gathered flat_in_object) (item_kids n ds) ≡ in_objects_items n ds
+  items_gathered n no_items h = refl
+  items_gathered n (item d ds) h = ap₂ (λ (x y : List Location). map (λ l. index n ∷ l) x ++ y) (flat_gathered d h.0) (items_gathered (suc n) ds h.1)
 
-pub items_in_objects-sights : (l : Location) (all : Items) → item_sights in_objects l 0 all ≡ map (look_from l (array all)) (in_objects_items 0 all)
-items_in_objects-sights l all = sym (items-sights in_objects l all) ∙ ap (map (look_from l (array all))) (sym (in_items-kids 0 all))
-
-pub members_flat-sights : (l : Location) (ms : Members) → NamesAscend ms → member_sights flat l ms ≡ map (look_from l (object ms)) (flat_members ms)
-members_flat-sights l ms h = sym (members-sights flat l ms h) ∙ ap (map (look_from l (object ms))) (sym (flat_members-kids ms))
-
-pub members_in_objects-sights : (l : Location) (ms : Members) → NamesAscend ms → member_sights in_objects l ms ≡ map (look_from l (object ms)) (in_objects_members ms)
-members_in_objects-sights l ms h = sym (members-sights in_objects l ms h) ∙ ap (map (look_from l (object ms))) (sym (in_members-kids ms))
-
--- ---- values without children
-
-leaf_holds : (d : Data) → IsLeaf d → in_objects d ≡ []
-leaf_holds d h = leaf_by (λ c. in_objects c ≡ []) refl (λ b. refl) (λ n. refl) (λ s. refl) d h
-
-pub leaf_document : (d : Data) → IsLeaf d → IsDocument d
-leaf_document d h = leaf_by IsDocument tt (λ b. tt) (λ n. tt) (λ s. tt) d h
-
-nothing_in_objects : (ms : Members) → some_container ms ≡ false → in_objects_members ms ≡ []
-nothing_in_objects no_members h = refl
-nothing_in_objects (member k d ms) h =
-    let parts = or_parts (is_container d) (some_container ms) h in
-    ap₂ (λ (xs ys : List Location). map (λ (m : Location). name k ∷ m) xs ++ ys) (leaf_holds d (no_container d parts.0)) (nothing_in_objects ms parts.1)
-
-pub hold_leaves : (ms : Members) → some_container ms ≡ false → HoldDocuments ms
-hold_leaves no_members h = tt
-hold_leaves (member k d ms) h =
-    let parts = or_parts (is_container d) (some_container ms) h in
-    (leaf_document d (no_container d parts.0), hold_leaves ms parts.1)
-
--- ---- what is flat at each member, and then the same in each
-
-pub in_objects-parts : (b : Bool) (l : Location) (ms : Members)
-    → map (look_kept_from b l (object ms)) (in_objects (object ms)) ≡ map (look_kept_from b l (object ms)) (flat_members ms) ++ map (look_kept_from b l (object ms)) (in_objects_members ms)
-in_objects-parts b l ms = map-append (look_kept_from b l (object ms)) (flat_members ms) (in_objects_members ms)
-
-pub in_objects-leaves : (b : Bool) (l : Location) (ms : Members) → some_container ms ≡ false
-    → map (look_kept_from b l (object ms)) (in_objects (object ms)) ≡ map (look_kept_from b l (object ms)) (flat_members ms) ++ []
-in_objects-leaves b l ms none =
-    in_objects-parts b l ms ∙ ap (λ (ls : List Location). map (look_kept_from b l (object ms)) (flat_members ms) ++ map (look_kept_from b l (object ms)) ls) (nothing_in_objects ms none)
+  members_gathered : (ms : Members) → HoldDocuments ms → through (all_gathered flat_in_object) (member_kids ms) ≡ in_objects_members ms
+  members_gathered no_members h = refl
+  members_gathered (member k d ms) h = ap₂ (λ (x y : List Location). map (λ l. name k ∷ l) x ++ y) (flat_gathered d h.0) (members_gathered ms h.1)
 
 -- ---- what is no array
 
 flat_single : (d : Data) → as_array d ≡ None → flat d ≡ [] ∷ []
 flat_single (array ds) h = cc
-flat_single null h = refl
-flat_single (boolean b) h = refl
-flat_single (number n) h = refl
-flat_single (string s) h = refl
-flat_single (object ms) h = refl
+flat_single _ h = refl
 
 pub flat_itself : {M : Type 0} (b : Bool) (stand : M → Location) (content : M → Data) (m copy : M) (before after : List M) → as_array (content m) ≡ None → after ≡ before ++ copy ∷ []
     → shown stand content copy ≡ (kept_location b (stand m), Some (content m)) → MarksGain b stand content flat (stand m) (content m) before after

@@ -1,19 +1,20 @@
 -- Disjoint locations: they are apart, stay so by steps, and what is met below one is met below no other.
-use Rattle.std.proofs.Common.{◌≡◌, List, [], ◌∷◌, ◌++◌, map, Bool, true, false, cond, not, ◌&&◌, ◌||◌, Option, Some, None, refl, sym, ap, ap₂, ◌∙◌, arith, subst, append_assoc, append-nil, length}
+use Rattle.std.proofs.Common.{◌≡◌, List, [], ◌∷◌, ◌++◌, map, Bool, true, false, cond, not, ◌&&◌, ◌||◌, Some, refl, sym, ap, ap₂, ◌∙◌, arith, subst, append_assoc, append-nil, length}
 use Rattle.std.specs.Prelude.{option_map, unwrap_or}
 use Rattle.std.specs.List.{AllByRecursion, IsDistinct, list_any}
 use Rattle.std.proofs.lemmas.List.Folds.{list_any-append}
 use Rattle.serde_json.specs.Data.{Data}
 use Rattle.jsonpath_nodes.specs.place.Location.{Step, name, index, Location, at, below, flat, is_same}
 use Rattle.jsonpath_nodes.specs.step.Candidates.{candidates_below, DisjointInOneDescent}
-use Rattle.jsonpath_nodes.specs.step.Separate.{are_indexes, goes_on_by_indexes, in_one_array, in_one_branch, IsApart, IsDisjoint, LevelIsDisjoint, DisjointStandsApart, StepStaysDisjoint, KeptStayDisjoint, CandidatesStayDisjoint, BelowDisjointHasNoRepeat}
+use Rattle.jsonpath_nodes.specs.step.Separate.{HasNoRepeat, are_indexes, goes_on_by_indexes, in_one_array, in_one_branch, IsApart, IsDisjoint, LevelIsDisjoint, DisjointStandsApart, StepStaysDisjoint, KeptStayDisjoint, CandidatesStayDisjoint, BelowDisjointHasNoRepeat}
 use Rattle.jsonpath_nodes.specs.step.Steps.{selected, from, from_each, each_once, each_once_after}
 use Rattle.jsonpath_nodes.specs.update.Apart.{apart}
 use Rattle.jsonpath_nodes.specs.update.Topmost.{same_step}
 use Rattle.jsonpath_nodes.proofs.place.AscendsLemmas.{locations_below_root_ascend}
 use Rattle.jsonpath_nodes.proofs.update.SetLemmas.{same_location, same_back}
 use Rattle.jsonpath_nodes.proofs.step.RepeatLemmas.{each_once_after-append}
-use Rattle.jsonpath_nodes.proofs.step.SeparateLemmas.{AllPairs, anything, pairs_behind, pairs_from_each, distinct_from_each, distinct_filter, distinct_step, distinct_below, distinct_other, selects_distinct_at, all_of, either_false, is_other, other_is, none_before, once_keeps, apart_parts, flat_indexes, candidates_stand_apart, apart_has_no_repeat_flat}
+use Rattle.jsonpath_nodes.proofs.step.DistinctLemmas.{AllPairs, anything, all_of, pairs_map, pairs_rest, distinct_map, distinct_filter, distinct_other}
+use Rattle.jsonpath_nodes.proofs.step.SeparateLemmas.{pairs_from_each, distinct_from_each, distinct_step, distinct_behind, selects_distinct_at, either_false, is_other, other_is, none_before, once_keeps, apart_parts, flat_indexes, candidates_stand_apart, apart_has_no_repeat_flat}
 use Rattle.jsonpath_nodes.proofs.step.ChildLemmas.{document_at}
 use Rattle.jsonpath_nodes.proofs.step.OneDescentLemmas.{all_candidates, all_repeated, repeated_below, flat_alone}
 
@@ -96,17 +97,11 @@ indexes_branch (index i ∷ a) (index j ∷ b) p q h k = by (same_step (index i)
 
 -- ---- what is behind them
 
-everything_apart : (f : Location → Location → Bool) (doc : Data) (g : Data → List Location) (l m : Location) → ((a b : Location) → f (l ++ a) (m ++ b) ≡ false) → AllPairs f (from doc g l) (from doc g m)
-everything_apart f doc g l m part =
-    let xs = unwrap_or (option_map g (at doc l)) [] in
-    let ys = unwrap_or (option_map g (at doc m)) [] in
-    pairs_behind f (λ a. Unit {0}) l m xs ys (λ a b p q. part a b) (anything xs) (anything ys)
+all_apart : (f : Location → Location → Bool) (l m : Location) (xs ys : List Location) → ((a b : Location) → f (l ++ a) (m ++ b) ≡ false) → AllPairs f (map (λ (x : Location). l ++ x) xs) (map (λ (x : Location). m ++ x) ys)
+all_apart f l m xs ys part = pairs_map f (λ a. Unit {0}) (λ (x : Location). l ++ x) (λ (x : Location). m ++ x) xs ys (λ a b p q. part a b) (anything xs) (anything ys)
 
-disjoint_pairs : (doc : Data) (g : Data → List Location) (l m : Location) → in_one_branch l m ≡ false → AllPairs is_same (from doc g l) (from doc g m)
-disjoint_pairs doc g l m h = everything_apart is_same doc g l m (λ a b. other_is (l ++ a) (m ++ b) (part_below l m a b h))
-
-branch_pairs : (doc : Data) (g : Data → List Location) (l m : Location) → in_one_branch l m ≡ false → AllPairs in_one_branch (from doc g l) (from doc g m)
-branch_pairs doc g l m h = everything_apart in_one_branch doc g l m (λ a b. branch_below l m a b h)
+disjoint_pairs : (l m : Location) (xs ys : List Location) → in_one_branch l m ≡ false → AllPairs is_same (map (λ (x : Location). l ++ x) xs) (map (λ (x : Location). m ++ x) ys)
+disjoint_pairs l m xs ys h = all_apart is_same l m xs ys (λ a b. other_is (l ++ a) (m ++ b) (part_below l m a b h))
 
 -- ---- they are apart
 
@@ -134,37 +129,23 @@ flat_disjoint d =
     (λ a b p q other. let parts = apart_parts a b other in indexes_branch a b p q parts.0 parts.1) (flat_indexes d) (subst IsApart (flat_alone d) (candidates_stand_apart d ([] ∷ [])))
 
 deeper_disjoint : (l : Location) (xs : List Location) → IsDisjoint xs → IsDisjoint (map (λ (x : Location). l ++ x) xs)
-unfolding IsDistinct
-deeper_disjoint l [] h = tt
-deeper_disjoint l (a ∷ xs) h = (others xs h.0, deeper_disjoint l xs h.1)
-  where
-    others : (ys : List Location) → AllByRecursion (λ y. in_one_branch a y ≡ false) ys → AllByRecursion (λ y. in_one_branch (l ++ a) y ≡ false) (map (λ (x : Location). l ++ x) ys)
-    others [] k = tt
-    others (b ∷ ys) k = (same_front l a b k.0, others ys k.1)
-
-none_disjoint : IsDisjoint []
-unfolding IsDistinct
-none_disjoint = tt
+deeper_disjoint l xs h =
+    distinct_map in_one_branch (λ (x : Location). l ++ x) xs (distinct_other in_one_branch (λ a b. in_one_branch (l ++ a) (l ++ b)) (λ a. Unit {0}) xs (λ a b p q. same_front l a b) (anything xs) h)
 
 pub candidates_stand_disjoint : CandidatesStayDisjoint
 candidates_stand_disjoint doc ls h =
     subst IsDisjoint (sym (apart_has_no_repeat_flat doc ls (disjoint_stands_apart ls h)))
-    (distinct_from_each in_one_branch in_one_branch doc flat ls (all_of (λ l. IsDisjoint (from doc flat l)) ls (λ l. by l (at doc l))) (λ l m other. branch_pairs doc flat l m other) h)
-  where
-    by : (l : Location) (o : Option Data) → IsDisjoint (map (λ (x : Location). l ++ x) (unwrap_or (option_map flat o) []))
-    by l None = none_disjoint
-    by l (Some d) = deeper_disjoint l (flat d) (flat_disjoint d)
+    (distinct_from_each in_one_branch in_one_branch doc flat ls
+    (all_of (λ l. (d : Data) → at doc l ≡ Some d → IsDisjoint (map (λ (x : Location). l ++ x) (flat d))) ls (λ l d is. deeper_disjoint l (flat d) (flat_disjoint d)))
+    (λ l m d c other. all_apart in_one_branch l m (flat d) (flat c) (λ a b. branch_below l m a b other)) h)
 
 pub below_disjoint_has_no_repeat : BelowDisjointHasNoRepeat
 below_disjoint_has_no_repeat doc ls document h =
     distinct_from_each in_one_branch is_same doc below ls
-    (all_of (λ l. IsDistinct is_same (from doc below l)) ls (λ l. distinct_below below l (at doc l) (λ d is. locations_below_root_ascend d (document_at l doc d document is)))) (λ l m other. disjoint_pairs doc below l m other) h
+    (all_of (λ l. (d : Data) → at doc l ≡ Some d → HasNoRepeat (map (λ (x : Location). l ++ x) (below d))) ls (λ l d is. distinct_behind l (below d) (locations_below_root_ascend d (document_at l doc d document is))))
+    (λ l m d c. disjoint_pairs l m (below d) (below c)) h
 
 -- ---- joined lists that have nothing in common
-
-pairs_rest : (l : Location) (before ls : List Location) → AllPairs is_same before (l ∷ ls) → AllPairs is_same before ls
-pairs_rest l [] ls h = tt
-pairs_rest l (b ∷ before) ls h = (h.0.1, pairs_rest l before ls h.1)
 
 disjoint_before : (before given ls : List Location) → AllPairs is_same before ls → each_once_after (before ++ given) ls ≡ each_once_after given ls
 disjoint_before before given [] h = refl
@@ -174,7 +155,7 @@ disjoint_before before given (l ∷ ls) h =
     ∙ by (list_any (is_same l) given) (disjoint_before before given ls rest) (disjoint_before before (given ++ l ∷ []) ls rest)
   where
     rest : AllPairs is_same before ls
-    rest = pairs_rest l before ls h
+    rest = pairs_rest is_same l before ls h
 
     by : (b : Bool) → each_once_after (before ++ given) ls ≡ each_once_after given ls → each_once_after (before ++ (given ++ l ∷ [])) ls ≡ each_once_after (given ++ l ∷ []) ls
         → cond b (each_once_after (before ++ given) ls) (l ∷ each_once_after ((before ++ given) ++ l ∷ []) ls) ≡ cond b (each_once_after given ls) (l ∷ each_once_after (given ++ l ∷ []) ls)
@@ -192,7 +173,7 @@ each_by_one : (doc : Data) (f g : Data → List Location) (ls : List Location) �
 unfolding IsDistinct
 each_by_one doc f g [] one h = refl
 each_by_one doc f g (l ∷ ls) one h =
-    joined_once (from doc f l) (from_each doc f ls) (pairs_from_each in_one_branch is_same doc f l ls h.0 (λ m other. disjoint_pairs doc f l m other))
+    joined_once (from doc f l) (from_each doc f ls) (pairs_from_each in_one_branch is_same doc f l ls h.0 (λ m. disjoint_pairs l m (unwrap_or (option_map f (at doc l)) []) (unwrap_or (option_map f (at doc m)) [])))
     ∙ ap₂ (λ (x y : List Location). x ++ y) (one l) (each_by_one doc f g ls one h.1)
 
 -- ---- the candidates below each

@@ -22,10 +22,6 @@ each_sights-flat_map f look (x ∷ xs) =
     ap (λ (ss : List Sight). map look (singles (f x)) ++ ss) (each_sights-flat_map f look xs)
     ∙ sym (ap (map look) (map-append (λ (s : Step). s ∷ []) (f x) (flat_map f xs)) ∙ map-append look (singles (f x)) (singles (flat_map f xs)))
 
-pub flat_map-map : {X Y Z : Type 0} (f : Y → List Z) (g : X → Y) (xs : List X) → flat_map (λ x. f (g x)) xs ≡ flat_map f (map g xs)
-flat_map-map f g [] = refl
-flat_map-map f g (x ∷ xs) = ap (λ ys. f (g x) ++ ys) (flat_map-map f g xs)
-
 pub each_done : {X : Type 0} (f : X → List Step) (look : Location → Sight) (i : ℕ) (xs : List X) (before out after : List Sight) → length xs ≤ i
     → out ++ each_sights f look (drop i xs) ≡ before ++ each_sights f look xs → each_sights f look xs ≡ after → out ≡ before ++ after
 each_done {X} f look i xs before out after over kept is =

@@ -11,6 +11,7 @@ use Rattle.jsonpath_nodes.specs.step.Steps.{each_once}
 use Rattle.jsonpath_nodes.specs.place.SpotPlace.{look, sight_of, location_of, StandAt, StandsAt}
 use Rattle.jsonpath_nodes.specs.declared.place.spot.Spot.{Spot}
 use Rattle.jsonpath_nodes.proofs.place.SightLemmas.{Sight}
+use Rattle.jsonpath_nodes.proofs.place.OrderedSpotLemmas.{looked}
 use Rattle.jsonpath_nodes.proofs.step.RepeatLemmas.{each_once_after-append}
 use Rattle.jsonpath_nodes.proofs.step.SeparateLemmas.{same_turned}
 
@@ -19,10 +20,6 @@ use Rattle.jsonpath_nodes.proofs.step.SeparateLemmas.{same_turned}
 -- the locations of spots
 abbrev pub places : List Spot → List Location
 places spots = map (λ (x : Sight). x.0) (map sight_of spots)
-
-looked : (doc : Data) (ls : List Location) → map (λ (x : Sight). x.0) (map (look doc) ls) ≡ ls
-looked doc [] = refl
-looked doc (l ∷ ls) = ap (λ (ms : List Location). l ∷ ms) (looked doc ls)
 
 places-StandAt : (doc : Data) (ls : List Location) (spots : List Spot) → StandAt doc ls spots → places spots ≡ ls
 places-StandAt doc ls spots stand = ap (map (λ (x : Sight). x.0)) stand ∙ looked doc ls

@@ -2,6 +2,7 @@
 use Rattle.std.proofs.Common.{◌≡◌, List, [], ◌∷◌, ◌++◌, map, Option, Some, None, refl, sym, ap, ap₂, ◌∙◌, append_assoc}
 use Rattle.std.specs.Prelude.{option_and_then, option_map, unwrap_or}
 use Rattle.std.proofs.lemmas.List.{map-append}
+use Rattle.std.proofs.lemmas.Simd.{map-map}
 use Rattle.serde_json.specs.Data.{Data}
 use Rattle.jsonpath_nodes.specs.place.Location.{Step, Location, at}
 use Rattle.jsonpath_nodes.specs.step.Steps.{from, from_each}
@@ -13,8 +14,7 @@ map-nothing [] = refl
 map-nothing (l ∷ ls) = ap (λ (x : List Location). l ∷ x) (map-nothing ls)
 
 pub map-step : (s : Step) (l : Location) (xs : List Location) → map (λ (m : Location). (s ∷ l) ++ m) xs ≡ map (λ (m : Location). s ∷ m) (map (λ (m : Location). l ++ m) xs)
-map-step s l [] = refl
-map-step s l (x ∷ xs) = ap (λ (ys : List Location). (s ∷ (l ++ x)) ∷ ys) (map-step s l xs)
+map-step s l xs = sym (map-map (λ (m : Location). s ∷ m) (λ (m : Location). l ++ m) xs)
 
 map-twice : (l m : Location) (xs : List Location) → map (λ x. (l ++ m) ++ x) xs ≡ map (λ x. l ++ x) (map (λ x. m ++ x) xs)
 map-twice l m [] = refl

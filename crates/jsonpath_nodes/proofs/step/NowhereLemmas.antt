@@ -6,7 +6,12 @@ use Rattle.serde_json.specs.Data.{Data, null, boolean, number, string, array, ob
 use Rattle.serde_json.specs.Find.{as_array, as_object}
 use Rattle.jsonpath_nodes.specs.plan.Containers.{is_container, some_container}
 use Rattle.jsonpath_nodes.specs.place.Location.{Step, name, index, Location, child, below}
-use Rattle.jsonpath_nodes.specs.step.Steps.{Plain, every, named, listed, nth, union, range, present, nth_of, length_of, abs_index, single_steps, step, deep}
+use Rattle.jsonpath_nodes.specs.step.Steps.{Plain, every, named, listed, nth, union, range, present, nth_of, length_of, abs_index, single_steps, from_each}
+use Rattle.jsonpath_nodes.specs.declared.step.gather.Gathered.{Gathered}
+use Rattle.jsonpath_nodes.specs.declared.step.gather.Gathered.TheVariants.{Selected, Flattened}
+use Rattle.jsonpath_nodes.specs.plan.Gathered.{gathered_at, all_gathered}
+use Rattle.jsonpath_nodes.specs.step.PlainSteps.{plain_step_of}
+use Rattle.jsonpath_nodes.specs.place.Order.{IsDocument, HoldDocuments}
 use Rattle.jsonpath_nodes.specs.place.Mark.{look_kept_from}
 use Rattle.jsonpath_nodes.specs.place.SpotPlace.{look_from}
 use Rattle.jsonpath_nodes.proofs.place.SightLemmas.{Sight, member_sights}
@@ -34,12 +39,9 @@ listed_of_items ds ks = ap (map (λ (s : Step). s ∷ [])) (listed_nowhere (arra
 -- ---- a value without children
 
 abbrev pub IsLeaf : Data → Type 0
-IsLeaf null = Unit {0}
-IsLeaf (boolean b) = Unit {0}
-IsLeaf (number n) = Unit {0}
-IsLeaf (string s) = Unit {0}
 IsLeaf (array ds) = ⊥
 IsLeaf (object ms) = ⊥
+IsLeaf _ = Unit {0}
 
 pub leaf_by : (P : Data → Type 0) → P null → ((b : Bool) → P (boolean b)) → ((n : _) → P (number n)) → ((s : List ℕ) → P (string s)) → (d : Data) → IsLeaf d → P d
 leaf_by P of_null of_boolean of_number of_string null h = of_null
@@ -58,10 +60,14 @@ leaf_selects (union ns) d h =
     ap (map (λ (s : Step). s ∷ [])) (union_nowhere d ns (λ i. leaf_by (λ c. child (index i) c ≡ None) refl (λ b. refl) (λ n. refl) (λ s. refl) d h))
 leaf_selects (range from to stride) d h = leaf_by (λ c. single_steps (range from to stride) c ≡ []) refl (λ b. refl) (λ n. refl) (λ s. refl) d h
 
-pub leaf_deep : (p : Plain) (d : Data) → IsLeaf d → single_steps p d ≡ [] → deep p d ≡ []
-leaf_deep p d h none =
-    ap (step d p) (leaf_by (λ c. below c ≡ [] ∷ []) refl (λ b. refl) (λ n. refl) (λ s. refl) d h)
+pub leaf_gathered : (own : Data → List Location) (d : Data) → IsLeaf d → own d ≡ [] → all_gathered own d ≡ []
+leaf_gathered own d h none =
+    ap (from_each d own) (leaf_by (λ c. below c ≡ [] ∷ []) refl (λ b. refl) (λ n. refl) (λ s. refl) d h)
     ∙ ap (λ (ls : List Location). map (λ m. [] ++ m) ls ++ []) none
+
+pub nothing_at_leaf : (what : Gathered) (d : Data) → IsLeaf d → gathered_at what d ≡ []
+nothing_at_leaf (Selected p) d h = leaf_selects (plain_step_of p) d h
+nothing_at_leaf Flattened d h = leaf_by (λ c. gathered_at Flattened c ≡ []) refl (λ b. refl) (λ n. refl) (λ s. refl) d h
 
 pub nothing_gained : (b : Bool) (l : Location) (d : Data) (xs : List Sight) (ls : List Location) → ls ≡ [] → xs ≡ xs ++ map (look_kept_from b l d) ls
 nothing_gained b l d xs ls none = sym (append-nil xs) ∙ ap (λ (ks : List Location). xs ++ map (look_kept_from b l d) ks) (sym none)
@@ -79,9 +85,18 @@ no_container (array ds) h = cc
 no_container (object ms) h = cc
 no_container _ h = tt
 
-pub nothing_deep : (p : Plain) (l : Location) (ms : Members) → some_container ms ≡ false → member_sights (deep p) l ms ≡ []
-nothing_deep p l no_members h = refl
-nothing_deep p l (member k d ms) h =
+pub nothing_in_leaves : (own : Data → List Location) (l : Location) (ms : Members) → ((d : Data) → IsLeaf d → own d ≡ []) → some_container ms ≡ false → member_sights (all_gathered own) l ms ≡ []
+nothing_in_leaves own l no_members none h = refl
+nothing_in_leaves own l (member k d ms) none h =
     let parts = or_parts (is_container d) (some_container ms) h in
     let leaf : IsLeaf d = no_container d parts.0 in
-    ap₂ (λ (xs ys : List Sight). xs ++ ys) (ap (map (look_from (l ++ name k ∷ []) d)) (leaf_deep p d leaf (leaf_selects p d leaf))) (nothing_deep p l ms parts.1)
+    ap₂ (λ (xs ys : List Sight). xs ++ ys) (ap (map (look_from (l ++ name k ∷ []) d)) (leaf_gathered own d leaf (none d leaf))) (nothing_in_leaves own l ms none parts.1)
+
+pub leaf_document : (d : Data) → IsLeaf d → IsDocument d
+leaf_document d h = leaf_by IsDocument tt (λ b. tt) (λ n. tt) (λ s. tt) d h
+
+pub hold_leaves : (ms : Members) → some_container ms ≡ false → HoldDocuments ms
+hold_leaves no_members h = tt
+hold_leaves (member k d ms) h =
+    let parts = or_parts (is_container d) (some_container ms) h in
+    (leaf_document d (no_container d parts.0), hold_leaves ms parts.1)

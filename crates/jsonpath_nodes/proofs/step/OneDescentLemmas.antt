@@ -10,26 +10,13 @@ use Rattle.jsonpath_nodes.specs.step.Steps.{every, single_steps, step, from, fro
 use Rattle.jsonpath_nodes.specs.update.Topmost.{same_step, under}
 use Rattle.jsonpath_nodes.proofs.step.SeparateLemmas.{apart_has_no_repeat_flat, one_is_apart}
 use Rattle.jsonpath_nodes.specs.step.Candidates.{flat_members, in_objects, in_objects_items, in_objects_members, candidates_below}
-use Rattle.jsonpath_nodes.proofs.step.ListLemmas.{map-nothing, from_each-through, from_each-twice}
+use Rattle.jsonpath_nodes.proofs.step.DeepLemmas.{gathered-items, gathered-members}
+use Rattle.jsonpath_nodes.specs.plan.Gathered.{all_gathered}
+use Rattle.jsonpath_nodes.proofs.step.ListLemmas.{map-nothing, from_each-twice}
 use Rattle.jsonpath_nodes.proofs.step.RepeatLemmas.{each_once_after-append, nothing_new, under-append, under-same, under-other, each_once_after-step, each_once-deeper}
-use Rattle.jsonpath_nodes.proofs.step.ChildLemmas.{Kid, through, itself, below_items-kids, below_members-kids, flat_items-kids, flat_members-kids, indexes-kids, names-kids, item_kids, member_kids, AreAt, AreDistinct, all_items_at, items_distinct, members_at, members_distinct}
+use Rattle.jsonpath_nodes.proofs.step.ChildLemmas.{Kid, through, itself, flat_items-kids, flat_members-kids, indexes-kids, names-kids, item_kids, member_kids, AreAt, AreDistinct, all_items_at, items_distinct, members_at, members_distinct}
 
 -- ---- with repeats
-
--- what is flat from each child, and then the same at each child
-abbrev mutual
-  repeated : Data → List Location
-  repeated (array ds) = flat_items 0 ds ++ repeated_items 0 ds
-  repeated (object ms) = flat_members ms ++ repeated_members ms
-  repeated _ = []
-
-  repeated_items : ℕ → Items → List Location
-  repeated_items n no_items = []
-  repeated_items n (item d ds) = map (λ l. index n ∷ l) (repeated d) ++ repeated_items (suc n) ds
-
-  repeated_members : Members → List Location
-  repeated_members no_members = []
-  repeated_members (member k d ms) = map (λ l. name k ∷ l) (repeated d) ++ repeated_members ms
 
 -- what is flat from each child
 abbrev flattened_from_each : Data → List Location
@@ -49,23 +36,15 @@ flattened_from_each-items ds = ap (from_each (array ds) flat) (indexes-kids 0 ds
 flattened_from_each-members : (ms : Members) → IsDocument (object ms) → flattened_from_each (object ms) ≡ flat_members ms
 flattened_from_each-members ms h = ap (from_each (object ms) flat) (names-kids ms) ∙ from_kids (object ms) flat (member_kids ms) (members_at ms h.0) ∙ sym (flat_members-kids ms)
 
-mutual
-  repeated_is : (d : Data) → IsDocument d → from_each d flattened_from_each (below d) ≡ repeated d
-  repeated_is (array ds) h =
-      ap₂ (λ (x y : List Location). x ++ y) (map-nothing (flattened_from_each (array ds)) ∙ flattened_from_each-items ds)
-      (ap (from_each (array ds) flattened_from_each) (below_items-kids 0 ds) ∙ from_each-through flattened_from_each below (array ds) (item_kids 0 ds) (all_items_at ds) ∙ repeated_items_is 0 ds h)
-  repeated_is (object ms) h =
-      ap₂ (λ (x y : List Location). x ++ y) (map-nothing (flattened_from_each (object ms)) ∙ flattened_from_each-members ms h)
-      (ap (from_each (object ms) flattened_from_each) (below_members-kids ms) ∙ from_each-through flattened_from_each below (object ms) (member_kids ms) (members_at ms h.0) ∙ repeated_members_is ms h.1)
-  repeated_is _ h = refl
+-- and then the same at each child
+abbrev pub all_candidates : Data → List Location
+all_candidates d = all_gathered flattened_from_each d
 
-  repeated_items_is : (n : ℕ) (ds : Items) → AreDocuments ds → through (λ c. from_each c flattened_from_each (below c)) (item_kids n ds) ≡ repeated_items n ds
-  repeated_items_is n no_items h = refl
-  repeated_items_is n (item d ds) h = ap₂ (λ (x y : List Location). map (λ l. index n ∷ l) x ++ y) (repeated_is d h.0) (repeated_items_is (suc n) ds h.1)
+repeated-items : (ds : Items) → all_candidates (array ds) ≡ flat_items 0 ds ++ through all_candidates (item_kids 0 ds)
+repeated-items ds = gathered-items flattened_from_each ds ∙ ap (λ (ls : List Location). ls ++ through all_candidates (item_kids 0 ds)) (flattened_from_each-items ds)
 
-  repeated_members_is : (ms : Members) → HoldDocuments ms → through (λ c. from_each c flattened_from_each (below c)) (member_kids ms) ≡ repeated_members ms
-  repeated_members_is no_members h = refl
-  repeated_members_is (member j d ms) h = ap₂ (λ (x y : List Location). map (λ l. name j ∷ l) x ++ y) (repeated_is d h.0) (repeated_members_is ms h.1)
+repeated-members : (ms : Members) → IsDocument (object ms) → all_candidates (object ms) ≡ flat_members ms ++ through all_candidates (member_kids ms)
+repeated-members ms h = gathered-members flattened_from_each ms h.0 ∙ ap (λ (ls : List Location). ls ++ through all_candidates (member_kids ms)) (flattened_from_each-members ms h)
 
 -- ---- each once
 
@@ -144,49 +123,45 @@ members_once before ms apart h = ap (each_once_after before) (flat_members-kids 
 
 mutual
   -- after what is flat at a value, only what its objects hold is new
-  new_below : (d : Data) → IsDocument d → each_once_after (flat d) (repeated d) ≡ in_objects d
+  new_below : (d : Data) → IsDocument d → each_once_after (flat d) (all_candidates d) ≡ in_objects d
   new_below (array ds) h =
       let own = flat_items 0 ds in
-      each_once_after-append own own (repeated_items 0 ds)
-      ∙ ap (λ (ls : List Location). ls ++ each_once_after (own ++ ls) (repeated_items 0 ds)) (nothing_new own)
-      ∙ ap (λ (ls : List Location). each_once_after ls (repeated_items 0 ds)) (append-nil own)
+      ap (each_once_after own) (repeated-items ds) ∙ each_once_after-append own own (through all_candidates (item_kids 0 ds))
+      ∙ ap (λ (ls : List Location). ls ++ each_once_after (own ++ ls) (through all_candidates (item_kids 0 ds))) (nothing_new own)
+      ∙ ap (λ (ls : List Location). each_once_after ls (through all_candidates (item_kids 0 ds))) (append-nil own)
       ∙ new_items own 0 ds h (items_distinct 0 ds) (items_flat ds)
   new_below (object ms) h =
       let apart = members_distinct ms h.0 in
-      each_once_after-append ([] ∷ []) (flat_members ms) (repeated_members ms)
-      ∙ ap (λ (ls : List Location). ls ++ each_once_after ([] ∷ ls) (repeated_members ms)) (members_once ([] ∷ []) ms apart (clear_root (member_kids ms)))
+      ap (each_once_after ([] ∷ [])) (repeated-members ms h) ∙ each_once_after-append ([] ∷ []) (flat_members ms) (through all_candidates (member_kids ms))
+      ∙ ap (λ (ls : List Location). ls ++ each_once_after ([] ∷ ls) (through all_candidates (member_kids ms))) (members_once ([] ∷ []) ms apart (clear_root (member_kids ms)))
       ∙ ap (λ (ls : List Location). flat_members ms ++ ls) (new_members ([] ∷ flat_members ms) ms h.1 apart (members_flat ([] ∷ []) ms apart (clear_root (member_kids ms))))
   new_below _ h = refl
 
-  new_items : (before : List Location) (n : ℕ) (ds : Items) → AreDocuments ds → AreDistinct (item_kids n ds) → IsFlat before (item_kids n ds) → each_once_after before (repeated_items n ds) ≡ in_objects_items n ds
+  new_items : (before : List Location) (n : ℕ) (ds : Items) → AreDocuments ds → AreDistinct (item_kids n ds) → IsFlat before (item_kids n ds) → each_once_after before (through all_candidates (item_kids n ds)) ≡ in_objects_items n ds
   new_items before n no_items h apart k = refl
   new_items before n (item d ds) h apart k =
-      one_once before (index n) (repeated d) (in_objects d) (repeated_items (suc n) ds) (in_objects_items (suc n) ds) (ap (λ (ls : List Location). each_once_after ls (repeated d)) k.0 ∙ new_below d h.0)
+      one_once before (index n) (all_candidates d) (in_objects d) (through all_candidates (item_kids (suc n) ds)) (in_objects_items (suc n) ds) (ap (λ (ls : List Location). each_once_after ls (all_candidates d)) k.0 ∙ new_below d h.0)
       (new_items (before ++ map (λ (l : Location). index n ∷ l) (in_objects d)) (suc n) ds h.1 apart.1 (beside (index n) before (in_objects d) (item_kids (suc n) ds) (λ t. flat t.1) apart.0 k.1))
 
-  new_members : (before : List Location) (ms : Members) → HoldDocuments ms → AreDistinct (member_kids ms) → IsFlat before (member_kids ms) → each_once_after before (repeated_members ms) ≡ in_objects_members ms
+  new_members : (before : List Location) (ms : Members) → HoldDocuments ms → AreDistinct (member_kids ms) → IsFlat before (member_kids ms) → each_once_after before (through all_candidates (member_kids ms)) ≡ in_objects_members ms
   new_members before no_members h apart k = refl
   new_members before (member j d ms) h apart k =
-      one_once before (name j) (repeated d) (in_objects d) (repeated_members ms) (in_objects_members ms) (ap (λ (ls : List Location). each_once_after ls (repeated d)) k.0 ∙ new_below d h.0)
+      one_once before (name j) (all_candidates d) (in_objects d) (through all_candidates (member_kids ms)) (in_objects_members ms) (ap (λ (ls : List Location). each_once_after ls (all_candidates d)) k.0 ∙ new_below d h.0)
       (new_members (before ++ map (λ (l : Location). name j ∷ l) (in_objects d)) ms h.1 apart.1 (beside (name j) before (in_objects d) (member_kids ms) (λ t. flat t.1) apart.0 k.1))
 
-repeated_once : (d : Data) → IsDocument d → each_once (repeated d) ≡ candidates_below d
+repeated_once : (d : Data) → IsDocument d → each_once (all_candidates d) ≡ candidates_below d
 repeated_once (array ds) h =
-    each_once_after-append [] (flat_items 0 ds) (repeated_items 0 ds)
-    ∙ ap (λ (ls : List Location). ls ++ each_once_after ls (repeated_items 0 ds)) (flat_candidates_once (array ds))
+    ap each_once (repeated-items ds) ∙ each_once_after-append [] (flat_items 0 ds) (through all_candidates (item_kids 0 ds))
+    ∙ ap (λ (ls : List Location). ls ++ each_once_after ls (through all_candidates (item_kids 0 ds))) (flat_candidates_once (array ds))
     ∙ ap (λ (ls : List Location). flat_items 0 ds ++ ls) (new_items (flat_items 0 ds) 0 ds h (items_distinct 0 ds) (items_flat ds))
 repeated_once (object ms) h =
     let apart = members_distinct ms h.0 in
-    each_once_after-append [] (flat_members ms) (repeated_members ms)
-    ∙ ap (λ (ls : List Location). ls ++ each_once_after ls (repeated_members ms)) (members_once [] ms apart (clear (member_kids ms)))
+    ap each_once (repeated-members ms h) ∙ each_once_after-append [] (flat_members ms) (through all_candidates (member_kids ms))
+    ∙ ap (λ (ls : List Location). ls ++ each_once_after ls (through all_candidates (member_kids ms))) (members_once [] ms apart (clear (member_kids ms)))
     ∙ ap (λ (ls : List Location). flat_members ms ++ ls) (new_members (flat_members ms) ms h.1 apart (members_flat [] ms apart (clear (member_kids ms))))
 repeated_once _ h = refl
 
 -- ---- from locations of a document
-
--- the candidates with repeats
-abbrev pub all_candidates : Data → List Location
-all_candidates d = from_each d flattened_from_each (below d)
 
 pub all_repeated : (doc : Data) (ls : List Location) → flattened doc (step doc every (all_below doc ls)) ≡ each_once (from_each doc all_candidates ls)
 all_repeated doc ls = ap each_once (from_each-twice doc flat (single_steps every) (from_each doc below ls) ∙ from_each-twice doc flattened_from_each below ls)
@@ -198,7 +173,7 @@ repeated_below doc l h = by (at doc l) refl
     by None is = refl
     by (Some d) is =
         let document = h d is in
-        each_once-deeper l (all_candidates d) ∙ ap (map (λ (m : Location). l ++ m)) (ap each_once (repeated_is d document) ∙ repeated_once d document)
+        each_once-deeper l (all_candidates d) ∙ ap (map (λ (m : Location). l ++ m)) (repeated_once d document)
 
 pub from_one : (doc : Data) (l : Location) → ((d : Data) → at doc l ≡ Some d → IsDocument d) → flattened doc (step doc every (all_below doc (l ∷ []))) ≡ from doc candidates_below l
 from_one doc l h = all_repeated doc (l ∷ []) ∙ ap each_once (append-nil (from doc all_candidates l)) ∙ repeated_below doc l h

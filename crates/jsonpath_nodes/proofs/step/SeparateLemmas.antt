@@ -1,5 +1,5 @@
 -- Lists of locations with no repeats, and lists whose candidates hold none.
-use Rattle.std.proofs.Common.{◌≡◌, ℕ, zero, suc, ◌+◌, ◌<◌, ◌≤◌, List, [], ◌∷◌, ◌++◌, map, Bool, true, false, cond, ◌&&◌, ◌||◌, Option, Some, None, ◌⊎◌, inl, inr, nat_eq, leb, refl, sym, ap, ap₂, ◌∙◌, arith, subst, add-suc, suc-add, add-zero, append-nil}
+use Rattle.std.proofs.Common.{◌≡◌, ℕ, zero, suc, ◌+◌, ◌<◌, ◌≤◌, List, [], ◌∷◌, ◌++◌, map, Bool, true, false, cond, ◌&&◌, ◌||◌, Option, Some, None, ◌⊎◌, inl, inr, nat_eq, leb, refl, sym, ap, ap₂, ◌∙◌, arith, subst, add-suc, suc-add, add-zero, append-nil, append_assoc}
 use Rattle.std.specs.Prelude.{filter, flat_map, min, option_map, option_and_then, unwrap_or, is_some, ℤ, pos, negsuc}
 use Rattle.std.specs.Cmp.{eq_by_cmp_equiv}
 use Rattle.std.specs.Cmp.Lexicographic.{slice_cmp}
@@ -12,7 +12,7 @@ use Rattle.std.proofs.lemmas.Bool.{and_parts, or_parts}
 use Rattle.std.proofs.lemmas.Bool.Decides.{eqb_tells, leb_tells}
 use Rattle.std.proofs.lemmas.Cmp.{int_cmp_total}
 use Rattle.std.proofs.lemmas.Map.Keys.{IsDistinct-from_sorted}
-use Rattle.serde_json.specs.Data.{Data, null, boolean, number, string, array, object, Items, no_items, item, Members, no_members, member}
+use Rattle.serde_json.specs.Data.{Data, null, array, object, Items, no_items, item, Members, no_members, member}
 use Rattle.serde_json.specs.Events.{items_len}
 use Rattle.serde_json.specs.Find.{get_item}
 use Rattle.jsonpath_nodes.specs.place.Location.{Step, name, index, Location, at, child, children, indexes_from, names, below, flat, flat_items, is_same, step_cmp, location_cmp}
@@ -20,84 +20,42 @@ use Rattle.jsonpath_nodes.specs.place.Order.{IsDocument, location_total}
 use Rattle.jsonpath_nodes.specs.step.Separate.{HasNoRepeat, are_indexes, goes_on_by_indexes, in_one_array, IsApart, SelectsNoneTwice, is_every, goes_by_names, HasNamesInOrder, NamesInOrderAt, ApartHasNoRepeatFlat, OneIsApart, ApartHasNoRepeat, NamesStandApart, ListsStandApart, IndexStandsApart, RangeStandsApart, StepStandsApart, KeptStandApart, CandidatesStandApart, StepHasNoRepeat, EveryHasNoRepeat, ChildHasNoRepeat, KeptHasNoRepeat, BelowHasNoRepeat, DescentStandsApart}
 use Rattle.jsonpath_nodes.specs.step.Steps.{Plain, every, named, listed, nth, union, range, selected, present, nth_of, abs_index, length_of, is_in_range, count_up, single_steps, from, from_each, step, all_below, each_once_after, flattened}
 use Rattle.jsonpath_nodes.specs.update.Topmost.{same_step}
-use Rattle.jsonpath_nodes.proofs.place.AscendsLemmas.{all_append, flat_ascends, locations_below_root_ascend, sorted_deeper}
+use Rattle.jsonpath_nodes.proofs.place.AscendsLemmas.{flat_ascends, locations_below_root_ascend, sorted_deeper}
 use Rattle.jsonpath_nodes.proofs.update.GroupLemmas.{is_equal}
+use Rattle.jsonpath_nodes.proofs.step.DistinctLemmas.{AllPairs, anything, all_of, all_then, all_append, all_map, all_filter, pairs_nothing, pairs_append, pairs_rest, pairs_map, distinct_append, distinct_map, distinct_filter, distinct_other}
+use Rattle.std.proofs.lemmas.Simd.{map-map}
 use Rattle.jsonpath_nodes.proofs.step.ChildLemmas.{Kid, other_index, item_kids, member_kids, AreDistinct, items_distinct, members_distinct, document_at}
+use Rattle.jsonpath_nodes.proofs.step.SingleLemmas.{past_end}
 use Rattle.jsonpath_nodes.proofs.place.LeadLemmas.{at-append}
 use Rattle.jsonpath_nodes.proofs.step.OnceLemmas.{step_same}
 use Rattle.jsonpath_nodes.proofs.update.SetLemmas.{same_location, location_eq, step_eq, same_back}
 
--- ---- lists with no two that meet a test, made of pieces
-
-abbrev pub AllPairs : (Location → Location → Bool) → List Location → List Location → Type 0
-AllPairs f xs ys = AllByRecursion (λ x. AllByRecursion (λ y. f x y ≡ false) ys) xs
-
-pub pairs_nothing : (f : Location → Location → Bool) (xs : List Location) → AllPairs f xs []
-pairs_nothing f [] = tt
-pairs_nothing f (x ∷ xs) = (tt, pairs_nothing f xs)
-
-pairs_append : (f : Location → Location → Bool) (xs ys zs : List Location) → AllPairs f xs ys → AllPairs f xs zs → AllPairs f xs (ys ++ zs)
-pairs_append f [] ys zs h k = tt
-pairs_append f (x ∷ xs) ys zs h k = (all_append (λ y. f x y ≡ false) ys zs h.0 k.0, pairs_append f xs ys zs h.1 k.1)
-
-distinct_append : (f : Location → Location → Bool) (xs ys : List Location) → IsDistinct f xs → IsDistinct f ys → AllPairs f xs ys → IsDistinct f (xs ++ ys)
-unfolding IsDistinct
-distinct_append f [] ys h k p = k
-distinct_append f (x ∷ xs) ys h k p = (all_append (λ y. f x y ≡ false) xs ys h.0 p.0, distinct_append f xs ys h.1 k p.1)
+-- ---- from each of some locations
 
 pub pairs_from_each : (e f : Location → Location → Bool) (doc : Data) (g : Data → List Location) (l : Location) (ms : List Location) → AllByRecursion (λ m. e l m ≡ false) ms
     → ((m : Location) → e l m ≡ false → AllPairs f (from doc g l) (from doc g m)) → AllPairs f (from doc g l) (from_each doc g ms)
 pairs_from_each e f doc g l [] h across = pairs_nothing f (from doc g l)
 pairs_from_each e f doc g l (m ∷ ms) h across = pairs_append f (from doc g l) (from doc g m) (from_each doc g ms) (across m h.0) (pairs_from_each e f doc g l ms h.1 across)
 
-pub anything : {X : Type 0} (xs : List X) → AllByRecursion (λ (x : X). Unit {0}) xs
-anything [] = tt
-anything (x ∷ xs) = (tt, anything xs)
-
--- what holds of each location holds of those of a list
-pub all_of : (P : Location → Type 0) (ls : List Location) → ((l : Location) → P l) → AllByRecursion P ls
-all_of P [] h = tt
-all_of P (l ∷ ls) h = (h l, all_of P ls h)
-
-pub all_then : (P Q : Location → Type 0) (ls : List Location) → ((l : Location) → P l → Q l) → AllByRecursion P ls → AllByRecursion Q ls
-all_then P Q [] go h = tt
-all_then P Q (l ∷ ls) go h = (go l h.0, all_then P Q ls go h.1)
-
--- where each location gives no two, and no two locations give any
-pub distinct_from_each : (e f : Location → Location → Bool) (doc : Data) (g : Data → List Location) (ls : List Location) → AllByRecursion (λ l. IsDistinct f (from doc g l)) ls
-    → ((l m : Location) → e l m ≡ false → AllPairs f (from doc g l) (from doc g m)) → IsDistinct e ls → IsDistinct f (from_each doc g ls)
+-- where no value at a location gives two, and no two locations give any
+pub distinct_from_each : (e f : Location → Location → Bool) (doc : Data) (g : Data → List Location) (ls : List Location)
+    → AllByRecursion (λ l. (d : Data) → at doc l ≡ Some d → IsDistinct f (map (λ (x : Location). l ++ x) (g d))) ls
+    → ((l m : Location) (d c : Data) → e l m ≡ false → AllPairs f (map (λ (x : Location). l ++ x) (g d)) (map (λ (x : Location). m ++ x) (g c))) → IsDistinct e ls → IsDistinct f (from_each doc g ls)
 unfolding IsDistinct
 distinct_from_each e f doc g [] own across h = tt
 distinct_from_each e f doc g (l ∷ ls) own across h =
-    distinct_append f (from doc g l) (from_each doc g ls) own.0 (distinct_from_each e f doc g ls own.1 across h.1) (pairs_from_each e f doc g l ls h.0 (across l))
-
-pub all_filter : (P : Location → Type 0) (test : Location → Bool) (ls : List Location) → AllByRecursion P ls → AllByRecursion P (filter test ls)
-all_filter P test [] h = tt
-all_filter P test (l ∷ ls) h = by (test l) (all_filter P test ls h.1)
+    distinct_append f (from doc g l) (from_each doc g ls) (one (at doc l) refl) (distinct_from_each e f doc g ls own.1 across h.1)
+    (pairs_from_each e f doc g l ls h.0 (λ m other. two m other (at doc l) (at doc m)))
   where
-    by : (b : Bool) → AllByRecursion P (filter test ls) → AllByRecursion P (cond b (l ∷ filter test ls) (filter test ls))
-    by true k = (h.0, k)
-    by false k = k
+    one : (o : Option Data) → at doc l ≡ o → IsDistinct f (map (λ (x : Location). l ++ x) (unwrap_or (option_map g o) []))
+    one None is = tt
+    one (Some d) is = own.0 d is
 
-pub distinct_filter : (f : Location → Location → Bool) (test : Location → Bool) (ls : List Location) → IsDistinct f ls → IsDistinct f (filter test ls)
-unfolding IsDistinct
-distinct_filter f test [] h = tt
-distinct_filter f test (l ∷ ls) h = by (test l) (distinct_filter f test ls h.1)
-  where
-    by : (b : Bool) → IsDistinct f (filter test ls) → IsDistinct f (cond b (l ∷ filter test ls) (filter test ls))
-    by true k = (all_filter (λ m. f l m ≡ false) test ls h.0, k)
-    by false k = k
-
--- where no two elements that differ meet the other test
-all_other : (e f : Location → Location → Bool) (P : Location → Type 0) (l : Location) (ls : List Location) → P l → ((x y : Location) → P x → P y → e x y ≡ false → f x y ≡ false)
-    → AllByRecursion P ls → AllByRecursion (λ m. e l m ≡ false) ls → AllByRecursion (λ m. f l m ≡ false) ls
-all_other e f P l [] p go k h = tt
-all_other e f P l (m ∷ ls) p go k h = (go l m p k.0 h.0, all_other e f P l ls p go k.1 h.1)
-
-pub distinct_other : (e f : Location → Location → Bool) (P : Location → Type 0) (ls : List Location) → ((x y : Location) → P x → P y → e x y ≡ false → f x y ≡ false) → AllByRecursion P ls → IsDistinct e ls → IsDistinct f ls
-unfolding IsDistinct
-distinct_other e f P [] go k h = tt
-distinct_other e f P (l ∷ ls) go k h = (all_other e f P l ls k.0 go k.1 h.0, distinct_other e f P ls go k.1 h.1)
+    two : (m : Location) → e l m ≡ false → (o r : Option Data)
+        → AllPairs f (map (λ (x : Location). l ++ x) (unwrap_or (option_map g o) [])) (map (λ (x : Location). m ++ x) (unwrap_or (option_map g r) []))
+    two m other None r = tt
+    two m other (Some d) None = pairs_nothing f (map (λ (x : Location). l ++ x) (g d))
+    two m other (Some d) (Some c) = across l m d c other
 
 -- ---- tests step by step
 
@@ -173,26 +131,18 @@ abbrev pub behind : Location → List Step → List Location
 behind l ss = map (λ (m : Location). l ++ m) (map (λ (s : Step). s ∷ []) ss)
 
 abbrev pub DistinctSteps : List Step → Type 0
-DistinctSteps [] = Unit {0}
-DistinctSteps (s ∷ ss) = AllByRecursion (λ t. same_step s t ≡ false) ss × DistinctSteps ss
+DistinctSteps ss = IsDistinct same_step ss
 
 behind_own : (f : Location → Location → Bool) (l : Location) (ss : List Step) → ((s t : Step) → same_step s t ≡ false → f (l ++ s ∷ []) (l ++ t ∷ []) ≡ false) → DistinctSteps ss → IsDistinct f (behind l ss)
-unfolding IsDistinct
-behind_own f l [] go h = tt
-behind_own f l (s ∷ ss) go h = (others ss h.0, behind_own f l ss go h.1)
-  where
-    others : (ts : List Step) → AllByRecursion (λ t. same_step s t ≡ false) ts → AllByRecursion (λ m. f (l ++ s ∷ []) m ≡ false) (behind l ts)
-    others [] k = tt
-    others (t ∷ ts) k = (go s t k.0, others ts k.1)
+behind_own f l ss go h =
+    distinct_map f (λ (m : Location). l ++ m) (map (λ (s : Step). s ∷ []) ss) (distinct_map (λ (x y : Location). f (l ++ x) (l ++ y)) (λ (s : Step). s ∷ []) ss
+    (distinct_other same_step (λ (s t : Step). f (l ++ s ∷ []) (l ++ t ∷ [])) (λ (s : Step). Unit {0}) ss (λ s t p q. go s t) (anything ss) h))
 
 behind_pairs : (f : Location → Location → Bool) (P : Step → Type 0) (l m : Location) (ss ts : List Step) → ((s t : Step) → P s → P t → f (l ++ s ∷ []) (m ++ t ∷ []) ≡ false)
     → AllByRecursion P ss → AllByRecursion P ts → AllPairs f (behind l ss) (behind m ts)
-behind_pairs f P l m [] ts go h k = tt
-behind_pairs f P l m (s ∷ ss) ts go h k = (others ts k, behind_pairs f P l m ss ts go h.1 k)
-  where
-    others : (us : List Step) → AllByRecursion P us → AllByRecursion (λ x. f (l ++ s ∷ []) x ≡ false) (behind m us)
-    others [] a = tt
-    others (u ∷ us) a = (go s u h.0 a.0, others us a.1)
+behind_pairs f P l m ss ts go h k =
+    rw (map-map (λ (x : Location). l ++ x) (λ (s : Step). s ∷ []) ss, map-map (λ (x : Location). m ++ x) (λ (s : Step). s ∷ []) ts)
+    (pairs_map f P (λ (s : Step). l ++ s ∷ []) (λ (s : Step). m ++ s ∷ []) ss ts go h k)
 
 -- a step selects no child of the value at the location twice
 abbrev pub SelectsOnceAt : Data → Plain → Location → Type 0
@@ -204,19 +154,10 @@ pub distinct_step : (e f : Location → Location → Bool) (P : Step → Type 0)
     → ((l : Location) (s t : Step) → same_step s t ≡ false → f (l ++ s ∷ []) (l ++ t ∷ []) ≡ false)
     → ((l m : Location) (s t : Step) → e l m ≡ false → P s → P t → f (l ++ s ∷ []) (m ++ t ∷ []) ≡ false)
     → IsDistinct e ls → IsDistinct f (step doc p ls)
-unfolding IsDistinct
 distinct_step e f P doc p ls once kind own across h =
-    distinct_from_each e f doc (single_steps p) ls (all_then (SelectsOnceAt doc p) (λ l. IsDistinct f (from doc (single_steps p) l)) ls (λ l selects. by_own l selects (at doc l) refl) once) (λ l m other. by_pair l m other (at doc l) (at doc m)) h
-  where
-    by_own : (l : Location) → SelectsOnceAt doc p l → (o : Option Data) → at doc l ≡ o → IsDistinct f (map (λ (x : Location). l ++ x) (unwrap_or (option_map (single_steps p) o) []))
-    by_own l selects None is = tt
-    by_own l selects (Some d) is = behind_own f l (selected p d) (own l) (selects d is)
-
-    by_pair : (l m : Location) → e l m ≡ false → (o r : Option Data)
-        → AllPairs f (map (λ (x : Location). l ++ x) (unwrap_or (option_map (single_steps p) o) [])) (map (λ (x : Location). m ++ x) (unwrap_or (option_map (single_steps p) r) []))
-    by_pair l m other None r = tt
-    by_pair l m other (Some d) None = pairs_nothing f (behind l (selected p d))
-    by_pair l m other (Some d) (Some c) = behind_pairs f P l m (selected p d) (selected p c) (λ s t. across l m s t other) (kind d) (kind c)
+    distinct_from_each e f doc (single_steps p) ls
+    (all_then (SelectsOnceAt doc p) (λ l. (d : Data) → at doc l ≡ Some d → IsDistinct f (behind l (selected p d))) ls (λ l selects d is. behind_own f l (selected p d) (own l) (selects d is)) once)
+    (λ l m d c other. behind_pairs f P l m (selected p d) (selected p c) (λ s t. across l m s t other) (kind d) (kind c)) h
 
 -- ---- what each step selects
 
@@ -228,40 +169,36 @@ abbrev IsIndex : Step → Type 0
 IsIndex (name k) = ⊥
 IsIndex (index i) = Unit {0}
 
-present_kind : (P : Step → Type 0) (d : Data) (s : Step) → P s → AllByRecursion P (present d s)
-present_kind P d s h = by (is_some (child s d))
+-- only the steps that lead to a child
+presents : {X : Type 0} (d : Data) (to : X → Step) (xs : List X) → flat_map (λ x. present d (to x)) xs ≡ filter (λ s. is_some (child s d)) (map to xs)
+presents d to [] = refl
+presents {X} d to (x ∷ xs) = ap (λ (ss : List Step). present d (to x) ++ ss) (presents d to xs) ∙ by (is_some (child (to x) d)) (filter (λ s. is_some (child s d)) (map to xs))
   where
-    by : (b : Bool) → AllByRecursion P (cond b (s ∷ []) [])
-    by true = (h, tt)
-    by false = tt
+    by : (b : Bool) (ss : List Step) → cond b (to x ∷ []) [] ++ ss ≡ cond b (to x ∷ ss) ss
+    by true ss = refl
+    by false ss = refl
+
+present_each : {X : Type 0} (P : Step → Type 0) (d : Data) (to : X → Step) (xs : List X) → AllByRecursion (λ x. P (to x)) xs → AllByRecursion P (flat_map (λ x. present d (to x)) xs)
+present_each P d to xs h = subst (AllByRecursion P) (sym (presents d to xs)) (all_filter P (λ s. is_some (child s d)) (map to xs) (all_map P to xs h))
+
+present_distinct : {X : Type 0} (d : Data) (to : X → Step) (xs : List X) → IsDistinct (λ x y. same_step (to x) (to y)) xs → DistinctSteps (flat_map (λ x. present d (to x)) xs)
+present_distinct d to xs h = subst DistinctSteps (sym (presents d to xs)) (distinct_filter same_step (λ s. is_some (child s d)) (map to xs) (distinct_map same_step to xs h))
+
+present_kind : (P : Step → Type 0) (d : Data) (s : Step) → P s → AllByRecursion P (present d s)
+present_kind P d s h = all_filter P (λ t. is_some (child t d)) (s ∷ []) (h, tt)
 
 present_once : (d : Data) (s : Step) → DistinctSteps (present d s)
-present_once d s = by (is_some (child s d))
-  where
-    by : (b : Bool) → DistinctSteps (cond b (s ∷ []) [])
-    by true = (tt, tt)
-    by false = tt
+unfolding IsDistinct
+present_once d s = distinct_filter same_step (λ t. is_some (child t d)) (s ∷ []) (tt, tt)
 
-indexes_kind : (is : List ℕ) → AllByRecursion IsIndex (map index is)
-indexes_kind [] = tt
-indexes_kind (i ∷ is) = (tt, indexes_kind is)
+later_numbers : (i n k : ℕ) → i < n → AllByRecursion (λ j. same_step (index i) (index j) ≡ false) (count_up n k)
+later_numbers i n zero lt = tt
+later_numbers i n (suc k) lt = (other_index i n lt, later_numbers i (suc n) k (omega arith))
 
-later_numbers : (test : ℕ → Bool) (i n k : ℕ) → i < n → AllByRecursion (λ t. same_step (index i) t ≡ false) (map index (filter test (count_up n k)))
-later_numbers test i n zero lt = tt
-later_numbers test i n (suc k) lt = by (test n) (later_numbers test i (suc n) k (omega arith))
-  where
-    by : (b : Bool) → AllByRecursion (λ t. same_step (index i) t ≡ false) (map index (filter test (count_up (suc n) k)))
-        → AllByRecursion (λ t. same_step (index i) t ≡ false) (map index (cond b (n ∷ filter test (count_up (suc n) k)) (filter test (count_up (suc n) k))))
-    by true h = (other_index i n lt, h)
-    by false h = h
-
-numbers_once : (test : ℕ → Bool) (n k : ℕ) → DistinctSteps (map index (filter test (count_up n k)))
-numbers_once test n zero = tt
-numbers_once test n (suc k) = by (test n) (numbers_once test (suc n) k)
-  where
-    by : (b : Bool) → DistinctSteps (map index (filter test (count_up (suc n) k))) → DistinctSteps (map index (cond b (n ∷ filter test (count_up (suc n) k)) (filter test (count_up (suc n) k))))
-    by true h = (later_numbers test n (suc n) k (omega arith), h)
-    by false h = h
+numbers_once : (n k : ℕ) → IsDistinct (λ i j. same_step (index i) (index j)) (count_up n k)
+unfolding IsDistinct
+numbers_once n zero = tt
+numbers_once n (suc k) = (later_numbers n (suc n) k (omega arith), numbers_once (suc n) k)
 
 -- the numbers that a range selects
 abbrev numbers_of : Data → Option ℤ → Option ℤ → Option ℕ → ℕ → Bool
@@ -269,46 +206,20 @@ numbers_of d first to by =
     is_in_range (unwrap_or (option_map (λ n. abs_index n (length_of d)) first) 0) (unwrap_or (option_map (λ n. abs_index n (length_of d)) to) (length_of d)) (unwrap_or by 1)
 
 range_once : (d : Data) (first to : Option ℤ) (by : Option ℕ) → DistinctSteps (selected (range first to by) d)
-range_once d first to by = numbers_once (numbers_of d first to by) 0 (length_of d)
+range_once d first to by =
+    distinct_map same_step index (filter (numbers_of d first to by) (count_up 0 (length_of d)))
+    (distinct_filter (λ i j. same_step (index i) (index j)) (numbers_of d first to by) (count_up 0 (length_of d)) (numbers_once 0 (length_of d)))
 
 range_kind : (d : Data) (first to : Option ℤ) (by : Option ℕ) → AllByRecursion IsIndex (selected (range first to by) d)
-range_kind d first to by = indexes_kind (filter (numbers_of d first to by) (count_up 0 (length_of d)))
-
--- what is present of the children at some steps
-present_each : {X : Type 0} (P : Step → Type 0) (d : Data) (to : X → Step) (xs : List X) → AllByRecursion (λ x. P (to x)) xs → AllByRecursion P (flat_map (λ x. present d (to x)) xs)
-present_each P d to [] h = tt
-present_each {X} P d to (x ∷ xs) h = by (is_some (child (to x) d)) (present_each P d to xs h.1)
-  where
-    by : (b : Bool) → AllByRecursion P (flat_map (λ (y : X). present d (to y)) xs) → AllByRecursion P (cond b (to x ∷ []) [] ++ flat_map (λ (y : X). present d (to y)) xs)
-    by true later = (h.0, later)
-    by false later = later
-
-present_distinct : {X : Type 0} (e : X → X → Bool) (P : X → Type 0) (d : Data) (to : X → Step) (xs : List X) → ((x y : X) → P x → P y → e x y ≡ false → same_step (to x) (to y) ≡ false)
-    → AllByRecursion P xs → IsDistinct e xs → DistinctSteps (flat_map (λ x. present d (to x)) xs)
-unfolding IsDistinct
-present_distinct e P d to [] go k h = tt
-present_distinct {X} e P d to (x ∷ xs) go k h = by (is_some (child (to x) d)) (present_each (λ t. same_step (to x) t ≡ false) d to xs (others xs k.1 h.0)) (present_distinct e P d to xs go k.1 h.1)
-  where
-    others : (ys : List X) → AllByRecursion P ys → AllByRecursion (λ y. e x y ≡ false) ys → AllByRecursion (λ y. same_step (to x) (to y) ≡ false) ys
-    others [] a b = tt
-    others (y ∷ ys) a b = (go x y k.0 a.0 b.0, others ys a.1 b.1)
-
-    by : (b : Bool) → AllByRecursion (λ t. same_step (to x) t ≡ false) (flat_map (λ (y : X). present d (to y)) xs) → DistinctSteps (flat_map (λ (y : X). present d (to y)) xs)
-        → DistinctSteps (cond b (to x ∷ []) [] ++ flat_map (λ (y : X). present d (to y)) xs)
-    by true later own = (later, own)
-    by false later own = own
+range_kind d first to by =
+    let numbers = filter (numbers_of d first to by) (count_up 0 (length_of d)) in
+    all_map IsIndex index numbers (anything numbers)
 
 list_once : (d : Data) (ks : List (List ℕ)) → IsDistinct (eq_by_cmp (slice_cmp nat_cmp)) ks → DistinctSteps (selected (listed ks) d)
-list_once d ks h = present_distinct (eq_by_cmp (slice_cmp nat_cmp)) (λ k. Unit {0}) d name ks (λ k j p q other. other) (anything ks) h
+list_once d ks h = present_distinct d name ks h
 
 list_kind : (d : Data) (ks : List (List ℕ)) → AllByRecursion IsName (selected (listed ks) d)
 list_kind d ks = present_each IsName d name ks (anything ks)
-
--- a union: an index from the front that is past the end leads nowhere
-past_end : (i : ℕ) (ds : Items) → items_len ds ≤ i → get_item i ds ≡ None
-past_end i no_items h = refl
-past_end zero (item d ds) h = absurd (omega arith)
-past_end (suc i) (item d ds) h = past_end i ds (omega arith)
 
 from_front : (d : Data) (n : ℕ) → nth_of d (pos n) ≡ present d (index n)
 from_front (array ds) n = by (leb_tells n (items_len ds))
@@ -345,18 +256,17 @@ all_from_front d (negsuc n ∷ ns) p = absurd (p.0.le)
 all_from_front d (pos n ∷ ns) p = ap₂ (λ (ss ts : List Step). ss ++ ts) (sym (from_front d n)) (all_from_front d ns p.1)
 
 union_once : (d : Data) (ns : List ℤ) → AllByRecursion (λ n. pos 0 ≤ℤ n) ns → IsDistinct (eq_by_cmp int_cmp) ns → DistinctSteps (selected (union ns) d)
-union_once d ns p h = subst DistinctSteps (all_from_front d ns p) (present_distinct (eq_by_cmp int_cmp) (λ n. pos 0 ≤ℤ n) d (λ n. index (front n)) ns numbers_differ p h)
+union_once d ns p h =
+    subst DistinctSteps (all_from_front d ns p)
+    (present_distinct d (λ (n : ℤ). index (front n)) ns (distinct_other (eq_by_cmp int_cmp) (λ (n m : ℤ). same_step (index (front n)) (index (front m))) (λ (n : ℤ). pos 0 ≤ℤ n) ns numbers_differ p h))
 
 union_kind : (d : Data) (ns : List ℤ) → AllByRecursion IsIndex (selected (union ns) d)
 union_kind d ns = present_each IsIndex d (λ n. index (abs_index n (length_of d))) ns (anything ns)
 
-kids_steps : (s : Step) (ks : List Kid) → AllByRecursion (λ t. same_step s t.0 ≡ false) ks → AllByRecursion (λ t. same_step s t ≡ false) (map (λ (k : Kid). k.0) ks)
-kids_steps s [] h = tt
-kids_steps s (k ∷ ks) h = (h.0, kids_steps s ks h.1)
-
 kids_once : (ks : List Kid) → AreDistinct ks → DistinctSteps (map (λ (k : Kid). k.0) ks)
+unfolding IsDistinct
 kids_once [] h = tt
-kids_once (k ∷ ks) h = (kids_steps k.0 ks h.0, kids_once ks h.1)
+kids_once (k ∷ ks) h = (all_map (λ t. same_step k.0 t ≡ false) (λ (t : Kid). t.0) ks h.0, kids_once ks h.1)
 
 index_steps : (n : ℕ) (ds : Items) → map (λ (k : Kid). k.0) (item_kids n ds) ≡ indexes_from n ds
 index_steps n no_items = refl
@@ -367,6 +277,7 @@ name_steps no_members = refl
 name_steps (member k d ms) = ap (λ (ss : List Step). name k ∷ ss) (name_steps ms)
 
 children_once : (d : Data) → HasNamesInOrder d → DistinctSteps (children d)
+unfolding IsDistinct
 children_once (array ds) h = subst DistinctSteps (index_steps 0 ds) (kids_once (item_kids 0 ds) (items_distinct 0 ds))
 children_once (object ms) h = subst DistinctSteps (name_steps ms) (kids_once (member_kids ms) (members_distinct ms h))
 children_once _ h = tt
@@ -488,20 +399,16 @@ one_is_apart l = (tt, tt)
 
 -- ---- below one location
 
-pub distinct_below : (g : Data → List Location) (l : Location) (o : Option Data) → ((d : Data) → o ≡ Some d → IsStrictlySortedBy location_cmp (g d)) → IsDistinct is_same (map (λ (x : Location). l ++ x) (unwrap_or (option_map g o) []))
-unfolding IsDistinct
-distinct_below g l None sorted = tt
-distinct_below g l (Some d) sorted = IsDistinct-from_sorted location_cmp (map (λ (x : Location). l ++ x) (g d)) (sorted_deeper l (g d) (sorted d refl))
+pub distinct_behind : (l : Location) (ls : List Location) → IsStrictlySortedBy location_cmp ls → HasNoRepeat (map (λ (x : Location). l ++ x) ls)
+distinct_behind l ls h = IsDistinct-from_sorted location_cmp (map (λ (x : Location). l ++ x) ls) (sorted_deeper l ls h)
 
 pub below_has_no_repeat : BelowHasNoRepeat
+unfolding IsDistinct
 below_has_no_repeat doc l document =
-    subst (IsDistinct is_same) (sym (append-nil (from doc below l))) (distinct_below below l (at doc l) (λ d is. locations_below_root_ascend d (document_at l doc d document is)))
+    distinct_from_each (λ m n. true) is_same doc below (l ∷ []) ((λ d is. distinct_behind l (below d) (locations_below_root_ascend d (document_at l doc d document is))), tt)
+    (λ m n d c other. absurd (cc)) (tt, tt)
 
 -- ---- candidates of a list that is apart
-
-one_index_on : (n : ℕ) (ls : List Location) → AllByRecursion (λ m. are_indexes m ≡ true) ls → AllByRecursion (λ m. are_indexes m ≡ true) (map (λ (l : Location). index n ∷ l) ls)
-one_index_on n [] h = tt
-one_index_on n (l ∷ ls) h = (h.0, one_index_on n ls h.1)
 
 mutual
   pub flat_indexes : (d : Data) → AllByRecursion (λ m. are_indexes m ≡ true) (flat d)
@@ -511,7 +418,7 @@ mutual
   flat_items_indexes : (n : ℕ) (ds : Items) → AllByRecursion (λ m. are_indexes m ≡ true) (flat_items n ds)
   flat_items_indexes n no_items = tt
   flat_items_indexes n (item d ds) =
-      all_append (λ m. are_indexes m ≡ true) (map (λ (l : Location). index n ∷ l) (flat d)) (flat_items (suc n) ds) (one_index_on n (flat d) (flat_indexes d)) (flat_items_indexes (suc n) ds)
+      all_append (λ m. are_indexes m ≡ true) (map (λ (l : Location). index n ∷ l) (flat d)) (flat_items (suc n) ds) (all_map (λ m. are_indexes m ≡ true) (λ (l : Location). index n ∷ l) (flat d) (flat_indexes d)) (flat_items_indexes (suc n) ds)
 
 -- from the root by indexes alone, and by a location that has a name
 off_the_array : (a m b : Location) → are_indexes a ≡ true → are_indexes m ≡ false → same_location a (m ++ b) ≡ false
@@ -531,26 +438,12 @@ flat_part (s ∷ l) [] a b p q h k = same_location_turned (s ∷ (l ++ a)) b ∙
 flat_part (s ∷ l) (t ∷ m) a b p q h k =
     each_false (same_step s t) (same_step t s) (goes_on_by_indexes l m) (goes_on_by_indexes m l) (same_location (l ++ a) (m ++ b)) (same_back s t) (flat_part l m a b p q) h k
 
--- what stands behind two locations, of one kind
-pub pairs_behind : (f : Location → Location → Bool) (P : Location → Type 0) (l m : Location) (xs ys : List Location) → ((a b : Location) → P a → P b → f (l ++ a) (m ++ b) ≡ false) → AllByRecursion P xs → AllByRecursion P ys
-    → AllPairs f (map (λ (x : Location). l ++ x) xs) (map (λ (y : Location). m ++ y) ys)
-pairs_behind f P l m [] ys part h k = tt
-pairs_behind f P l m (a ∷ xs) ys part h k = (others ys k, pairs_behind f P l m xs ys part h.1 k)
-  where
-    others : (zs : List Location) → AllByRecursion P zs → AllByRecursion (λ y. f (l ++ a) y ≡ false) (map (λ (y : Location). m ++ y) zs)
-    others [] q = tt
-    others (b ∷ zs) q = (part a b h.0 q.0, others zs q.1)
-
 flat_distinct : (doc : Data) (ls : List Location) → IsApart ls → HasNoRepeat (from_each doc flat ls)
 flat_distinct doc ls h =
-    distinct_from_each in_one_array is_same doc flat ls (all_of (λ l. IsDistinct is_same (from doc flat l)) ls (λ l. distinct_below flat l (at doc l) (λ d is. flat_ascends d))) (λ l m other. by_pair l m other (at doc l) (at doc m)) h
-  where
-    by_pair : (l m : Location) → in_one_array l m ≡ false → (o r : Option Data) → AllPairs is_same (map (λ (x : Location). l ++ x) (unwrap_or (option_map flat o) [])) (map (λ (x : Location). m ++ x) (unwrap_or (option_map flat r) []))
-    by_pair l m other None r = tt
-    by_pair l m other (Some d) None = pairs_nothing is_same (map (λ (x : Location). l ++ x) (flat d))
-    by_pair l m other (Some d) (Some c) =
-        let parts = apart_parts l m other in
-        pairs_behind is_same (λ a. are_indexes a ≡ true) l m (flat d) (flat c) (λ a b p q. other_is (l ++ a) (m ++ b) (flat_part l m a b p q parts.0 parts.1)) (flat_indexes d) (flat_indexes c)
+    distinct_from_each in_one_array is_same doc flat ls (all_of (λ l. (d : Data) → at doc l ≡ Some d → HasNoRepeat (map (λ (x : Location). l ++ x) (flat d))) ls (λ l d is. distinct_behind l (flat d) (flat_ascends d)))
+    (λ l m d c other.
+    let parts = apart_parts l m other in
+    pairs_map is_same (λ a. are_indexes a ≡ true) (λ (x : Location). l ++ x) (λ (x : Location). m ++ x) (flat d) (flat c) (λ a b p q. other_is (l ++ a) (m ++ b) (flat_part l m a b p q parts.0 parts.1)) (flat_indexes d) (flat_indexes c)) h
 
 -- nothing is left out of a list without repeats
 pub none_before : (l : Location) (ls before : List Location) → AllPairs is_same before (l ∷ ls) → list_any (is_same l) before ≡ false
@@ -558,8 +451,7 @@ none_before l ls [] h = refl
 none_before l ls (b ∷ before) h = either_false (is_same l b) (list_any (is_same l) before) (same_turned l b ∙ h.0.0) (none_before l ls before h.1)
 
 later_pairs : (l : Location) (ls before : List Location) → AllPairs is_same before (l ∷ ls) → AllByRecursion (λ m. is_same l m ≡ false) ls → AllPairs is_same (before ++ l ∷ []) ls
-later_pairs l ls [] h k = (k, tt)
-later_pairs l ls (b ∷ before) h k = (h.0.1, later_pairs l ls before h.1 k)
+later_pairs l ls before h k = all_append (λ b. AllByRecursion (λ m. is_same b m ≡ false) ls) before (l ∷ []) (pairs_rest is_same l before ls h) (k, tt)
 
 kept_whole : (before ls : List Location) → AllPairs is_same before ls → HasNoRepeat ls → each_once_after before ls ≡ ls
 unfolding IsDistinct
@@ -576,12 +468,8 @@ apart_has_no_repeat_flat doc ls h = kept_whole [] (from_each doc flat ls) tt (fl
 -- a value that is there and no array
 abbrev no_array : Option Data → Bool
 no_array None = false
-no_array (Some null) = true
-no_array (Some (boolean b)) = true
-no_array (Some (number n)) = true
-no_array (Some (string s)) = true
 no_array (Some (array ds)) = false
-no_array (Some (object ms)) = true
+no_array (Some _) = true
 
 no_item : (d : Data) (i : ℕ) (m : Location) → no_array (Some d) ≡ true → no_array (at d (index i ∷ m)) ≡ true → ⊥
 no_item null i m h k = cc
@@ -619,8 +507,9 @@ candidates_part doc l m p q h =
 
 from_item : (all : Items) (n : ℕ) (d : Data) (ls : List Location) → get_item n all ≡ Some d → AllByRecursion (λ m. no_array (at d m) ≡ true) ls
     → AllByRecursion (λ m. no_array (at (array all) m) ≡ true) (map (λ (l : Location). index n ∷ l) ls)
-from_item all n d [] is h = tt
-from_item all n d (l ∷ ls) is h = (ap (λ (o : Option Data). no_array (option_and_then (λ c. at c l) o)) is ∙ h.0, from_item all n d ls is h.1)
+from_item all n d ls is h =
+    all_map (λ m. no_array (at (array all) m) ≡ true) (λ (l : Location). index n ∷ l) ls
+    (all_then (λ m. no_array (at d m) ≡ true) (λ m. no_array (at (array all) (index n ∷ m)) ≡ true) ls (λ m k. ap (λ (o : Option Data). no_array (option_and_then (λ c. at c m) o)) is ∙ k) h)
 
 mutual
   flat_candidates : (d : Data) → AllByRecursion (λ m. no_array (at d m) ≡ true) (flat d)
@@ -637,13 +526,11 @@ all_candidates : (doc : Data) (ls : List Location) → AllByRecursion (λ m. no_
 all_candidates doc [] = tt
 all_candidates doc (l ∷ ls) = all_append (λ m. no_array (at doc m) ≡ true) (from doc flat l) (from_each doc flat ls) (by (at doc l) refl) (all_candidates doc ls)
   where
-    there : (d : Data) (ms : List Location) → at doc l ≡ Some d → AllByRecursion (λ m. no_array (at d m) ≡ true) ms → AllByRecursion (λ m. no_array (at doc m) ≡ true) (map (λ (m : Location). l ++ m) ms)
-    there d [] is h = tt
-    there d (m ∷ ms) is h = (ap no_array (at-append l m doc ∙ ap (option_and_then (λ c. at c m)) is) ∙ h.0, there d ms is h.1)
-
     by : (o : Option Data) → at doc l ≡ o → AllByRecursion (λ m. no_array (at doc m) ≡ true) (map (λ (m : Location). l ++ m) (unwrap_or (option_map flat o) []))
     by None is = tt
-    by (Some d) is = there d (flat d) is (flat_candidates d)
+    by (Some d) is =
+        all_map (λ m. no_array (at doc m) ≡ true) (λ (m : Location). l ++ m) (flat d)
+        (all_then (λ m. no_array (at d m) ≡ true) (λ m. no_array (at doc (l ++ m)) ≡ true) (flat d) (λ m k. ap no_array (at-append l m doc ∙ ap (option_and_then (λ c. at c m)) is) ∙ k) (flat_candidates d))
 
 -- each once: what is left of a list, and none of what was before
 pub once_keeps : (P : Location → Type 0) (before ls : List Location) → AllByRecursion P ls → AllByRecursion P (each_once_after before ls)
@@ -654,44 +541,29 @@ once_keeps P before (l ∷ ls) h = by (list_any (is_same l) before) (once_keeps 
     by true known new = known
     by false known new = (h.0, new)
 
-any_before : (l m : Location) (before : List Location) → list_any (is_same m) (before ++ l ∷ []) ≡ false → (list_any (is_same m) before ≡ false) × (is_same l m ≡ false)
-any_before l m [] h = (refl, same_turned l m ∙ (or_parts (is_same m l) false h).0)
-any_before l m (b ∷ before) h =
-    let parts = or_parts (is_same m b) (list_any (is_same m) (before ++ l ∷ [])) h in
-    let later = any_before l m before parts.1 in
-    (either_false (is_same m b) (list_any (is_same m) before) parts.0 later.0, later.1)
+none_among : (l : Location) (before : List Location) → list_any (is_same l) before ≡ false → AllPairs is_same before (l ∷ [])
+none_among l [] h = tt
+none_among l (b ∷ before) h =
+    let parts = or_parts (is_same l b) (list_any (is_same l) before) h in
+    ((same_turned b l ∙ parts.0, tt), none_among l before parts.1)
 
-all_before : (l : Location) (before ms : List Location) → AllByRecursion (λ m. list_any (is_same m) (before ++ l ∷ []) ≡ false) ms
-    → AllByRecursion (λ m. list_any (is_same m) before ≡ false) ms × AllByRecursion (λ m. is_same l m ≡ false) ms
-all_before l before [] h = (tt, tt)
-all_before l before (m ∷ ms) h =
-    let here = any_before l m before h.0 in
-    let later = all_before l before ms h.1 in
-    ((here.0, later.0), (here.1, later.1))
-
-once_new : (before ls : List Location) → AllByRecursion (λ m. list_any (is_same m) before ≡ false) (each_once_after before ls)
-once_new before [] = tt
-once_new before (l ∷ ls) = by (list_any (is_same l) before) refl (once_new before ls) (once_new (before ++ l ∷ []) ls)
-  where
-    by : (b : Bool) → list_any (is_same l) before ≡ b → AllByRecursion (λ m. list_any (is_same m) before ≡ false) (each_once_after before ls)
-        → AllByRecursion (λ m. list_any (is_same m) (before ++ l ∷ []) ≡ false) (each_once_after (before ++ l ∷ []) ls)
-        → AllByRecursion (λ m. list_any (is_same m) before ≡ false) (cond b (each_once_after before ls) (l ∷ each_once_after (before ++ l ∷ []) ls))
-    by true is known new = known
-    by false is known new = (is, (all_before l before (each_once_after (before ++ l ∷ []) ls) new).0)
-
-once_distinct : (before ls : List Location) → HasNoRepeat (each_once_after before ls)
+once_distinct : (before ls : List Location) → HasNoRepeat before → HasNoRepeat (before ++ each_once_after before ls)
 unfolding IsDistinct
-once_distinct before [] = tt
-once_distinct before (l ∷ ls) = by (list_any (is_same l) before) (once_distinct before ls) (once_distinct (before ++ l ∷ []) ls)
+once_distinct before [] h = rw append-nil h
+once_distinct before (l ∷ ls) h = by (list_any (is_same l) before) refl (once_distinct before ls h) (once_distinct (before ++ l ∷ []) ls)
   where
-    by : (b : Bool) → HasNoRepeat (each_once_after before ls) → HasNoRepeat (each_once_after (before ++ l ∷ []) ls) → HasNoRepeat (cond b (each_once_after before ls) (l ∷ each_once_after (before ++ l ∷ []) ls))
-    by true known new = known
-    by false known new = ((all_before l before (each_once_after (before ++ l ∷ []) ls) (once_new (before ++ l ∷ []) ls)).1, new)
+    by : (b : Bool) → list_any (is_same l) before ≡ b → HasNoRepeat (before ++ each_once_after before ls)
+        → (HasNoRepeat (before ++ l ∷ []) → HasNoRepeat ((before ++ l ∷ []) ++ each_once_after (before ++ l ∷ []) ls))
+        → HasNoRepeat (before ++ cond b (each_once_after before ls) (l ∷ each_once_after (before ++ l ∷ []) ls))
+    by true is known new = known
+    by false is known new =
+        subst HasNoRepeat (append_assoc before (l ∷ []) (each_once_after (before ++ l ∷ []) ls)) (new (distinct_append is_same before (l ∷ []) h (tt, tt) (none_among l before is)))
 
 pub candidates_stand_apart : CandidatesStandApart
+unfolding IsDistinct
 candidates_stand_apart doc ls =
     distinct_other is_same in_one_array (λ m. no_array (at doc m) ≡ true) (flattened doc ls) (candidates_part doc) (once_keeps (λ m. no_array (at doc m) ≡ true) [] (from_each doc flat ls) (all_candidates doc ls))
-    (once_distinct [] (from_each doc flat ls))
+    (once_distinct [] (from_each doc flat ls) tt)
 
 pub descent_stands_apart : DescentStandsApart
 descent_stands_apart doc k l document = names_stand_apart doc k (all_below doc (l ∷ [])) (below_has_no_repeat doc l document)

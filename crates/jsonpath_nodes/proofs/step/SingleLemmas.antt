@@ -19,13 +19,15 @@ item_within i no_items c is = cc
 item_within zero (item d ds) c is = omega arith
 item_within (suc i) (item d ds) c is = let later : i < items_len ds = item_within i ds c is in omega arith
 
-item_past : (ds : Items) → get_item (items_len ds) ds ≡ None
-item_past no_items = refl
-item_past (item d ds) = item_past ds
+-- an index that is past the end leads nowhere
+pub past_end : (i : ℕ) (ds : Items) → items_len ds ≤ i → get_item i ds ≡ None
+past_end i no_items h = refl
+past_end zero (item d ds) h = absurd (omega arith)
+past_end (suc i) (item d ds) h = past_end i ds (omega arith)
 
 least_item : (i : ℕ) (ds : Items) → get_item i ds ≡ None → (b : Bool) → nat_lt i (items_len ds) ≡ b → get_item (min i (items_len ds)) ds ≡ None
 least_item i ds none true below = let same : min i (items_len ds) ≡ i = let h : i < items_len ds = ltb-true i (items_len ds) below in omega arith in ap (λ (n : ℕ). get_item n ds) same ∙ none
-least_item i ds none false over = let same : min i (items_len ds) ≡ items_len ds = let h : items_len ds ≤ i = ltb-false i (items_len ds) over in omega arith in ap (λ (n : ℕ). get_item n ds) same ∙ item_past ds
+least_item i ds none false over = let same : min i (items_len ds) ≡ items_len ds = let h : items_len ds ≤ i = ltb-false i (items_len ds) over in omega arith in ap (λ (n : ℕ). get_item n ds) same ∙ past_end (items_len ds) ds (omega arith)
 
 step_there : (l : Location) (d c : Data) (i : ℕ) → item_at i d ≡ Some c → map (look_from l d) (map (λ (s : Step). s ∷ []) (present d (index i))) ≡ (l ++ index i ∷ [], Some c) ∷ []
 step_there l d c i is = rw is (rw is refl)

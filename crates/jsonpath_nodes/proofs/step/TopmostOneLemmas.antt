@@ -11,7 +11,7 @@ use Rattle.jsonpath_nodes.specs.place.Order.{IsDocument, location_total, once_in
 use Rattle.jsonpath_nodes.specs.step.Steps.{from, all_below}
 use Rattle.jsonpath_nodes.specs.update.Topmost.{same_step, begins_with}
 use Rattle.jsonpath_nodes.specs.step.SameMembers.{SameMembers, OneListOfASet, is_at_or_below, topmost, topmost_after, BelowOfTheTopmost, DescentOfTheTopmost}
-use Rattle.jsonpath_nodes.proofs.place.CompleteLemmas.{IsAmong, below_complete, below_sound}
+use Rattle.jsonpath_nodes.proofs.place.CompleteLemmas.{IsAmong, among_map, among_mapped, below_complete, below_sound}
 use Rattle.jsonpath_nodes.proofs.step.ChildLemmas.{document_at}
 use Rattle.jsonpath_nodes.proofs.place.LeadLemmas.{at-append}
 use Rattle.jsonpath_nodes.proofs.update.MemberLemmas.{keeps_members, location-tied}
@@ -75,23 +75,13 @@ higher last l (x ∷ ls) h = by (is_at_or_below last x) refl h (higher last l ls
 
 -- ---- below
 
-below_back_map : (l x : Location) (ys : List Location) → IsAmong x (map (λ (y : Location). l ++ y) ys) → (y : Location) × (x ≡ l ++ y) × IsAmong y ys
-below_back_map l x [] h = elim h [ ]
-below_back_map l x (y ∷ ys) (inl e) = (y, e, inl refl)
-below_back_map l x (y ∷ ys) (inr h) = let found = below_back_map l x ys h in (found.0, found.1, inr found.2)
-
-below_to_map : (l y : Location) (ys : List Location) → IsAmong y ys → IsAmong (l ++ y) (map (λ (z : Location). l ++ z) ys)
-below_to_map l y [] h = elim h [ ]
-below_to_map l y (z ∷ ys) (inl e) = inl (ap (λ (w : Location). l ++ w) e)
-below_to_map l y (z ∷ ys) (inr h) = inr (below_to_map l y ys h)
-
 below_back : (doc : Data) (l x : Location) → IsDocument doc → IsAmong x (from doc below l) → (y : Location) × (c : Data) × (x ≡ l ++ y) × (at doc (l ++ y) ≡ Some c)
 below_back doc l x docs h = by (at doc l) refl h
   where
     by : (o : Option Data) → at doc l ≡ o → IsAmong x (map (λ (y : Location). l ++ y) (unwrap_or (option_map below o) [])) → (y : Location) × (c : Data) × (x ≡ l ++ y) × (at doc (l ++ y) ≡ Some c)
     by None is k = elim k [ ]
     by (Some d) is k =
-        let found = below_back_map l x (below d) k in
+        let found = among_mapped (λ (y : Location). l ++ y) x (below d) k in
         let value = below_sound found.0 d (document_at l doc d docs is) found.2 in
         (found.0, value.0, found.1, at-append l found.0 doc ∙ ap (option_and_then (λ (c : Data). at c found.0)) is ∙ value.1)
 
@@ -100,7 +90,7 @@ below_to doc m z c h = by (at doc m) (sym (at-append m z doc) ∙ h)
   where
     by : (o : Option Data) → option_and_then (λ (d : Data). at d z) o ≡ Some c → IsAmong (m ++ z) (map (λ (y : Location). m ++ y) (unwrap_or (option_map below o) []))
     by None e = cc
-    by (Some d) e = below_to_map m z (below d) (below_complete z d c e)
+    by (Some d) e = among_map (λ (y : Location). m ++ y) z (below d) (below_complete z d c e)
 
 below_higher : (doc : Data) (l m k x : Location) → IsDocument doc → m ++ k ≡ l → IsAmong x (from doc below l) → IsAmong x (from doc below m)
 below_higher doc l m k x docs is h =

@@ -6,8 +6,9 @@ use Rattle.std.specs.Cmp.{Equal-is}
 use Rattle.std.specs.Cmp.Lexicographic.{slice_cmp}
 use Rattle.std.specs.List.{AllByRecursion}
 use Rattle.std.specs.Ordering.{match_ordering}
-use Rattle.serde_json.specs.Data.{Data, null, boolean, number, string, array, object, Items, no_items, item, Members, no_members, member}
+use Rattle.serde_json.specs.Data.{Data, null, array, object, Items, no_items, item, Members, no_members, member}
 use Rattle.serde_json.specs.Find.{get_item, get_member}
+use Rattle.jsonpath_nodes.proofs.step.DistinctLemmas.{all_then}
 use Rattle.jsonpath_nodes.proofs.update.SetLemmas.{same_itself}
 use Rattle.jsonpath_nodes.specs.place.Location.{Step, name, index, Location, child}
 use Rattle.jsonpath_nodes.proofs.place.ThereLemmas.{there}
@@ -66,30 +67,16 @@ member_here f k q (member l d ms) p h =
 child_other : (f : Data → Option Data) (s t : Step) (d : Data) → Puts f → same_step s t ≡ false → child t (edit f s d) ≡ child t d
 child_other f (name k) (name q) (object ms) p h = member_other f k q ms p h
 child_other f (name k) (index j) (object ms) p h = refl
-child_other f (index i) t null p h = refl
-child_other f (index i) t (boolean b) p h = refl
-child_other f (index i) t (number n) p h = refl
-child_other f (index i) t (string x) p h = refl
 child_other f (index i) (name q) (array ds) p h = refl
 child_other f (index i) (index j) (array ds) p h = item_other f i j ds p (eqb-false i j h)
-child_other f (index i) t (object ms) p h = refl
-child_other f (name k) t _ p h = refl
+child_other f _ _ _ p h = refl
 
 child_here : (f : Data → Option Data) (s t : Step) (d : Data) → Puts f → same_step s t ≡ true → child t (edit f s d) ≡ option_and_then f (child t d)
-child_here f (name k) (name q) null p h = refl
-child_here f (name k) (name q) (boolean b) p h = refl
-child_here f (name k) (name q) (number n) p h = refl
-child_here f (name k) (name q) (string x) p h = refl
-child_here f (name k) (name q) (array ds) p h = refl
 child_here f (name k) (name q) (object ms) p h = member_here f k q ms p ((Equal-is (slice_cmp nat_cmp k q)).0 h)
 child_here f (name k) (index j) d p h = absurd (cc)
 child_here f (index i) (name q) d p h = absurd (cc)
-child_here f (index i) (index j) null p h = refl
-child_here f (index i) (index j) (boolean b) p h = refl
-child_here f (index i) (index j) (number n) p h = refl
-child_here f (index i) (index j) (string x) p h = refl
 child_here f (index i) (index j) (array ds) p h = rw (← eqb-true i j h) (item_here f i ds p)
-child_here f (index i) (index j) (object ms) p h = refl
+child_here f _ _ _ p h = refl
 
 puts : (x : Data) (l : Location) → Puts (with_answer_at (Some x) l)
 puts x [] c = (x, refl)
@@ -181,10 +168,6 @@ placed_before x l [] before asked after h p = p
 placed_before x l (m ∷ ls) before asked after h p =
     placed_step (target m before) m ls (update l (Some x) before) before asked after (λ ps. placed_before x l ls before ps after h.1) (rw (target_update x m l before h.0.1) at p)
 
-firsts : (l : Location) (ls : List Location) → AllByRecursion (λ m. (apart_below_root l m ≡ true) × (apart_below_root m l ≡ true)) ls → AllByRecursion (λ m. apart_below_root l m ≡ true) ls
-firsts l [] h = tt
-firsts l (m ∷ ls) h = (h.0.0, firsts l ls h.1)
-
 run_placed_at : (o : Option Data) (l : Location) (ls : List Location) (before : Data) (asked : List Asked) (after : Data) → target l before ≡ o → AllApart (l ∷ ls) → NothingTakenAway asked
     → RunAt o l ls before asked after → ((b : Data) (ps : List Asked) → NothingTakenAway ps → IsRun ls b ps after → IsPlaced ls b ps after) → PlacedAt o l ls before asked after
 run_placed_at None l ls before asked after is h all r later = later before asked all r
@@ -196,7 +179,7 @@ run_placed_at (Some d) l ls before ((e, Some x) ∷ asked) after is h all r late
     let said : r.0 ≡ Some x = sym (ap (λ (q : Asked). q.1) heads) in
     let handed : e ≡ d = ap (λ (q : Asked). q.0) heads in
     let run : IsRun ls (update l (Some x) before) asked after = rw (more, ← said) r.3 in
-    let stays = run_apart l ls (update l (Some x) before) asked after (firsts l ls h.0) all.1 run in
+    let stays = run_apart l ls (update l (Some x) before) asked after (all_then (λ m. (apart_below_root l m ≡ true) × (apart_below_root m l ≡ true)) (λ m. apart_below_root l m ≡ true) ls (λ m p. p.0) h.0) all.1 run in
     (x, asked, rw handed refl, stays ∙ at_here x l before d is, placed_before x l ls before asked after h.0 (later (update l (Some x) before) asked all.1 run))
 
 -- where no location lies below another and every answer is a value, each answer stands in its place

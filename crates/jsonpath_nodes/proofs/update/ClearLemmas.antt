@@ -36,7 +36,7 @@ left_in true true l us vs h e = absurd (let off : true ≡ false = h refl in cc)
 left_in true false l us vs h e = e
 left_in false c l us vs h e = ap (λ (ws : List Location). cond c (l ∷ ws) ws) e
 
-under_elsewhere : (s r : Step) (ls : List Location) → under r (elsewhere s ls) ≡ cond (same_step r s) [] (under r ls)
+pub under_elsewhere : (s r : Step) (ls : List Location) → under r (elsewhere s ls) ≡ cond (same_step r s) [] (under r ls)
 under_elsewhere s r [] = sym (nothing (same_step r s) [] refl)
 under_elsewhere s r ([] ∷ ls) = under_elsewhere s r ls
 under_elsewhere s r ((t ∷ l) ∷ ls) = at (same_step t s) refl (under_elsewhere s r ls)

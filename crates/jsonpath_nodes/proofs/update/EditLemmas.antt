@@ -3,7 +3,7 @@ use Rattle.std.proofs.Common.{◌≡◌, ℕ, zero, suc, List, [], ◌∷◌, Op
 use Rattle.std.specs.Ordering.{match_ordering}
 use Rattle.std.specs.Fn.{Called}
 use Rattle.std.specs.Cmp.Lexicographic.{slice_cmp}
-use Rattle.serde_json.specs.Data.{Data, null, boolean, number, string, array, object, Items, no_items, item, Members, no_members, member}
+use Rattle.serde_json.specs.Data.{Data, array, object, Items, no_items, item, Members, no_members, member}
 use Rattle.serde_json.specs.Find.{get_item, get_member}
 use Rattle.serde_json.specs.View.{view}
 use Rattle.serde_json.specs.declared.value.Value.{Value}
@@ -36,13 +36,8 @@ edit_member_by f k (member l d ms) c e = edit_member_by_at (slice_cmp nat_cmp k 
 
 pub edit_by : (f : Data → Option Data) (s : Step) (d c : Data) → child s d ≡ Some c → edit f s d ≡ edit (λ _. f c) s d
 edit_by f (name k) (object ms) c e = ap object (edit_member_by f k ms c e)
-edit_by f (index i) null c e = refl
-edit_by f (index i) (boolean b) c e = refl
-edit_by f (index i) (number n) c e = refl
-edit_by f (index i) (string s) c e = refl
 edit_by f (index i) (array ds) c e = ap array (edit_item_by f i ds c e)
-edit_by f (index i) (object ms) c e = refl
-edit_by f (name k) _ c e = refl
+edit_by f _ _ c e = refl
 
 -- ---- an edit that answers the child itself changes nothing
 
@@ -65,13 +60,8 @@ edit_member_same f k (member l d ms) h = edit_member_same_at (slice_cmp nat_cmp 
 
 pub edit_same : (f : Data → Option Data) (s : Step) (d : Data) → ((c : Data) → child s d ≡ Some c → f c ≡ Some c) → edit f s d ≡ d
 edit_same f (name k) (object ms) h = ap object (edit_member_same f k ms h)
-edit_same f (index i) null h = refl
-edit_same f (index i) (boolean b) h = refl
-edit_same f (index i) (number n) h = refl
-edit_same f (index i) (string s) h = refl
 edit_same f (index i) (array ds) h = ap array (edit_item_same f i ds h)
-edit_same f (index i) (object ms) h = refl
-edit_same f (name k) _ h = refl
+edit_same f _ _ h = refl
 
 pub edit_back : (s : Step) (d : Data) → edit Some s d ≡ d
 edit_back s d = edit_same Some s d (λ c h. refl)

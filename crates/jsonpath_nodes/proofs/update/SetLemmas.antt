@@ -1,6 +1,6 @@
 -- Of the locations only what they cover matters to what is nulled and taken: not their order, nor repeats, nor those below another one.
 use Rattle.std.proofs.Common.{◌≡◌, ℕ, suc, List, [], ◌∷◌, fold, Option, Some, Bool, true, false, ◌&&◌, ◌||◌, not, Ordering, Less, Equal, Greater, nat_cmp, nat_eq, cond, is_eq, refl, sym, ap, ◌∙◌, ◌⊎◌, inl, inr, arith}
-use Rattle.std.proofs.Math.Bool.{or-false}
+use Rattle.std.proofs.Math.Bool.{or-false, or_assoc, or_comm, or_self}
 use Rattle.std.proofs.lemmas.Bool.{eqb-true}
 use Rattle.std.proofs.lemmas.Bool.Decides.{eqb_tells, nat_tests}
 use Rattle.std.proofs.lemmas.Cmp.{nat_list_cmp_total}
@@ -22,8 +22,7 @@ same_location (t ∷ m) [] = false
 same_location (t ∷ m) (s ∷ l) = same_step t s && same_location m l
 
 abbrev pub contains : Location → List Location → Bool
-contains l [] = false
-contains l (m ∷ ls) = same_location m l || contains l ls
+contains l ls = list_any (λ m. same_location m l) ls
 
 -- ---- steps that are the same
 
@@ -67,9 +66,7 @@ covers_root ([] ∷ ls) = covers_root ls
 covers_root ((s ∷ l) ∷ ls) = covers_root ls
 
 swapped : (x y c : Bool) → (x || (y || c)) ≡ (y || (x || c))
-swapped true true c = refl
-swapped true false c = refl
-swapped false y c = refl
+swapped x y c = sym (or_assoc x y c) ∙ ap (λ (b : Bool). b || c) (or_comm x y) ∙ or_assoc y x c
 
 under_covers : (s : Step) (p : Location) (ls : List Location) → covers (s ∷ p) ls ≡ (has_root (under s ls) || covers p (under s ls))
 under_covers s p [] = refl
@@ -170,8 +167,7 @@ same_congr : (k x l : Location) → location_cmp k x ≡ Equal → same_location
 same_congr k x l e = location_eq k l ∙ (eq_by_cmp_equiv location_total).congr k x l (ap is_eq e) ∙ sym (location_eq x l)
 
 twice : (y c : Bool) → (y || c) ≡ (y || (y || c))
-twice true c = refl
-twice false c = refl
+twice y c = ap (λ (b : Bool). b || c) (sym (or_self y)) ∙ or_assoc y y c
 
 insert_at : (o : Ordering) (k x l : Location) (xs : List Location) → location_cmp k x ≡ o → contains l (insert_key location_cmp xs k) ≡ (same_location k l || contains l xs)
     → contains l (match_ordering o (k ∷ x ∷ xs) (x ∷ xs) (x ∷ insert_key location_cmp xs k)) ≡ (same_location k l || (same_location x l || contains l xs))
@@ -184,10 +180,7 @@ insert_contains k l [] = refl
 insert_contains k l (x ∷ xs) = insert_at (location_cmp k x) k x l xs refl (insert_contains k l xs)
 
 joined : (x y c : Bool) → (x || (y || c)) ≡ ((y || x) || c)
-joined true true c = refl
-joined true false c = refl
-joined false true c = refl
-joined false false c = refl
+joined x y c = sym (or_assoc x y c) ∙ ap (λ (b : Bool). b || c) (or_comm x y)
 
 fold_contains : (l : Location) (ls xs : List Location) → contains l (fold (insert_key location_cmp) xs ls) ≡ (contains l ls || contains l xs)
 fold_contains l [] xs = refl

@@ -8,7 +8,7 @@ use Rattle.std.specs.Cmp.Lexicographic.{slice_cmp}
 use Rattle.std.specs.List.{AllByRecursion}
 use Rattle.std.specs.List.Sorted.{IsStrictlySortedBy}
 use Rattle.std.specs.Ordering.{ordering_then, ordering_reverse, MatchOrdering}
-use Rattle.serde_json.specs.Data.{Data, null, boolean, number, string, array, object, Items, no_items, item, Members, no_members, member}
+use Rattle.serde_json.specs.Data.{Data, array, object, Items, no_items, item, Members, no_members, member}
 use Rattle.jsonpath_nodes.specs.place.Location.{Step, name, index, Location, location_cmp}
 use Rattle.jsonpath_nodes.specs.update.Update.{item_if, member_if, edit_item, edit_member, edit, with_answer_at}
 use Rattle.jsonpath_nodes.specs.update.Topmost.{same_step, under, elsewhere, has_root, with_answer_at_topmost, items_with_answer, members_with_answer, taken}
@@ -123,13 +123,9 @@ module _ (a : Option Data) where
         → with_answer_at_topmost a ((t ∷ l) ∷ ls) d ≡ edit (with_answer_at a l) t (with_answer_at_topmost a ls d)
     topmost_first (name k) l ls (array ds) h = ap array (same_items a ((name k ∷ l) ∷ ls) ls 0 ds (λ m le. refl))
     topmost_first (name k) l ls (object ms) h = ap object (members_first k l ls ms h)
-    topmost_first (index i) l ls null h = refl
-    topmost_first (index i) l ls (boolean b) h = refl
-    topmost_first (index i) l ls (number n) h = refl
-    topmost_first (index i) l ls (string s) h = refl
     topmost_first (index i) l ls (array ds) h = ap array (items_first i i l ls 0 ds (omega arith) h)
     topmost_first (index i) l ls (object ms) h = ap object (index_members a i l ls ms)
-    topmost_first (name k) l ls _ h = refl
+    topmost_first _ l ls _ h = refl
 
     items_first : (i j : ℕ) (l : Location) (ls : List Location) (n : ℕ) (ds : Items) → j ≡ n + i → Before (index j ∷ l) ls
         → items_with_answer a ((index j ∷ l) ∷ ls) n ds ≡ edit_item (with_answer_at a l) i (items_with_answer a ls n ds)

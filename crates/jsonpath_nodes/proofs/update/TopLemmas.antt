@@ -1,17 +1,16 @@
 -- At each topmost location that leads somewhere stands what was put.
 use Rattle.std.proofs.Common.{◌≡◌, ℕ, zero, suc, ◌+◌, List, [], ◌∷◌, Option, Some, None, option_and_then, Bool, true, false, Ordering, Less, Equal, Greater, nat_cmp, is_eq, cond, refl, sym, ap, ◌∙◌, arith}
-use Rattle.std.proofs.lemmas.Cmp.{nat_list_cmp_total}
 use Rattle.std.proofs.lemmas.Map.Text.{is_eq-slice_cmp}
 use Rattle.std.proofs.lemmas.Slice.Eq.{bytes_eq-Decides}
-use Rattle.std.specs.Cmp.{eq_by_cmp_equiv}
 use Rattle.std.specs.Cmp.Lexicographic.{slice_cmp}
 use Rattle.std.specs.Ordering.{match_ordering}
-use Rattle.serde_json.specs.Data.{Data, null, boolean, number, string, array, object, Items, no_items, item, Members, no_members, member}
+use Rattle.serde_json.specs.Data.{Data, null, array, object, Items, no_items, item, Members, no_members, member}
 use Rattle.serde_json.specs.Find.{get_item, get_member}
 use Rattle.jsonpath_nodes.specs.place.Location.{Step, name, index, Location, child}
 use Rattle.jsonpath_nodes.proofs.place.ThereLemmas.{there}
 use Rattle.jsonpath_nodes.specs.update.Update.{item_if, member_if}
-use Rattle.jsonpath_nodes.specs.update.Topmost.{same_step, under, elsewhere, has_root, with_answer_at_topmost, items_with_answer, members_with_answer, nulled, IsTopmost}
+use Rattle.jsonpath_nodes.specs.update.Topmost.{under, elsewhere, has_root, with_answer_at_topmost, items_with_answer, members_with_answer, nulled, IsTopmost}
+use Rattle.jsonpath_nodes.proofs.update.ClearLemmas.{under_elsewhere}
 use Rattle.jsonpath_nodes.proofs.update.TopmostLemmas.{piece}
 
 first_item : (b : Bool) (x y : Data) (ds : Items) → get_item zero (item_if (cond b (Some x) (Some y)) ds) ≡ cond b (Some x) (Some y)
@@ -34,29 +33,6 @@ item_kept x ls n (suc j) i (item d ds) c e h =
     later_item (has_root (under (index n) ls)) x (with_answer_at_topmost (Some x) (under (index n) ls) d) j (items_with_answer (Some x) ls (suc n) ds)
     ∙ item_kept x ls (suc n) j i ds c (omega arith) h
 
-under_elsewhere_at : (b e : Bool) (m : Location) (t : Step) (k q : List ℕ) (ls : List Location) → same_step t (name q) ≡ b → same_step t (name k) ≡ e → (b ≡ true → e ≡ false)
-    → under (name k) (elsewhere (name q) ls) ≡ under (name k) ls
-    → under (name k) (cond b (elsewhere (name q) ls) ((t ∷ m) ∷ elsewhere (name q) ls)) ≡ cond e (m ∷ under (name k) ls) (under (name k) ls)
-under_elsewhere_at true true m t k q ls is es h later = absurd (let bad : true ≡ false = h refl in cc)
-under_elsewhere_at true false m t k q ls is es h later = later
-under_elsewhere_at false true m t k q ls is es h later = rw es (ap (λ u. m ∷ u) later)
-under_elsewhere_at false false m t k q ls is es h later = rw es later
-
-differ : (b : Bool) → (b ≡ true → ⊥) → b ≡ false
-differ true h = absurd (h refl)
-differ false h = refl
-
-parts : (t : Step) (k q : List ℕ) → is_eq (slice_cmp nat_cmp k q) ≡ false → same_step t (name q) ≡ true → same_step t (name k) ≡ false
-parts (name p) k q h e =
-    differ (is_eq (slice_cmp nat_cmp p k)) (λ (f : is_eq (slice_cmp nat_cmp p k) ≡ true). let g : is_eq (slice_cmp nat_cmp p q) ≡ is_eq (slice_cmp nat_cmp k q) = (eq_by_cmp_equiv nat_list_cmp_total).congr p k q f in cc)
-parts (index i) k q h e = absurd (cc)
-
-under_elsewhere : (k q : List ℕ) (ls : List Location) → is_eq (slice_cmp nat_cmp k q) ≡ false → under (name k) (elsewhere (name q) ls) ≡ under (name k) ls
-under_elsewhere k q [] h = refl
-under_elsewhere k q ([] ∷ ls) h = under_elsewhere k q ls h
-under_elsewhere k q ((t ∷ m) ∷ ls) h =
-    under_elsewhere_at (same_step t (name q)) (same_step t (name k)) m t k q ls refl refl (parts t k q h) (under_elsewhere k q ls h)
-
 member_kept_at : (o : Ordering) (b : Bool) (x y : Data) (k q : List ℕ) (d c : Data) (ls : List Location) (ms ns : Members) → slice_cmp nat_cmp k q ≡ o
     → match_ordering o (get_member k ms) (Some d) (get_member k ms) ≡ Some c
     → (o ≡ Equal → d ≡ c → cond b (Some x) (Some y) ≡ piece (Some x) (under (name k) ls) c)
@@ -76,17 +52,12 @@ member_kept x k ls (member q d ms) c h =
     member_kept_at (slice_cmp nat_cmp k q) (has_root (under (name q) ls)) x (with_answer_at_topmost (Some x) (under (name q) ls) d) k q d c ls ms (members_with_answer (Some x) (elsewhere (name q) ls) ms) refl h
     (λ level same. let eq : k ≡ q = (bytes_eq-Decides k q).0 (sym (is_eq-slice_cmp k q) ∙ ap is_eq level) in
     ap (λ p. piece (Some x) (under (name p) ls) d) (sym eq) ∙ ap (piece (Some x) (under (name k) ls)) same)
-    (λ other found. member_kept x k (elsewhere (name q) ls) ms c found ∙ ap (λ u. piece (Some x) u c) (under_elsewhere k q ls other))
+    (λ other found. member_kept x k (elsewhere (name q) ls) ms c found ∙ ap (λ u. piece (Some x) u c) (under_elsewhere (name q) (name k) ls ∙ ap (λ (b : Bool). cond b [] (under (name k) ls)) other))
 
 child_kept : (x : Data) (s : Step) (ls : List Location) (d c : Data) → child s d ≡ Some c → child s (with_answer_at_topmost (Some x) ls d) ≡ piece (Some x) (under s ls) c
 child_kept x (name k) ls (object ms) c h = member_kept x k ls ms c h
-child_kept x (index i) ls null c h = absurd (cc)
-child_kept x (index i) ls (boolean b) c h = absurd (cc)
-child_kept x (index i) ls (number n) c h = absurd (cc)
-child_kept x (index i) ls (string s) c h = absurd (cc)
 child_kept x (index i) ls (array ds) c h = item_kept x ls 0 i i ds c (omega arith) h
-child_kept x (index i) ls (object ms) c h = absurd (cc)
-child_kept x (name k) ls _ c h = absurd (cc)
+child_kept x _ ls _ c h = absurd (cc)
 
 top_at : (x : Data) (s : Step) (l : Location) (ls : List Location) (d e : Data) (o : Option Data) → child s d ≡ o → option_and_then (there l) o ≡ Some e
     → ((c : Data) → there l c ≡ Some e → option_and_then (there l) (piece (Some x) (under s ls) c) ≡ Some x) → option_and_then (there l) (child s (with_answer_at_topmost (Some x) ls d)) ≡ Some x

@@ -3,7 +3,7 @@ use Rattle.std.proofs.Common.{◌≡◌, ℕ, zero, suc, ◌+◌, ◌≤◌, Lis
 use Rattle.std.proofs.lemmas.Bool.{ne_eqb, eq-eqb}
 use Rattle.std.specs.Ordering.{match_ordering}
 use Rattle.std.specs.Cmp.Lexicographic.{slice_cmp}
-use Rattle.serde_json.specs.Data.{Data, null, boolean, number, string, array, object, Items, no_items, item, Members, no_members, member}
+use Rattle.serde_json.specs.Data.{Data, null, array, object, Items, no_items, item, Members, no_members, member}
 use Rattle.jsonpath_nodes.specs.place.Location.{Step, name, index, Location}
 use Rattle.jsonpath_nodes.specs.update.Update.{item_if, member_if, edit_item, edit_member, edit, with_answer_at}
 use Rattle.jsonpath_nodes.specs.update.Topmost.{under, elsewhere, has_root, with_answer_at_topmost, items_with_answer, members_with_answer, nulled}
@@ -84,13 +84,9 @@ mutual
   pub topmost_null : (t : Step) (l : Location) (ls : List Location) (d : Data) → with_answer_at_topmost gone ((t ∷ l) ∷ ls) d ≡ with_answer_at_topmost gone ls (edit (with_answer_at gone l) t d)
   topmost_null (name k) l ls (array ds) = ap array (same_items gone ((name k ∷ l) ∷ ls) ls 0 ds (λ m le. refl))
   topmost_null (name k) l ls (object ms) = ap object (members_null k l ls ms)
-  topmost_null (index i) l ls null = refl
-  topmost_null (index i) l ls (boolean b) = refl
-  topmost_null (index i) l ls (number n) = refl
-  topmost_null (index i) l ls (string s) = refl
   topmost_null (index i) l ls (array ds) = ap array (items_null i i l ls 0 ds (omega arith))
   topmost_null (index i) l ls (object ms) = ap object (index_members gone i l ls ms)
-  topmost_null (name k) l ls _ = refl
+  topmost_null _ l ls _ = refl
 
   items_null : (i j : ℕ) (l : Location) (ls : List Location) (n : ℕ) (ds : Items) → j ≡ n + i
       → items_with_answer gone ((index j ∷ l) ∷ ls) n ds ≡ items_with_answer gone ls n (edit_item (with_answer_at gone l) i ds)

@@ -1,5 +1,5 @@
 -- Single updates by one answer, single tries, and a trial behind a try.
-use Rattle.std.proofs.Common.{◌≡◌, ◌==◌, List, [], ◌∷◌, length, Option, Some, None, option_map, MatchOption, Bool, true, false, Result, Ok, Err, true≢false, refl, sym, ap, ◌∙◌}
+use Rattle.std.proofs.Common.{◌≡◌, ◌==◌, List, [], ◌∷◌, length, Option, Some, option_map, false, Result, Ok, Err, true≢false, refl, ap}
 use Rattle.std.specs.Borrow.{Bor}
 use Rattle.std.specs.Fn.{Called}
 use Rattle.serde_json.specs.Data.{Data}
@@ -11,21 +11,14 @@ use Rattle.jsonpath_nodes.specs.place.Owned.{owned_steps}
 use Rattle.jsonpath_nodes.specs.update.Trial.{Updates, TryUpdateCalls, PutsUnlessRefused, IsTry, IsTrial}
 use Rattle.jsonpath_nodes.specs.update.Update.{target, update}
 use Rattle.jsonpath_nodes.specs.declared.place.location.LocStep.{LocStep}
-use Rattle.jsonpath_nodes.proofs.update.EditLemmas.{update_nowhere}
+use Rattle.jsonpath_nodes.proofs.update.RunLemmas.{update_where_steps_lead}
 
 -- ---- a single update by a closure that gives this answer
 
 module _ {F : Type 0} (calls : UpdateCalls F) (l : Location) (before after : Data) (f g : F) (answer : Option Value) where
-  put_at : (asked : Bool) (o : Option Data) → target l before ≡ o
-      → MatchOption o ((asked ≡ false) × (g ≡ f) × (after ≡ before))
-      (λ d. (x : Value) × (said : Option Value) × (asked ≡ true) × (view x ≡ d) × Called calls f (x, tt) said g × (after ≡ update l (option_map view said) before))
-      → ((x : Value) (r : Option Value) (h : F) → Called calls f (x, tt) r h → r ≡ answer) → after ≡ update l (option_map view answer) before
-  put_at asked None e u gives = u.2 ∙ sym (update_nowhere (option_map view answer) l before e)
-  put_at asked (Some d) e u gives = u.5 ∙ ap (λ (said : Option Value). update l (option_map view said) before) (gives u.0 u.1 g u.4)
-
   -- it puts that answer
   pub puts_answer : Updates calls l before f g after → ((x : Value) (r : Option Value) (h : F) → Called calls f (x, tt) r h → r ≡ answer) → after ≡ update l (option_map view answer) before
-  puts_answer u gives = put_at u.asked (target l before) refl u.made gives
+  puts_answer u gives = update_where_steps_lead calls (option_map view answer) l before f g u.asked after (λ x r called. ap (option_map view) (gives x r g called)) u.made
 
 -- ---- a single try
 

@@ -7,7 +7,7 @@ use Rattle.jsonpath_nodes.specs.place.Location.{Step, Location}
 use Rattle.jsonpath_nodes.specs.place.SpotPlace.{location_at, held_path_location}
 use Rattle.jsonpath_nodes.specs.plan.Way.{down_step}
 use Rattle.jsonpath_nodes.specs.declared.place.trail.HeldPathToContainer.{HeldPathToContainer}
-use Rattle.jsonpath_nodes.specs.declared.step.descend.DownStep.{DownStep}
+use Rattle.jsonpath_nodes.specs.declared.step.descends.DownStep.{DownStep}
 use Rattle.jsonpath_nodes.specs.declared.step.descend.descent_path.SharedPath.{SharedPath}
 
 abbrev pub Down : Type 0

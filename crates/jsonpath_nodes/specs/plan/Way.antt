@@ -2,8 +2,8 @@
 use Rattle.std.specs.Prelude.{◌≡◌, ℕ, ◌-◌, List, ◌++◌, Bool, length, take}
 use Rattle.jsonpath_nodes.specs.place.Location.{Step, name, index, Location}
 use Rattle.jsonpath_nodes.specs.place.Mark.{kept_location}
-use Rattle.jsonpath_nodes.specs.declared.step.descend.DownStep.{DownStep}
-use Rattle.jsonpath_nodes.specs.declared.step.descend.DownStep.TheVariants.{Item, Member}
+use Rattle.jsonpath_nodes.specs.declared.step.descends.DownStep.{DownStep}
+use Rattle.jsonpath_nodes.specs.declared.step.descends.DownStep.TheVariants.{Item, Member}
 
 -- the step that is taken, by what the bytes of a name are
 abbrev pub down_step : {N : Type 0} → (N → List ℕ) → DownStep N → Step

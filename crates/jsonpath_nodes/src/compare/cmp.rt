@@ -39,6 +39,34 @@ pub trait Cmp {
         ensures { result ≡ is_not_equal comparison };
 }
 
+// One of the six comparisons, by the token that writes it.
+pub trait Compares {
+    ghost comparison: { Comparison };
+
+    fn token(&self) -> FilterToken
+        ensures { comparison_of result ≡ Some comparison };
+}
+
+impl<C: Compares> Cmp for C {
+    ghost comparison = { C.comparison };
+
+    fn cmp_bool(&self, left: bool, right: bool) -> bool {
+        holds_atoms(self.token(), &Atom::Bool(left), &Atom::Bool(right))
+    }
+
+    fn cmp_num(&self, left: Decimal, right: Decimal) -> bool {
+        holds_atoms(self.token(), &Atom::Number(left), &Atom::Number(right))
+    }
+
+    fn cmp_string(&self, left: &str, right: &str) -> bool {
+        holds_atoms(self.token(), &Atom::Text(left), &Atom::Text(right))
+    }
+
+    fn default(&self) -> bool {
+        self.token() == FilterToken::NotEqual
+    }
+}
+
 /// The comparison `==`.
 ///
 /// ```text
@@ -47,27 +75,12 @@ pub trait Cmp {
 #[derive(Clone, Copy, Debug)]
 pub struct CmpEq;
 
-impl Cmp for CmpEq {
+impl Compares for CmpEq {
     ghost comparison = { equal };
 
-    // Whether left == right.
-    fn cmp_bool(&self, left: bool, right: bool) -> bool {
-        left.cmp(&right).is_eq()
-    }
-
-    // Whether left == right, exactly.
-    fn cmp_num(&self, left: Decimal, right: Decimal) -> bool {
-        left.cmp(&right).is_eq()
-    }
-
-    // Whether left == right, by their bytes.
-    fn cmp_string(&self, left: &str, right: &str) -> bool {
-        left.cmp(&right).is_eq()
-    }
-
-    // No two values of different kinds satisfy `==`.
-    fn default(&self) -> bool {
-        false
+    #[inline(always)]
+    fn token(&self) -> FilterToken {
+        FilterToken::Equal
     }
 }
 
@@ -79,27 +92,12 @@ impl Cmp for CmpEq {
 #[derive(Clone, Copy, Debug)]
 pub struct CmpNe;
 
-impl Cmp for CmpNe {
+impl Compares for CmpNe {
     ghost comparison = { not_equal };
 
-    // Whether left != right.
-    fn cmp_bool(&self, left: bool, right: bool) -> bool {
-        left.cmp(&right).is_ne()
-    }
-
-    // Whether left != right, exactly.
-    fn cmp_num(&self, left: Decimal, right: Decimal) -> bool {
-        left.cmp(&right).is_ne()
-    }
-
-    // Whether left != right, by their bytes.
-    fn cmp_string(&self, left: &str, right: &str) -> bool {
-        left.cmp(&right).is_ne()
-    }
-
-    // Values of different kinds satisfy `!=`.
-    fn default(&self) -> bool {
-        true
+    #[inline(always)]
+    fn token(&self) -> FilterToken {
+        FilterToken::NotEqual
     }
 }
 
@@ -111,27 +109,12 @@ impl Cmp for CmpNe {
 #[derive(Clone, Copy, Debug)]
 pub struct CmpGt;
 
-impl Cmp for CmpGt {
+impl Compares for CmpGt {
     ghost comparison = { greater };
 
-    // Whether left > right, where false comes before true.
-    fn cmp_bool(&self, left: bool, right: bool) -> bool {
-        left.cmp(&right).is_gt()
-    }
-
-    // Whether left > right, exactly.
-    fn cmp_num(&self, left: Decimal, right: Decimal) -> bool {
-        left.cmp(&right).is_gt()
-    }
-
-    // Whether left > right, by their bytes.
-    fn cmp_string(&self, left: &str, right: &str) -> bool {
-        left.cmp(&right).is_gt()
-    }
-
-    // No two values of different kinds satisfy `>`.
-    fn default(&self) -> bool {
-        false
+    #[inline(always)]
+    fn token(&self) -> FilterToken {
+        FilterToken::Greater
     }
 }
 
@@ -143,27 +126,12 @@ impl Cmp for CmpGt {
 #[derive(Clone, Copy, Debug)]
 pub struct CmpGe;
 
-impl Cmp for CmpGe {
+impl Compares for CmpGe {
     ghost comparison = { greater_or_equal };
 
-    // Whether left >= right, where false comes before true.
-    fn cmp_bool(&self, left: bool, right: bool) -> bool {
-        left.cmp(&right).is_ge()
-    }
-
-    // Whether left >= right, exactly.
-    fn cmp_num(&self, left: Decimal, right: Decimal) -> bool {
-        left.cmp(&right).is_ge()
-    }
-
-    // Whether left >= right, by their bytes.
-    fn cmp_string(&self, left: &str, right: &str) -> bool {
-        left.cmp(&right).is_ge()
-    }
-
-    // No two values of different kinds satisfy `>=`.
-    fn default(&self) -> bool {
-        false
+    #[inline(always)]
+    fn token(&self) -> FilterToken {
+        FilterToken::GreaterOrEqual
     }
 }
 
@@ -175,27 +143,12 @@ impl Cmp for CmpGe {
 #[derive(Clone, Copy, Debug)]
 pub struct CmpLt;
 
-impl Cmp for CmpLt {
+impl Compares for CmpLt {
     ghost comparison = { less };
 
-    // Whether left < right, where false comes before true.
-    fn cmp_bool(&self, left: bool, right: bool) -> bool {
-        left.cmp(&right).is_lt()
-    }
-
-    // Whether left < right, exactly.
-    fn cmp_num(&self, left: Decimal, right: Decimal) -> bool {
-        left.cmp(&right).is_lt()
-    }
-
-    // Whether left < right, by their bytes.
-    fn cmp_string(&self, left: &str, right: &str) -> bool {
-        left.cmp(&right).is_lt()
-    }
-
-    // No two values of different kinds satisfy `<`.
-    fn default(&self) -> bool {
-        false
+    #[inline(always)]
+    fn token(&self) -> FilterToken {
+        FilterToken::Little
     }
 }
 
@@ -207,27 +160,12 @@ impl Cmp for CmpLt {
 #[derive(Clone, Copy, Debug)]
 pub struct CmpLe;
 
-impl Cmp for CmpLe {
+impl Compares for CmpLe {
     ghost comparison = { less_or_equal };
 
-    // Whether left <= right, where false comes before true.
-    fn cmp_bool(&self, left: bool, right: bool) -> bool {
-        left.cmp(&right).is_le()
-    }
-
-    // Whether left <= right, exactly.
-    fn cmp_num(&self, left: Decimal, right: Decimal) -> bool {
-        left.cmp(&right).is_le()
-    }
-
-    // Whether left <= right, by their bytes.
-    fn cmp_string(&self, left: &str, right: &str) -> bool {
-        left.cmp(&right).is_le()
-    }
-
-    // No two values of different kinds satisfy `<=`.
-    fn default(&self) -> bool {
-        false
+    #[inline(always)]
+    fn token(&self) -> FilterToken {
+        FilterToken::LittleOrEqual
     }
 }
 

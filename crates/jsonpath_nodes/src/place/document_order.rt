@@ -1,14 +1,15 @@
 //! Lists of nodes as sets: each location once, in document order; the nodes without an ancestor in the list; the
 //! indexes of the nodes at locations of another list.
 
-ghost use Rattle.std.specs.Prelude.{◌≡◌, [], ◌∷◌, ◌++◌, List, map, Some, if◌then◌else◌, IfOk, OnOk, IsTrue};
+ghost use Rattle.std.specs.Prelude.{◌≡◌, [], ◌∷◌, ◌++◌, List, map, Some, if◌then◌else◌, IfOk, OnOk, IsTrue, refl};
+ghost use Rattle.std.specs.Cmp.{eq_by_cmp_equiv, on_total, partial_equiv_from_equiv, partial_order_from_total};
 ghost use Rattle.std.specs.List.{AllByRecursion, list_any};
 ghost use Rattle.std.specs.List.Sorted.{IsStrictlySortedBy};
-ghost use Rattle.std.specs.Ordering.{is_eq};
+ghost use Rattle.std.specs.Ordering.{as_partial_cmp, eq_by_cmp, on};
 ghost use Rattle.serde_json.specs.Data.{Data};
 ghost use Rattle.jsonpath_nodes.specs.place.Location.{Location, location_cmp, is_same};
 ghost use Rattle.jsonpath_nodes.specs.place.NumbersWhere.{numbers_where};
-ghost use Rattle.jsonpath_nodes.specs.place.Order.{once_in_order};
+ghost use Rattle.jsonpath_nodes.specs.place.Order.{location_total, once_in_order};
 ghost use Rattle.jsonpath_nodes.specs.place.SpotPlace.{LeadsBy, StandAt, location_of, sight_of};
 ghost use Rattle.jsonpath_nodes.specs.plan.OrderedSpots.{IsShownIn, comes_behind, from_top, last_location, ordered_spot_location, ordered_spot_sight};
 ghost use Rattle.jsonpath_nodes.specs.step.SameMembers.{is_at_or_below, topmost};
@@ -196,12 +197,6 @@ impl<'a> OrderedSpot<'a> {
 }
 
 impl<'a> PartialEq for OrderedSpot<'a> {
-    ghost use Rattle.std.specs.Cmp.{eq_by_cmp_equiv, on_total, partial_equiv_from_equiv};
-    ghost use Rattle.std.specs.Ordering.{eq_by_cmp, on};
-    ghost use Rattle.jsonpath_nodes.specs.place.Location.{location_cmp};
-    ghost use Rattle.jsonpath_nodes.specs.place.Order.{location_total};
-    ghost use Rattle.jsonpath_nodes.specs.plan.OrderedSpots.{ordered_spot_location};
-
     ghost eq = { on ordered_spot_location (eq_by_cmp location_cmp) };
 
     ghost laws = { partial_equiv_from_equiv (eq_by_cmp_equiv (on_total ordered_spot_location location_total)) };
@@ -212,20 +207,10 @@ impl<'a> PartialEq for OrderedSpot<'a> {
 }
 
 impl<'a> Eq for OrderedSpot<'a> {
-    ghost use Rattle.std.specs.Cmp.{eq_by_cmp_equiv, on_total};
-    ghost use Rattle.jsonpath_nodes.specs.place.Order.{location_total};
-    ghost use Rattle.jsonpath_nodes.specs.plan.OrderedSpots.{ordered_spot_location};
-
     ghost laws = { eq_by_cmp_equiv (on_total ordered_spot_location location_total) };
 }
 
 impl<'a> PartialOrd for OrderedSpot<'a> {
-    ghost use Rattle.std.specs.Cmp.{on_total, partial_order_from_total};
-    ghost use Rattle.std.specs.Ordering.{as_partial_cmp, on};
-    ghost use Rattle.jsonpath_nodes.specs.place.Location.{location_cmp};
-    ghost use Rattle.jsonpath_nodes.specs.place.Order.{location_total};
-    ghost use Rattle.jsonpath_nodes.specs.plan.OrderedSpots.{ordered_spot_location};
-
     ghost partial_cmp = { as_partial_cmp (on ordered_spot_location location_cmp) };
 
     ghost laws = { partial_order_from_total (on_total ordered_spot_location location_total) };
@@ -236,13 +221,6 @@ impl<'a> PartialOrd for OrderedSpot<'a> {
 }
 
 impl<'a> Ord for OrderedSpot<'a> {
-    ghost use Rattle.std.specs.Prelude.{refl};
-    ghost use Rattle.std.specs.Cmp.{on_total};
-    ghost use Rattle.std.specs.Ordering.{on};
-    ghost use Rattle.jsonpath_nodes.specs.place.Location.{location_cmp};
-    ghost use Rattle.jsonpath_nodes.specs.place.Order.{location_total};
-    ghost use Rattle.jsonpath_nodes.specs.plan.OrderedSpots.{ordered_spot_location};
-
     ghost cmp = { on ordered_spot_location location_cmp };
 
     ghost total = { on_total ordered_spot_location location_total };

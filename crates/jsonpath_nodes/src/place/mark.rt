@@ -14,7 +14,7 @@ ghost use Rattle.jsonpath_nodes.specs.step.Steps.{deep, named, single_steps};
 use crate::memory::NoMemory;
 use crate::place::spot::Spot;
 use crate::step::plain_step::PlainStep;
-use crate::step::{candidates, children, descend};
+use crate::step::{candidates, children, gather};
 use serde_json::Value;
 use std::alloc::Global;
 
@@ -122,7 +122,7 @@ impl<'a> Mark<'a> for &'a Value {
         plain: &PlainStep<'_>,
         out: &mut Vec<&'a Value>,
     ) -> Result<(), NoMemory> {
-        descend::add_selected_at_or_below(alloc, self, plain, out)
+        gather::add_selected_at_or_below(alloc, self, plain, out)
     }
 
     #[inline]
@@ -180,7 +180,7 @@ impl<'a> Mark<'a> for Spot<'a> {
         plain: &PlainStep<'_>,
         out: &mut Vec<Spot<'a>>,
     ) -> Result<(), NoMemory> {
-        descend::add_selected_at_or_below(alloc, self, plain, out)
+        gather::add_selected_at_or_below(alloc, self, plain, out)
     }
 
     #[inline]

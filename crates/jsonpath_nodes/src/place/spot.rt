@@ -126,8 +126,7 @@ impl<'a> Spot<'a> {
     pub fn location(&self, alloc: Global) -> Result<Location, NoMemory>
         ensures { IfOk result (λ location. location ≡ location_of self.now) }
     {
-        let location = self.steps().to_location(alloc)?;
-        Ok(location)
+        self.steps().to_location(alloc)
     }
 
     /// The children of this node, as nodes, in document order. The only error is `NoMemory`.

@@ -1,6 +1,8 @@
 //! `Spot` as a node whose children are nodes: they share its location.
 
-ghost use Rattle.std.specs.Prelude.{true};
+ghost use Rattle.std.specs.Prelude.{◌≡◌, [], ◌∷◌, ◌++◌, true, string_bytes, OnOk};
+ghost use Rattle.jsonpath_nodes.specs.declared.step.descends.DownStep.TheVariants.{Item, Member};
+ghost use Rattle.jsonpath_nodes.specs.place.Location.{name as by_name, index as by_index};
 ghost use Rattle.jsonpath_nodes.specs.place.SpotPlace.{location_of, value_of, location_at, held_path_location};
 
 use crate::memory::NoMemory;
@@ -9,9 +11,8 @@ use crate::place::trail::{
     HeldPathToContainer, Trail, clone_trail, held_path_to_container, lend_path_to_object,
     member_trail, member_trail_of_path_to_object, shared_trail,
 };
-use crate::step::descend::DownStep;
 use crate::step::descend::descent_path::DescentPath;
-use crate::step::descends::Descends;
+use crate::step::descends::{Descends, DownStep};
 use serde_json::Value;
 use std::alloc::Global;
 use std::rc::Rc;
@@ -111,13 +112,11 @@ impl<'a> Descends for Spot<'a> {
     }
 
     #[inline]
-    fn go_to_item(way: &mut DescentPath<'a>, index: usize) -> Result<(), NoMemory> {
-        way.path.go_step_down(DownStep::Item(index))
-    }
-
-    #[inline]
-    fn go_to_member(way: &mut DescentPath<'a>, name: &'a String) -> Result<(), NoMemory> {
-        way.path.go_step_down(DownStep::Member(name))
+    fn go_down(way: &mut DescentPath<'a>, step: DownStep<&'a String>) -> Result<(), NoMemory>
+        ensures start { OnOk result (way.new.0 ≡ way.old.0) }
+        ensures steps { OnOk result (way.new.1 ≡ way.old.1 ++ (elim step.entry [ Item i ↦ by_index i | Member k ↦ by_name (string_bytes k.now) ]) ∷ []) }
+    {
+        way.path.go_step_down(step)
     }
 
     #[inline]

@@ -5,21 +5,21 @@ ghost use Rattle.std.specs.Prelude.{◌≡◌, ◌++◌, ◌∷◌, [], map, tru
 ghost use Rattle.serde_json.specs.Data.{array, object};
 ghost use Rattle.jsonpath_nodes.specs.plan.Ascending.{first_difference_ascends, Ascend};
 ghost use Rattle.jsonpath_nodes.specs.plan.Containers.{some_container};
-ghost use Rattle.jsonpath_nodes.specs.plan.Way.{down_step, way_stand, Stays};
+ghost use Rattle.jsonpath_nodes.specs.plan.Way.{way_stand, Stays};
 ghost use Rattle.jsonpath_nodes.specs.place.Location.{Location as Place, flat, flat_items};
 ghost use Rattle.jsonpath_nodes.specs.place.Mark.{MarksGain};
-ghost use Rattle.jsonpath_nodes.specs.place.Order.{IsDocument, AreDocuments};
+ghost use Rattle.jsonpath_nodes.specs.place.Order.{IsDocument};
 ghost use Rattle.jsonpath_nodes.specs.place.Owned.{owned_steps};
 ghost use Rattle.jsonpath_nodes.specs.place.SpotPlace.{LeadsBy, location_of, sight_of};
-ghost use Rattle.jsonpath_nodes.specs.step.Candidates.{candidates_below, flat_members, in_objects, in_objects_items};
+ghost use Rattle.jsonpath_nodes.specs.step.Candidates.{candidates_below, flat_members, in_objects};
 ghost use Rattle.jsonpath_nodes.specs.step.Steps.{each_once};
 
 use crate::memory::NoMemory;
 use crate::place::location::{LocStep, Location};
 use crate::place::spot::Spot;
 use crate::step::child_lookup::is_container;
-use crate::step::descend::{DownStep, go_down};
-use crate::step::descends::Descends;
+use crate::step::descends::{Descends, DownStep};
+use crate::step::gather::{Gathered, add_at_or_below};
 use crate::tree::Tree;
 use std::alloc::Global;
 use std::cmp::Ordering;
@@ -62,7 +62,7 @@ fn add_flattened_items<M: Descends>(
     let mut i = 0;
     while let Some(item) = <M::Tree as Tree>::next_item(&mut left) {
         if let Some(inner) = item.as_array() {
-            M::go_to_item(way, i)?;
+            M::go_down(way, DownStep::Item(i))?;
             add_flattened_items::<M>(inner, way, out)?;
             M::go_back(way);
         } else {
@@ -75,7 +75,7 @@ fn add_flattened_items<M: Descends>(
 
 // Adds what is no array and is reached through arrays alone from each member of the object where the descent is: the
 // member itself, where it is no array. It answers whether a member is an array or an object.
-fn add_flattened_members<M: Descends>(
+pub(crate) fn add_flattened_members<M: Descends>(
     members: <M::Tree as Tree>::Object,
     way: &mut M::Way,
     out: &mut Vec<M>,
@@ -89,7 +89,7 @@ fn add_flattened_members<M: Descends>(
     let mut left = <M::Tree as Tree>::each_member(members);
     while let Some((name, member)) = <M::Tree as Tree>::next_member(&mut left) {
         if let Some(inner) = member.as_array() {
-            M::go_to_member(way, name)?;
+            M::go_down(way, DownStep::Member(name))?;
             add_flattened_items::<M>(inner, way, out)?;
             M::go_back(way);
         } else {
@@ -113,29 +113,16 @@ pub(crate) fn add_candidates_below<M: Descends>(
     ensures gains { OnOk result (MarksGain M.located M.stand M.content candidates_below (M.stand node.now) (M.content node.now) out.old.items out.new.items) }
     ensures document { OnOk result (IsDocument (M.content node.now)) }
 {
+    let value = node.tree();
     let mut way = node.way_from(alloc)?;
-    add_candidates_of_value::<M>(node.tree(), &mut way, out)
-}
-
-// The same from the value where the descent is.
-#[inline(always)]
-fn add_candidates_of_value<M: Descends>(
-    value: M::Tree,
-    way: &mut M::Way,
-    out: &mut Vec<M>,
-) -> Result<(), NoMemory>
-    ensures gains { OnOk result (MarksGain M.located M.stand M.content candidates_below (way_stand M.located (M.start way.old) (M.steps way.old)) (M.Tree.content value) out.old.items out.new.items) }
-    ensures document { OnOk result (IsDocument (M.Tree.content value)) }
-{
     if let Some(items) = value.as_array() {
-        add_flattened_items::<M>(items, way, out)?;
+        add_flattened_items::<M>(items, &mut way, out)?;
     }
-    add_in_objects::<M>(value, way, out)
+    add_in_objects::<M>(value, &mut way, out)
 }
 
 // Adds a filter's candidates in each object at or below the value where the descent is, an object's before those of the
 // objects below it. In an object they are what is no array and is reached through arrays alone from a member.
-#[cycle(in_objects)]
 #[inline(always)]
 fn add_in_objects<M: Descends>(
     value: M::Tree,
@@ -143,80 +130,9 @@ fn add_in_objects<M: Descends>(
     out: &mut Vec<M>,
 ) -> Result<(), NoMemory>
     ensures gains { OnOk result (MarksGain M.located M.stand M.content in_objects (way_stand M.located (M.start way.old) (M.steps way.old)) (M.Tree.content value) out.old.items out.new.items) }
-    ensures stays { OnOk result (Stays M.located (M.start way.old) (M.steps way.old) (M.start way.new) (M.steps way.new)) }
     ensures document { OnOk result (IsDocument (M.Tree.content value)) }
 {
-    if let Some(members) = value.as_object() {
-        add_in_object_and_below::<M>(members, way, out)
-    } else if let Some(items) = value.as_array() {
-        add_in_objects_of_items::<M>(items, way, out)
-    } else {
-        Ok(())
-    }
-}
-
-// The same of a child of the container where the descent is.
-#[cycle(in_objects)]
-#[inline(always)]
-fn add_in_objects_of_child<M: Descends>(
-    value: M::Tree,
-    step: DownStep<<M::Tree as Tree>::Name>,
-    way: &mut M::Way,
-    out: &mut Vec<M>,
-) -> Result<(), NoMemory>
-    ensures gains { OnOk result (MarksGain M.located M.stand M.content in_objects (way_stand M.located (M.start way.old) (M.steps way.old ++ down_step M.Tree.name_bytes step ∷ [])) (M.Tree.content value) out.old.items out.new.items) }
-    ensures stays { OnOk result (Stays M.located (M.start way.old) (M.steps way.old) (M.start way.new) (M.steps way.new)) }
-    ensures document { OnOk result (IsDocument (M.Tree.content value)) }
-{
-    if is_container(value) {
-        go_down::<M>(way, step)?;
-        add_in_objects::<M>(value, way, out)?;
-        M::go_back(way);
-    }
-    Ok(())
-}
-
-// The same of the items of the array where the descent is.
-#[cycle(in_objects)]
-fn add_in_objects_of_items<M: Descends>(
-    items: <M::Tree as Tree>::Array,
-    way: &mut M::Way,
-    out: &mut Vec<M>,
-) -> Result<(), NoMemory>
-    ensures gains { OnOk result (MarksGain M.located M.stand M.content (λ d. in_objects_items 0 (M.Tree.items items)) (way_stand M.located (M.start way.old) (M.steps way.old)) (array (M.Tree.items items)) out.old.items out.new.items) }
-    ensures stays { OnOk result (Stays M.located (M.start way.old) (M.steps way.old) (M.start way.new) (M.steps way.new)) }
-    ensures documents { OnOk result (AreDocuments (M.Tree.items items)) }
-{
-    // Also says that the indexes fit.
-    let _len = <M::Tree as Tree>::len(items);
-    let mut left = <M::Tree as Tree>::each_item(items);
-    let mut i = 0;
-    while let Some(item) = <M::Tree as Tree>::next_item(&mut left) {
-        add_in_objects_of_child::<M>(item, DownStep::Item(i), way, out)?;
-        i += 1;
-    }
-    Ok(())
-}
-
-// The same of the object where the descent is, and then of each object below it.
-#[cycle(in_objects)]
-fn add_in_object_and_below<M: Descends>(
-    members: <M::Tree as Tree>::Object,
-    way: &mut M::Way,
-    out: &mut Vec<M>,
-) -> Result<(), NoMemory>
-    ensures gains { OnOk result (MarksGain M.located M.stand M.content in_objects (way_stand M.located (M.start way.old) (M.steps way.old)) (object (M.Tree.members members)) out.old.items out.new.items) }
-    ensures stays { OnOk result (Stays M.located (M.start way.old) (M.steps way.old) (M.start way.new) (M.steps way.new)) }
-    ensures document { OnOk result (IsDocument (object (M.Tree.members members))) }
-{
-    let holds = add_flattened_members::<M>(members, way, out)?;
-    // Made in both cases, since it tells that the names ascend.
-    let mut left = <M::Tree as Tree>::each_member(members);
-    if holds {
-        while let Some((name, member)) = <M::Tree as Tree>::next_member(&mut left) {
-            add_in_objects_of_child::<M>(member, DownStep::Member(name), way, out)?;
-        }
-    }
+    add_at_or_below::<M>(value, way, &Gathered::Flattened, out)?;
     Ok(())
 }
 

@@ -142,8 +142,7 @@ fn add_item_at_written_index<M: Descends>(
     ensures { OnOk result (MarksGain M.located M.stand M.content (single_steps (nth n)) (M.items_stand here.now) (array (M.Tree.items items)) out.old.items out.new.items) }
 {
     let at = abs_index(n, <M::Tree as Tree>::len(items));
-    add_item_at_index(items, here, at, out)?;
-    Ok(())
+    add_item_at_index(items, here, at, out)
 }
 
 // Adds to a list the items at the indexes of a union, in the union's order; what is not there is left out.

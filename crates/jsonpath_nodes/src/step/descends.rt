@@ -4,11 +4,18 @@ ghost use Rattle.std.specs.Prelude.{◌≡◌, [], ◌∷◌, ◌++◌, Bool, Li
 ghost use Rattle.serde_json.specs.Data.{Data};
 ghost use Rattle.jsonpath_nodes.specs.place.Location.{Location, Step, name as by_name, index as by_index};
 ghost use Rattle.jsonpath_nodes.specs.place.Mark.{MarksGainOne, kept_location, shown};
-ghost use Rattle.jsonpath_nodes.specs.plan.Way.{way_stand, AreSame, Stays, without_last};
+ghost use Rattle.jsonpath_nodes.specs.plan.Way.{down_step, way_stand, AreSame, Stays, without_last};
 
 use crate::memory::NoMemory;
 use crate::tree::Tree;
 use std::alloc::Global;
+
+// A step down, to an item of an array or to a member of an object.
+#[derive(Clone, Copy)]
+pub enum DownStep<N> {
+    Item(usize),
+    Member(N),
+}
 
 // A node from which a step leads on. What it keeps of its location is shared by the nodes of its children. The way of a
 // descent is what the descent keeps of the location where it is.
@@ -83,15 +90,13 @@ pub trait Descends: Drop + Sized {
     fn way_from(&self, alloc: Global) -> Result<Self::Way, NoMemory>
         ensures { IfOk result (λ way. way_stand located (start way) (steps way) ≡ stand self.now) };
 
-    // Goes on to an item.
-    fn go_to_item(way: &mut Self::Way, index: usize) -> Result<(), NoMemory>
+    // Goes on by a step.
+    fn go_down(
+        way: &mut Self::Way,
+        step: DownStep<<Self::Tree as Tree>::Name>,
+    ) -> Result<(), NoMemory>
         ensures start { OnOk result (start way.new ≡ start way.old) }
-        ensures steps { OnOk result (AreSame located (steps way.new) (steps way.old ++ by_index index ∷ [])) };
-
-    // Goes on to a member.
-    fn go_to_member(way: &mut Self::Way, name: <Self::Tree as Tree>::Name) -> Result<(), NoMemory>
-        ensures start { OnOk result (start way.new ≡ start way.old) }
-        ensures steps { OnOk result (AreSame located (steps way.new) (steps way.old ++ by_name (Self.Tree.name_bytes name) ∷ [])) };
+        ensures steps { OnOk result (AreSame located (steps way.new) (steps way.old ++ down_step Self.Tree.name_bytes step ∷ [])) };
 
     // Takes the last step back.
     fn go_back(way: &mut Self::Way)
@@ -183,12 +188,10 @@ impl<T: Tree> Descends for T {
     }
 
     #[inline(always)]
-    fn go_to_item(_way: &mut (), _index: usize) -> Result<(), NoMemory> {
-        Ok(())
-    }
-
-    #[inline(always)]
-    fn go_to_member(_way: &mut (), _name: T::Name) -> Result<(), NoMemory> {
+    fn go_down(_way: &mut (), step: DownStep<T::Name>) -> Result<(), NoMemory>
+        ensures start { OnOk result (way_stand false [] [] ≡ []) }
+        ensures steps { OnOk result (AreSame false [] (down_step T.name_bytes step ∷ [])) }
+    {
         Ok(())
     }
 

@@ -207,8 +207,7 @@ impl ValueWalker {
         if candidates::are_ordered_and_disjoint(alloc, spots)? {
             return Ok(found);
         }
-        let kept = candidates::first_of_each_location(alloc, found)?;
-        Ok(kept)
+        candidates::first_of_each_location(alloc, found)
     }
 
     /// The candidates of a filter that comes after `..` and uses a relative query with at least one segment: the

@@ -1,5 +1,5 @@
-use Rattle.jsonpath_nodes.proofs.step.AscendingLemmas.{located}
+use Rattle.jsonpath_nodes.proofs.place.OrderedSpotLemmas.{locations-StandAt}
 use Rattle.jsonpath_nodes.proofs.laws.spots_show_their_locations.Goals as goal
 
 pub returns : goal.returns
-returns c = located
+returns c = locations-StandAt

@@ -9,7 +9,7 @@ use crate::place::trail::{
     HeldPathToContainer, Trail, clone_held_path, held_path_to_container, held_path_to_item,
     lend_path_to_object, member_trail_of_path_to_object, trail_of_held_path,
 };
-use crate::step::descend::DownStep;
+use crate::step::descends::DownStep;
 use std::alloc::Global;
 use std::marker::Model;
 use std::rc::Rc;

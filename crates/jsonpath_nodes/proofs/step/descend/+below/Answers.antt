@@ -1,13 +1,11 @@
-use Rattle.std.proofs.Common.{◌≡◌, ◌∷◌, [], ◌++◌, map, Some, refl, ap, ◌∙◌, rules}
-use Rattle.serde_json.specs.Data.{array, object}
+use Rattle.std.proofs.Common.{◌≡◌, ◌∷◌, [], ◌++◌, map, Some, ap, ◌∙◌, rules}
 use Rattle.jsonpath_nodes.specs.place.Location.{Location, below, below_items, below_members, index, name}
 use Rattle.jsonpath_nodes.specs.place.Mark.{kept_location, look_kept_from, shown}
 use Rattle.jsonpath_nodes.specs.plan.Containers.{descendants}
 use Rattle.jsonpath_nodes.specs.plan.Way.{way_stand}
-use Rattle.jsonpath_nodes.proofs.place.KeptLemmas.{seen_items, seen_members, items_end, members_end, of_kids}
-use Rattle.jsonpath_nodes.proofs.place.SightLemmas.{items_below-sights, members_below-sights}
+use Rattle.jsonpath_nodes.proofs.place.KeptLemmas.{items_gained, members_gained}
 use Rattle.jsonpath_nodes.proofs.place.WayLemmas.{item_next, member_next, node_then_descendants, child-stays, stays_on, stays-stand}
-use Rattle.jsonpath_nodes.proofs.step.ChildLemmas.{item_kids, member_kids}
+use Rattle.jsonpath_nodes.proofs.step.ChildLemmas.{below_items-kids, below_members-kids}
 use Rattle.jsonpath_nodes.proofs.step.descend.+below.Goals as goal
 
 pub add_items_and_all_below-loop-item-preserved : goal.add_items_and_all_below-loop-item-preserved
@@ -37,10 +35,8 @@ add_items_and_all_below-returns-clause-gains g t c =
     let b = g.M.Descends.located in
     let all = g.M.Tree.Tree.items c.args.items in
     let first = c.items_here.new.way in
-    let l = way_stand b (g.M.Descends.start c.args.way.now) (g.M.Descends.steps c.args.way.now) in
     let same = stays-stand b (g.M.Descends.start c.args.way.now) (g.M.Descends.start first) (g.M.Descends.steps c.args.way.now) (g.M.Descends.steps first) c.in_ok-here.ensures.stays in
-    items_end (seen_items b below (way_stand b (g.M.Descends.start first) (g.M.Descends.steps first))) c.loop-item.i (g.M.Tree.Tree.items_left c.loop-item.left) all _ _ _ (λ n. refl) c.in_default.ensures c.loop-item.invariant.gains
-    (ap (λ (m : Location). seen_items b below m 0 all) same ∙ of_kids b below l (array all) (item_kids 0 all) (below_items 0 all) (items_below-sights l all))
+    items_gained b below _ _ c.loop-item.i (g.M.Tree.Tree.items_left c.loop-item.left) all _ _ (below_items 0 all) same c.in_default.ensures c.loop-item.invariant.gains (below_items-kids 0 all)
 
 pub add_members_and_all_below-loop-name-preserved : goal.add_members_and_all_below-loop-name-preserved
 add_members_and_all_below-loop-name-preserved g t c =
@@ -70,7 +66,5 @@ add_members_and_all_below-returns-clause-gains g t c =
     let b = g.M.Descends.located in
     let all = g.M.Tree.Tree.members c.args.members in
     let first = c.members_here.new.way in
-    let l = way_stand b (g.M.Descends.start c.args.way.now) (g.M.Descends.steps c.args.way.now) in
     let same = stays-stand b (g.M.Descends.start c.args.way.now) (g.M.Descends.start first) (g.M.Descends.steps c.args.way.now) (g.M.Descends.steps first) c.in_ok-here.ensures.stays in
-    members_end (seen_members b below (way_stand b (g.M.Descends.start first) (g.M.Descends.steps first))) (g.M.Tree.Tree.members_left c.loop-name.left) all _ _ _ refl c.in_default.ensures c.loop-name.invariant.gains
-    (ap (λ (m : Location). seen_members b below m all) same ∙ of_kids b below l (object all) (member_kids all) (below_members all) (members_below-sights l all c.each_member-left.ensures.ordered))
+    members_gained b below _ _ (g.M.Tree.Tree.members_left c.loop-name.left) all _ _ (below_members all) c.each_member-left.ensures.ordered same c.in_default.ensures c.loop-name.invariant.gains (below_members-kids all)

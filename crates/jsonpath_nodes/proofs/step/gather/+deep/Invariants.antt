@@ -2,11 +2,11 @@ use Rattle.std.proofs.Common.{◌≡◌, ◌≤◌, ◌+◌, ◌*◌, ◌++◌, 
 use Rattle.serde_json.specs.Data.{depth, items_depth, members_depth}
 use Rattle.serde_json.specs.Events.{items_len, members_len}
 use Rattle.jsonpath_nodes.specs.place.Mark.{shown}
+use Rattle.jsonpath_nodes.specs.place.Order.{AreDocuments, HoldDocuments}
 use Rattle.jsonpath_nodes.specs.plan.Way.{way_stand, Stays}
-use Rattle.jsonpath_nodes.specs.step.PlainSteps.{plain_step_of}
-use Rattle.jsonpath_nodes.specs.step.Steps.{deep}
+use Rattle.jsonpath_nodes.specs.plan.Gathered.{gathered_at, all_gathered}
 use Rattle.jsonpath_nodes.proofs.place.KeptLemmas.{seen_items, seen_members}
-use Rattle.jsonpath_nodes.proofs.step.descend.+deep.Given as goal
+use Rattle.jsonpath_nodes.proofs.step.gather.+deep.Given as goal
 
 abbrev pub decreases-add_at_or_below : goal.decreases-add_at_or_below
 decreases-add_at_or_below g l = 3 * depth (g.M.Tree.Tree.content l.value) + 1
@@ -28,8 +28,9 @@ invariant-add_at_or_below_array-loop-item g l =
     let place = way_stand b (g.M.Descends.start l.initial.way) (g.M.Descends.steps l.initial.way) in
     let show = shown g.M.Descends.stand g.M.Descends.content in
     record {
-      gains : map show l.out.items ++ seen_items b (deep (plain_step_of l.plain)) place l.i left ≡ map show l.initial.out.items ++ seen_items b (deep (plain_step_of l.plain)) place 0 all;
+      gains : map show l.out.items ++ seen_items b (all_gathered (gathered_at l.what)) place l.i left ≡ map show l.initial.out.items ++ seen_items b (all_gathered (gathered_at l.what)) place 0 all;
       stays : Stays b (g.M.Descends.start l.initial.way) (g.M.Descends.steps l.initial.way) (g.M.Descends.start l.way) (g.M.Descends.steps l.way);
+      documents : AreDocuments left → AreDocuments all;
       count : l.i + items_len left ≡ items_len all;
       within : items_depth left ≤ items_depth all;
     }
@@ -45,8 +46,9 @@ invariant-add_at_or_below_object-loop-name g l =
     let place = way_stand b (g.M.Descends.start l.initial.way) (g.M.Descends.steps l.initial.way) in
     let show = shown g.M.Descends.stand g.M.Descends.content in
     record {
-      gains : map show l.out.items ++ seen_members b (deep (plain_step_of l.plain)) place left ≡ map show l.initial.out.items ++ seen_members b (deep (plain_step_of l.plain)) place all;
+      gains : map show l.out.items ++ seen_members b (all_gathered (gathered_at l.what)) place left ≡ map show l.initial.out.items ++ seen_members b (all_gathered (gathered_at l.what)) place all;
       stays : Stays b (g.M.Descends.start l.initial.way) (g.M.Descends.steps l.initial.way) (g.M.Descends.start l.way) (g.M.Descends.steps l.way);
+      documents : HoldDocuments left → HoldDocuments all;
       within : members_depth left ≤ members_depth all;
     }
 
