@@ -1,11 +1,11 @@
-//! `Halt`: why the machine or a walk stops without an answer, and how it is made of an error.
+//! `Halt`: why the machine stops without an answer where it follows references, and how it is made of an error.
 
 ghost use Rattle.std.specs.Prelude.{◌≡◌};
 
 use jsonpath_nodes::NoMemory;
 use std::alloc::{AllocError, AllocFailed};
 
-// Why the machine or a walk stops without an answer.
+// Why the machine stops without an answer where it follows references.
 #[derive(Clone, Copy, Debug, PartialEq, Eq, Drop)]
 pub enum Halt {
     OutOfMemory,

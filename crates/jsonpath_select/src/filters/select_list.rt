@@ -2,7 +2,7 @@
 //! If the locations before a filter are known to be apart, no candidate can come twice, and duplicates are not
 //! looked for.
 
-ghost use Rattle.std.specs.Prelude.{◌≡◌, true, List, filter, IfOk, IfErr, IsTrue};
+ghost use Rattle.std.specs.Prelude.{List, filter, IfOk, IsTrue};
 ghost use Rattle.std.specs.List.{list_all};
 ghost use Rattle.serde_json.specs.View.{view};
 ghost use Rattle.jsonpath_paths.specs.tree.Tree.{Condition, Path, PathSteps};
@@ -16,9 +16,7 @@ ghost use Rattle.jsonpath_select.specs.plan.Machine.{gathered};
 ghost use Rattle.jsonpath_select.specs.plan.NextFilter.{CodesCondition, CodesSteps};
 ghost use Rattle.jsonpath_select.specs.plan.Standing.{along, AreStanding, IsStanding};
 ghost use Rattle.jsonpath_select.specs.plan.Unfiltered.{is_plain_step};
-ghost use Rattle.jsonpath_select.specs.declared.error.halt.Halt.TheVariants.{OutOfMemory};
 
-use crate::error::halt::Halt;
 use crate::filters::next_filter::{
     FilterApproach, condition_end, instructions_after_condition, next_filter,
 };
@@ -40,10 +38,9 @@ impl<'a, 't> Machine<'a, 't> {
     pub(crate) fn select_by_tokens<M: Carried<'a>>(
         &self,
         tokens: &[ParseToken],
-    ) -> Result<Vec<M>, Halt>
+    ) -> Result<Vec<M>, M::Stop>
         requires { IsSomePath self.now.text.now tokens.now }
-        ensures ok { IfOk result (λ found. (p : Path) → IsListOf self.now.text.now p tokens.now → MarksStandAt M.located M.stand M.content (view self.now.root.now) (sel self.now.text.now (view self.now.root.now) p) found.items) }
-        ensures refused { IfErr result (λ e. M.located ≡ true → e ≡ OutOfMemory) }
+        ensures { IfOk result (λ found. (p : Path) → IsListOf self.now.text.now p tokens.now → MarksStandAt M.located M.stand M.content (view self.now.root.now) (sel self.now.text.now (view self.now.root.now) p) found.items) }
     {
         let code = instructions_of_token_list(self.alloc, tokens)?;
         let root = self.root_marks()?;
@@ -56,12 +53,11 @@ impl<'a, 't> Machine<'a, 't> {
         &self,
         left: &[Instruction<'_>],
         from: StandingMarks<M>,
-    ) -> Result<Vec<M>, Halt>
+    ) -> Result<Vec<M>, M::Stop>
         requires steps { (ss : PathSteps) × CodesSteps left.now ss }
         requires there { (ls : List Location) × AreStanding M.located M.stand M.content (view self.now.root.now) ls from }
-        ensures ok { IfOk result (λ found. (ss : PathSteps) (ls : List Location) → CodesSteps left.now ss → AreStanding M.located M.stand M.content (view self.now.root.now) ls from
+        ensures { IfOk result (λ found. (ss : PathSteps) (ls : List Location) → CodesSteps left.now ss → AreStanding M.located M.stand M.content (view self.now.root.now) ls from
             → MarksStandAt M.located M.stand M.content (view self.now.root.now) (follow self.now.text.now (view self.now.root.now) ss ls) found.items) }
-        ensures refused { IfErr result (λ e. M.located ≡ true → e ≡ OutOfMemory) }
     {
         let shallow = instruction_count_after_last_filter_with_own_step(left);
         let mut rest = left;
@@ -82,13 +78,12 @@ impl<'a, 't> Machine<'a, 't> {
         condition: &[Instruction<'_>],
         asks_standing: bool,
         from: StandingMarks<M>,
-    ) -> Result<StandingMarks<M>, Halt>
+    ) -> Result<StandingMarks<M>, M::Stop>
         requires steps { IsTrue (list_all is_plain_step way.steps.now) }
         requires is { (f : Condition) × CodesCondition condition.now f }
         requires there { (ls : List Location) × AreStanding M.located M.stand M.content (view self.now.root.now) ls from }
-        ensures ok { IfOk result (λ found. (f : Condition) (ls : List Location) → CodesCondition condition.now f → AreStanding M.located M.stand M.content (view self.now.root.now) ls from
+        ensures { IfOk result (λ found. (f : Condition) (ls : List Location) → CodesCondition condition.now f → AreStanding M.located M.stand M.content (view self.now.root.now) ls from
             → AreStanding M.located M.stand M.content (view self.now.root.now) (filter (λ l. holds self.now.text.now (view self.now.root.now) f l) (gathered (view self.now.root.now) way.entry.leaves way.entry.deep (along self.now.text.now (view self.now.root.now) way.entry.steps.now ls))) found) }
-        ensures refused { IfErr result (λ e. M.located ≡ true → e ≡ OutOfMemory) }
     {
         let led = self.marks_before_filter(way.steps, asks_standing, from)?;
         let candidates = self.candidates_of_places(way, led)?;
@@ -102,10 +97,9 @@ impl<'a, 't> Machine<'a, 't> {
         steps: &[Instruction<'_>],
         asks_standing: bool,
         from: StandingMarks<M>,
-    ) -> Result<StandingMarks<M>, Halt>
+    ) -> Result<StandingMarks<M>, M::Stop>
         requires { IsTrue (list_all is_plain_step steps.now) }
-        ensures ok { IfOk result (λ led. (ls : List Location) → AreStanding M.located M.stand M.content (view self.now.root.now) ls from → AreStanding M.located M.stand M.content (view self.now.root.now) (along self.now.text.now (view self.now.root.now) steps.now ls) led) }
-        ensures refused { IfErr result (λ e. M.located ≡ true → e ≡ OutOfMemory) }
+        ensures { IfOk result (λ led. (ls : List Location) → AreStanding M.located M.stand M.content (view self.now.root.now) ls from → AreStanding M.located M.stand M.content (view self.now.root.now) (along self.now.text.now (view self.now.root.now) steps.now ls) led) }
     {
         if asks_standing {
             return self.follow_steps_with_standing(steps, from);
@@ -122,9 +116,8 @@ impl<'a, 't> Machine<'a, 't> {
         &self,
         way: FilterApproach<'_, '_>,
         led: StandingMarks<M>,
-    ) -> Result<StandingMarks<M>, Halt>
-        ensures ok { IfOk result (λ found. (ls : List Location) → AreStanding M.located M.stand M.content (view self.now.root.now) ls led → AreStanding M.located M.stand M.content (view self.now.root.now) (gathered (view self.now.root.now) way.entry.leaves way.entry.deep ls) found) }
-        ensures refused { IfErr result (λ e. M.located ≡ true → e ≡ OutOfMemory) }
+    ) -> Result<StandingMarks<M>, M::Stop>
+        ensures { IfOk result (λ found. (ls : List Location) → AreStanding M.located M.stand M.content (view self.now.root.now) ls led → AreStanding M.located M.stand M.content (view self.now.root.now) (gathered (view self.now.root.now) way.entry.leaves way.entry.deep ls) found) }
     {
         apart_locations_meet_candidates_once();
         match (way.leaves, way.deep) {
@@ -148,10 +141,9 @@ impl<'a, 't> Machine<'a, 't> {
         &self,
         standing: Standing,
         marks: &[M],
-    ) -> Result<Vec<M>, Halt>
-        ensures ok { IfOk result (λ found. (ls : List Location) → IsStanding standing ls → MarksStandAt M.located M.stand M.content (view self.now.root.now) ls marks.now
+    ) -> Result<Vec<M>, M::Stop>
+        ensures { IfOk result (λ found. (ls : List Location) → IsStanding standing ls → MarksStandAt M.located M.stand M.content (view self.now.root.now) ls marks.now
             → MarksStandAt M.located M.stand M.content (view self.now.root.now) (flattened (view self.now.root.now) (step (view self.now.root.now) every (all_below (view self.now.root.now) ls))) found.items) }
-        ensures refused { IfErr result (λ e. M.located ≡ true → e ≡ OutOfMemory) }
     {
         if marks.len() < 2 || !standing.are_disjoint() {
             return M::candidates_below_once(self.alloc, marks);
@@ -167,12 +159,11 @@ impl<'a, 't> Machine<'a, 't> {
         &self,
         condition: &[Instruction<'_>],
         candidates: StandingMarks<M>,
-    ) -> Result<StandingMarks<M>, Halt>
+    ) -> Result<StandingMarks<M>, M::Stop>
         requires is { (f : Condition) × CodesCondition condition.now f }
         requires there { (cs : List Location) × AreStanding M.located M.stand M.content (view self.now.root.now) cs candidates }
-        ensures ok { IfOk result (λ found. (f : Condition) (cs : List Location) → CodesCondition condition.now f → AreStanding M.located M.stand M.content (view self.now.root.now) cs candidates
+        ensures { IfOk result (λ found. (f : Condition) (cs : List Location) → CodesCondition condition.now f → AreStanding M.located M.stand M.content (view self.now.root.now) cs candidates
             → AreStanding M.located M.stand M.content (view self.now.root.now) (filter (λ l. holds self.now.text.now (view self.now.root.now) f l) cs) found) }
-        ensures refused { IfErr result (λ e. M.located ≡ true → e ≡ OutOfMemory) }
     {
         let standing = candidates.standing.after_filter_or_indexes();
         let all = marks_shared_by_candidates(self.alloc, candidates.marks)?;

@@ -1,7 +1,7 @@
 //! Plain steps, one after the other: what they select, how the selected locations are related, and the filter after the
 //! steps, for all its candidates at once.
 
-ghost use Rattle.std.specs.Prelude.{◌≡◌, List, [], ◌∷◌, false, true, IfOk, IfErr, IfSome, IsTrue};
+ghost use Rattle.std.specs.Prelude.{◌≡◌, List, [], ◌∷◌, false, true, IfOk, IfSome, IsTrue};
 ghost use Rattle.std.specs.List.{list_all};
 ghost use Rattle.serde_json.specs.View.{view};
 ghost use Rattle.jsonpath_nodes.specs.place.Location.{Location};
@@ -11,9 +11,7 @@ ghost use Rattle.jsonpath_select.specs.plan.Machine.{stepped};
 ghost use Rattle.jsonpath_select.specs.plan.Stack.{ShowsFound};
 ghost use Rattle.jsonpath_select.specs.plan.Standing.{along, for_all, AreStanding, IsStanding, LeadsToFilter, LeadsOn};
 ghost use Rattle.jsonpath_select.specs.plan.Unfiltered.{is_plain_step};
-ghost use Rattle.jsonpath_select.specs.declared.error.halt.Halt.TheVariants.{OutOfMemory};
 
-use crate::error::halt::Halt;
 use crate::machine::instruction::Instruction;
 use crate::machine::machine::Machine;
 use crate::machine::standing::{Standing, StandingMarks};
@@ -74,10 +72,9 @@ impl<'a, 't> Machine<'a, 't> {
         &self,
         steps: &[Instruction<'_>],
         from: Vec<M>,
-    ) -> Result<Vec<M>, Halt>
+    ) -> Result<Vec<M>, M::Stop>
         requires { IsTrue (list_all is_plain_step steps.now) }
-        ensures ok { IfOk result (λ found. MarksLeadBy M.located M.stand M.content (λ doc ls. along self.now.text.now doc steps.now ls) from.items found.items) }
-        ensures refused { IfErr result (λ e. M.located ≡ true → e ≡ OutOfMemory) }
+        ensures { IfOk result (λ found. MarksLeadBy M.located M.stand M.content (λ doc ls. along self.now.text.now doc steps.now ls) from.items found.items) }
     {
         let mut marks = from;
         for step in steps {
@@ -94,10 +91,9 @@ impl<'a, 't> Machine<'a, 't> {
         &self,
         steps: &[Instruction<'_>],
         from: StandingMarks<M>,
-    ) -> Result<StandingMarks<M>, Halt>
+    ) -> Result<StandingMarks<M>, M::Stop>
         requires { IsTrue (list_all is_plain_step steps.now) }
-        ensures ok { IfOk result (λ led. (ls : List Location) → AreStanding M.located M.stand M.content (view self.now.root.now) ls from → AreStanding M.located M.stand M.content (view self.now.root.now) (along self.now.text.now (view self.now.root.now) steps.now ls) led) }
-        ensures refused { IfErr result (λ e. M.located ≡ true → e ≡ OutOfMemory) }
+        ensures { IfOk result (λ led. (ls : List Location) → AreStanding M.located M.stand M.content (view self.now.root.now) ls from → AreStanding M.located M.stand M.content (view self.now.root.now) (along self.now.text.now (view self.now.root.now) steps.now ls) led) }
     {
         let mut led = from;
         for step in steps {
@@ -128,9 +124,8 @@ impl<'a, 't> Machine<'a, 't> {
         leaves: bool,
         token: &ParseToken,
         marks: &[M],
-    ) -> Result<Vec<M>, Halt>
-        ensures ok { IfOk result (λ found. MarksLeadBy M.located M.stand M.content (λ doc ls. stepped self.now.text.now doc leaves token.now ls) marks.now found.items) }
-        ensures refused { IfErr result (λ e. M.located ≡ true → e ≡ OutOfMemory) }
+    ) -> Result<Vec<M>, M::Stop>
+        ensures { IfOk result (λ found. MarksLeadBy M.located M.stand M.content (λ doc ls. stepped self.now.text.now doc leaves token.now ls) marks.now found.items) }
     {
         Ok(marks_after_plain_step(self.alloc, self.text, leaves, token, marks)?)
     }
@@ -142,9 +137,8 @@ impl<'a, 't> Machine<'a, 't> {
         leaves: bool,
         token: &ParseToken,
         from: StandingMarks<M>,
-    ) -> Result<StandingMarks<M>, Halt>
-        ensures ok { IfOk result (λ led. (ls : List Location) → AreStanding M.located M.stand M.content (view self.now.root.now) ls from → AreStanding M.located M.stand M.content (view self.now.root.now) (stepped self.now.text.now (view self.now.root.now) leaves token.now ls) led) }
-        ensures refused { IfErr result (λ e. M.located ≡ true → e ≡ OutOfMemory) }
+    ) -> Result<StandingMarks<M>, M::Stop>
+        ensures { IfOk result (λ led. (ls : List Location) → AreStanding M.located M.stand M.content (view self.now.root.now) ls from → AreStanding M.located M.stand M.content (view self.now.root.now) (stepped self.now.text.now (view self.now.root.now) leaves token.now ls) led) }
     {
         let before = from.marks.as_slice();
         let marks = self.follow_step(leaves, token, before)?;
@@ -165,10 +159,9 @@ impl<'a, 't> Machine<'a, 't> {
     pub(crate) fn candidates_behind_steps_from_root<M: Carried<'a>>(
         &self,
         steps: &[Instruction<'_>],
-    ) -> Result<Found<M>, Halt>
+    ) -> Result<Found<M>, M::Stop>
         requires { IsTrue (list_all is_plain_step steps.now) }
-        ensures ok { IfOk result (λ found. ShowsFound M.located M.stand M.content (view self.now.root.now) (for_all (flattened (view self.now.root.now) (along self.now.text.now (view self.now.root.now) steps.now ([] ∷ [])))) found) }
-        ensures refused { IfErr result (λ e. M.located ≡ true → e ≡ OutOfMemory) }
+        ensures { IfOk result (λ found. ShowsFound M.located M.stand M.content (view self.now.root.now) (for_all (flattened (view self.now.root.now) (along self.now.text.now (view self.now.root.now) steps.now ([] ∷ [])))) found) }
     {
         let root = self.root_marks()?;
         let led = self.follow_steps_with_standing(steps, root)?;
@@ -184,9 +177,8 @@ impl<'a, 't> Machine<'a, 't> {
         &self,
         standing: Standing,
         marks: &[M],
-    ) -> Result<Vec<M>, Halt>
-        ensures ok { IfOk result (λ found. (ls : List Location) → IsStanding standing ls → MarksStandAt M.located M.stand M.content (view self.now.root.now) ls marks.now → MarksStandAt M.located M.stand M.content (view self.now.root.now) (flattened (view self.now.root.now) ls) found.items) }
-        ensures refused { IfErr result (λ e. M.located ≡ true → e ≡ OutOfMemory) }
+    ) -> Result<Vec<M>, M::Stop>
+        ensures { IfOk result (λ found. (ls : List Location) → IsStanding standing ls → MarksStandAt M.located M.stand M.content (view self.now.root.now) ls marks.now → MarksStandAt M.located M.stand M.content (view self.now.root.now) (flattened (view self.now.root.now) ls) found.items) }
     {
         if standing.are_apart() {
             apart_locations_meet_candidates_once();

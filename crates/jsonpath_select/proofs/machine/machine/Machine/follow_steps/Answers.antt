@@ -20,10 +20,10 @@ loop-step-preserved g c = λ doc ls stand.
     let next : stepped text doc c.in-Step.leaves c.in-Step.token.now led ≡ along text doc (take (i + 1) steps) ls =
     sym (along_next text doc steps i c.step-item.result c.in-Step.leaves c.in-Step.token ls c.loop-step-test.true c.step-item.is c.in-Step.is) in
     subst (λ (ms : List Location). MarksStandAt g.M.Mark.located g.M.Mark.stand g.M.Mark.content doc ms c.in_ok-marks.marks.items) next
-    (c.in_ok-marks.ensures.ok doc led (ap (map (shown g.M.Mark.stand g.M.Mark.content)) c.as_slice.ensures.value ∙ c.loop-step.invariant doc ls stand))
+    (c.in_ok-marks.ensures doc led (ap (map (shown g.M.Mark.stand g.M.Mark.content)) c.as_slice.ensures.value ∙ c.loop-step.invariant doc ls stand))
 
-pub returns-clause-ok : goal.returns-clause-ok
-returns-clause-ok g c = λ doc ls stand.
+pub returns : goal.returns
+returns g c = λ doc ls stand.
     let steps = c.args.steps.now in
     let end : c.loop-step.step-index ≡ length steps = omega arith in
     let all : take c.loop-step.step-index steps ≡ steps = ap (λ n. take n steps) end ∙ take-length steps in
