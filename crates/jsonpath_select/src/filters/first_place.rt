@@ -51,8 +51,9 @@ impl<'a, 't> Machine<'a, 't> {
         match next_filter(left) {
             Some((way, behind)) => {
                 let shallow = instruction_count_after_last_filter_with_own_step(left);
-                let led = self.marks_before_filter(way.steps, left.len() > shallow, root)?;
-                let candidates = self.candidates_of_places(way, led)?;
+                let asks_standing = left.len() > shallow;
+                let led = self.follow_steps(way.steps, asks_standing, root)?;
+                let candidates = self.candidates_of_places(way, asks_standing, led)?;
                 let end = condition_end(behind);
                 let starts = candidates.marks.as_slice();
                 let condition = Some(&behind[..end]);
@@ -60,8 +61,9 @@ impl<'a, 't> Machine<'a, 't> {
             }
             None => {
                 let last = left.len().saturating_sub(1);
-                let marks = self.follow_steps(&left[..last], root.marks)?;
-                self.first_in_slices(None, &left[last..], Standing::Unknown, marks.as_slice())
+                let led = self.follow_steps(&left[..last], false, root)?;
+                let starts = led.marks.as_slice();
+                self.first_in_slices(None, &left[last..], Standing::Unknown, starts)
             }
         }
     }

@@ -67,7 +67,8 @@ impl<'a, 't> Machine<'a, 't> {
             found = self.marks_kept_by_filter(way, &behind[..end], rest.len() > shallow, found)?;
             rest = instructions_after_condition(behind);
         }
-        self.follow_steps(rest, found.marks)
+        let led = self.follow_steps(rest, false, found)?;
+        Ok(led.marks)
     }
 
     // The marks that the next filter keeps, found from the marks before its plain steps, and, where `asks_standing` is
@@ -85,36 +86,17 @@ impl<'a, 't> Machine<'a, 't> {
         ensures { IfOk result (λ found. (f : Condition) (ls : List Location) → CodesCondition condition.now f → AreStanding M.located M.stand M.content (view self.now.root.now) ls from
             → AreStanding M.located M.stand M.content (view self.now.root.now) (filter (λ l. holds self.now.text.now (view self.now.root.now) f l) (gathered (view self.now.root.now) way.entry.leaves way.entry.deep (along self.now.text.now (view self.now.root.now) way.entry.steps.now ls))) found) }
     {
-        let led = self.marks_before_filter(way.steps, asks_standing, from)?;
-        let candidates = self.candidates_of_places(way, led)?;
+        let led = self.follow_steps(way.steps, asks_standing, from)?;
+        let candidates = self.candidates_of_places(way, asks_standing, led)?;
         self.keep_passing_with_standing(condition, candidates)
     }
 
-    // The marks to which the plain steps before a filter lead, and, where `asks_standing` is set, how their places
-    // stand to each other.
-    pub(crate) fn marks_before_filter<M: Carried<'a>>(
-        &self,
-        steps: &[Instruction<'_>],
-        asks_standing: bool,
-        from: StandingMarks<M>,
-    ) -> Result<StandingMarks<M>, M::Stop>
-        requires { IsTrue (list_all is_plain_step steps.now) }
-        ensures { IfOk result (λ led. (ls : List Location) → AreStanding M.located M.stand M.content (view self.now.root.now) ls from → AreStanding M.located M.stand M.content (view self.now.root.now) (along self.now.text.now (view self.now.root.now) steps.now ls) led) }
-    {
-        if asks_standing {
-            return self.follow_steps_with_standing(steps, from);
-        }
-        let marks = self.follow_steps(steps, from.marks)?;
-        Ok(StandingMarks {
-            standing: Standing::Unknown,
-            marks,
-        })
-    }
-
-    // The candidates of a filter, from the places that lead to it, and how they stand to each other.
+    // The candidates of a filter, from the places that lead to it, and, where `asks_standing` is set, how they stand to
+    // each other.
     pub(crate) fn candidates_of_places<M: Carried<'a>>(
         &self,
         way: FilterApproach<'_, '_>,
+        asks_standing: bool,
         led: StandingMarks<M>,
     ) -> Result<StandingMarks<M>, M::Stop>
         ensures { IfOk result (λ found. (ls : List Location) → AreStanding M.located M.stand M.content (view self.now.root.now) ls led → AreStanding M.located M.stand M.content (view self.now.root.now) (gathered (view self.now.root.now) way.entry.leaves way.entry.deep ls) found) }
@@ -122,7 +104,7 @@ impl<'a, 't> Machine<'a, 't> {
         apart_locations_meet_candidates_once();
         match (way.leaves, way.deep) {
             (false, false) => Ok(led),
-            (true, false) => self.follow_step_with_standing(true, &ParseToken::All, led),
+            (true, false) => Ok(self.follow_step(true, &ParseToken::All, asks_standing, led)?),
             (false, true) => Ok(StandingMarks {
                 standing: led.standing.after_flattening(),
                 marks: self.candidates_once_at(led.standing, led.marks.as_slice())?,

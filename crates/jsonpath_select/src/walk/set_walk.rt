@@ -25,11 +25,12 @@ use crate::tagged::kept_marks::keep_marks_at_indexes;
 use crate::tagged::marks::{Found, TaggedMarks};
 use crate::tagged::moves::{Move, candidates_of_filter, lead_marks_of_candidates};
 use crate::tagged::operand::Operand;
-use crate::tagged::shared_lists::list_count_for_candidates;
+use crate::tagged::shared_lists::{
+    copied_marks, list_count_for_candidates, marks_shared_by_candidates,
+};
 use crate::tagged::start_of_paths::{
     numbered_candidates, root_shared_by_candidates, start_of_path,
 };
-use crate::tagged::tag_lists::fill_tags;
 use crate::walk::own_step::condition_has_own_step;
 use crate::walk::tree_walk::Walk;
 use jsonpath_nodes::laws::{
@@ -295,11 +296,7 @@ fn spots_as_candidates<'a>(
 ) -> Result<TaggedMarks<Spot<'a>>, NoMemory>
     ensures { IfOk result (λ found. (doc : Data) (ls : List Location) → StandAt doc ls spots.now → Shows true location_of value_of doc (tagged 0 ls) found) }
 {
-    let mut marks = Vec::with_capacity(alloc, spots.len())?;
-    for spot in spots {
-        marks.push(spot.clone()?)?;
-    }
-    let mut tags = Vec::with_capacity(alloc, spots.len())?;
-    fill_tags(&mut tags, 0, marks.as_slice().len())?;
-    Ok(TaggedMarks { tags, marks })
+    let marks = copied_marks(alloc, spots)?;
+    let found = marks_shared_by_candidates(alloc, marks)?;
+    Ok(found.pairs)
 }

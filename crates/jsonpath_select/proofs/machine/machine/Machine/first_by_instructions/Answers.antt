@@ -34,8 +34,8 @@ first_in_slices-requires g c = λ k.
       ),
     )
 
-pub follow_steps-requires : goal.follow_steps-requires
-follow_steps-requires g c = λ k. ((refl, tt), (plain_split c.args.self.now.text.now (view c.args.self.now.root.now) c.saturating_sub-last.result c.args.left.now c.requires.0 c.requires.1 c.in-None.ensures.none).3)
+pub follow_steps-requires-in-None : goal.follow_steps-requires-in-None
+follow_steps-requires-in-None g c = λ k. ((refl, tt), (plain_split c.args.self.now.text.now (view c.args.self.now.root.now) c.saturating_sub-last.result c.args.left.now c.requires.0 c.requires.1 c.in-None.ensures.none).3)
 
 pub first_in_slices-requires-in-None : goal.first_in_slices-requires-in-None
 first_in_slices-requires-in-None g c = λ k.
@@ -50,7 +50,7 @@ first_in_slices-requires-in-None g c = λ k.
         (None, tt),
         (
           (split.0, subst (λ (is : List Instruction). CodesSteps is split.0) (sym (take_rest left last)) split.1),
-          (ks, subst (λ ms. MarksStandAt g.M.Mark.located g.M.Mark.stand g.M.Mark.content doc ks ms) (sym c.as_slice.ensures.value) (c.in_ok-marks-in-None.ensures doc ([] ∷ []) c.in_ok-root.ensures.0), tt),
+          (ks, subst (λ ms. MarksStandAt g.M.Mark.located g.M.Mark.stand g.M.Mark.content doc ks ms) (sym c.as_slice-starts-in-None.ensures.value) ((c.in_ok-led-in-None.ensures ([] ∷ []) c.in_ok-root.ensures).0), tt),
         ),
       ),
     )
@@ -74,8 +74,8 @@ returns-in_ok-candidates-in-Some g c =
     (subst (λ ms. MarksStandAt g.M.Mark.located g.M.Mark.stand g.M.Mark.content doc (gathered doc way.leaves way.deep ks) ms) (sym c.as_slice-starts.ensures.value) there.0) there.1))
     c.first_in_slices.ensures
 
-pub returns-in_ok-marks-in-None : goal.returns-in_ok-marks-in-None
-returns-in_ok-marks-in-None g c =
+pub returns-in_ok-led-in-None : goal.returns-in_ok-led-in-None
+returns-in_ok-led-in-None g c =
     let text = c.args.self.now.text.now in
     let doc = view c.args.self.now.root.now in
     let left = c.args.left.now in
@@ -86,5 +86,5 @@ returns-in_ok-marks-in-None g c =
     let split = plain_split text doc last left ss are c.in-None.ensures.none in
     subst (λ (ls : List Location). BeginAs g.M.Mark.located g.M.Mark.stand g.M.Mark.content doc ls found.items) (sym (split.2 ([] ∷ [])))
     (begin None split.0 ks tt (subst (λ (is : List Instruction). CodesSteps is split.0) (sym (take_rest left last)) split.1)
-    (subst (λ ms. MarksStandAt g.M.Mark.located g.M.Mark.stand g.M.Mark.content doc ks ms) (sym c.as_slice.ensures.value) (c.in_ok-marks-in-None.ensures doc ([] ∷ []) c.in_ok-root.ensures.0)) tt))
+    (subst (λ ms. MarksStandAt g.M.Mark.located g.M.Mark.stand g.M.Mark.content doc ks ms) (sym c.as_slice-starts-in-None.ensures.value) ((c.in_ok-led-in-None.ensures ([] ∷ []) c.in_ok-root.ensures).0)) tt))
     c.first_in_slices-in-None.ensures

@@ -3,7 +3,10 @@ use Rattle.serde_json.specs.View.{view}
 use Rattle.jsonpath_nodes.specs.place.Mark.{MarksStandAt, shown}
 use Rattle.jsonpath_select.specs.plan.Machine.{stepped}
 use Rattle.jsonpath_select.proofs.walk.MarkLemmas.{length-marks}
-use Rattle.jsonpath_select.proofs.machine.machine.Machine.follow_step_with_standing.Goals as goal
+use Rattle.jsonpath_select.proofs.machine.machine.Machine.follow_step.Goals as goal
+
+pub returns-then-not-asks_standing : goal.returns-then-not-asks_standing
+returns-then-not-asks_standing g c = λ ls from. (c.in_ok-marks.ensures (view c.args.self.now.root.now) ls (ap (map (shown g.M.Mark.stand g.M.Mark.content)) c.as_slice-before.ensures.value ∙ from.0), tt)
 
 pub returns : goal.returns
 returns g c = λ ls from.
