@@ -1,5 +1,5 @@
 -- What a list leads to begins with what its front leads to, so the first place of an answer is found from one piece at a time.
-use Rattle.std.proofs.Common.{◌≡◌, ℕ, ◌+◌, Option, Some, None, Bool, true, false, cond, List, [], ◌∷◌, ◌++◌, take, drop, length, ◌-◌, ◌==◌, suc, ne_eqb, arith, Equal, refl, sym, ap, ◌∙◌}
+use Rattle.std.proofs.Common.{◌≡◌, ℕ, ◌+◌, Option, Some, None, Bool, true, false, cond, List, [], ◌∷◌, ◌++◌, take, drop, length, ◌==◌, suc, ne_eqb, arith, Equal, refl, sym, ap, ◌∙◌}
 use Rattle.std.proofs.lemmas.List.{drop-drop, take-append-drop}
 use Rattle.std.specs.Prelude.{filter}
 use Rattle.std.specs.List.{list_any}

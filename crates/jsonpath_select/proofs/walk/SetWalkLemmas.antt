@@ -1,5 +1,5 @@
 -- The walk over sets: lists of candidates at a time lead where the meaning by sets leads from each.
-use Rattle.std.proofs.Common.{◌≡◌, ℕ, suc, ◌≤◌, Bool, true, false, cond, ◌&&◌, ◌||◌, List, [], ◌∷◌, ◌++◌, length, map, drop, replicate, Ordering, Less, Equal, Greater, is_eq, refl, sym, ap, ap₂, subst, ◌∙◌, append_assoc, drop_of_length-le, drop-cons, get_or, Option, ◌+◌, ◌<◌, add-one}
+use Rattle.std.proofs.Common.{◌≡◌, ℕ, suc, ◌≤◌, Bool, true, false, cond, ◌&&◌, ◌||◌, List, [], ◌∷◌, ◌++◌, length, map, drop, Ordering, Less, Equal, Greater, is_eq, refl, sym, ap, ap₂, subst, ◌∙◌, append_assoc, drop_of_length-le, drop-cons, get_or, Option, ◌+◌, ◌<◌, add-one}
 use Rattle.std.proofs.Math.Bool.{or-true}
 use Rattle.std.specs.Prelude.{filter}
 use Rattle.std.specs.List.{AllByRecursion, list_any}
@@ -21,13 +21,13 @@ use Rattle.jsonpath_select.specs.Parts.{literals, has_pair}
 use Rattle.jsonpath_select.specs.plan.Machine.{Tagged, tagged, places, each_tag, spread, starts, itself, found_tags, all_tags_or_none, Operand, of_path, literal, kept_by_number, values_front, values_behind, compared, gathered, entered, Found}
 use Rattle.jsonpath_select.specs.plan.SetWalk.{set_reached, set_follow, set_inner, set_holds, set_led, set_step, found_sets, term_sets, below_topmost}
 use Rattle.jsonpath_select.specs.SetMeaning.{values_by}
-use Rattle.jsonpath_select.specs.plan.Shown.{Shows, ArePairs}
+use Rattle.jsonpath_select.specs.plan.Shown.{Shows}
 use Rattle.jsonpath_select.specs.declared.tagged.marks.TaggedMarks.{TaggedMarks}
 use Rattle.jsonpath_nodes.specs.declared.place.spot.Spot.{Spot}
 use Rattle.jsonpath_paths.specs.tree.View.{path_of, inner_of, steps_of_list, path_of_out}
 use Rattle.jsonpath_paths.specs.declared.tree.parser_node.ParserNode.{ParserNode, out-ParserNode}
 use Rattle.jsonpath_paths.specs.declared.tree.parser_node.ParserStep.{ParserStep}
-use Rattle.jsonpath_select.proofs.tagged.GroupLemmas.{places_tagged, tags_tagged}
+use Rattle.jsonpath_select.proofs.tagged.GroupLemmas.{places_tagged}
 use Rattle.jsonpath_select.proofs.walk.MarkLemmas.{length-marks}
 use Rattle.jsonpath_select.proofs.machine.RunLemmas.{entered-spread}
 use Rattle.jsonpath_select.proofs.tagged.TagLemmas.{kept-chosen, each_tag-spread, front_of_tag-spread, behind_tag-spread, some_tags-spread, places_alone, chosen-same}
@@ -224,12 +224,6 @@ sets_done text doc n i xs ps f found same over shows follows =
         ≡ (found_sets text doc (path b (steps_of_list (out-ParserNode n).steps.items)) (places ps)).pairs
     from_starts true = refl
     from_starts false = refl
-
--- spots beside as many tags of one kind
-pub tagged_spots : (doc : Data) (t : ℕ) (ls : List Location) (marks : List Spot) (tags : List ℕ) → StandAt doc ls marks → tags ≡ replicate (length marks) t
-    → ArePairs true location_of value_of doc (tagged t ls) tags marks
-tagged_spots doc t ls marks tags there filled =
-    (filled ∙ ap (λ n. replicate n t) (length-marks true location_of value_of doc ls marks there) ∙ sym (tags_tagged t ls), there ∙ ap (map (look doc)) (sym (places_tagged t ls)))
 
 -- ---- the meaning by sets is the meaning
 

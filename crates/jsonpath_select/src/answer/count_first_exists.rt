@@ -91,12 +91,9 @@ fn first_by_spots<'a>(
     requires { IsListOfText machine.text.now tokens.now }
     ensures { IfOk result (λ first. IsFirstOf (Selects machine.entry.text.now (view machine.entry.root.now)) (option_map (λ v. view v.now) first)) }
 {
-    match machine.first_by_tokens::<Spot>(tokens) {
-        Ok(found) => match found.first() {
-            Some(spot) => Ok(Some(spot.value())),
-            None => Ok(None),
-        },
-        Err(Halt::OutOfMemory) => Err(NoMemory),
-        Err(Halt::NeedsLocations) => unreachable!(),
+    let found = machine.first_by_tokens::<Spot>(tokens)?;
+    match found.first() {
+        Some(spot) => Ok(Some(spot.value())),
+        None => Ok(None),
     }
 }

@@ -71,11 +71,7 @@ pub fn select_tokens<'a>(
         root: json,
         text,
     };
-    match machine.select_by_tokens(tokens) {
-        Ok(spots) => Ok(spots),
-        Err(Halt::OutOfMemory) => Err(JsonPathError::OutOfMemory),
-        Err(Halt::NeedsLocations) => unreachable!(),
-    }
+    Ok(machine.select_by_tokens(tokens)?)
 }
 
 /// The nodes that the path selects in the value: the same set as that of `select_path`, in any order, with or without
@@ -113,7 +109,7 @@ pub(crate) fn spots_by_parts<'a>(
     if (Choice { alloc, text }).needs_tree_walk(path.tree)? {
         return spots_by_tree(alloc, json, path.text, path.tree);
     }
-    spots_by_tokens(alloc, json, path.text, path.tokens)
+    select_tokens(alloc, json, path.text, path.tokens)
 }
 
 // The values that the path selects in the value, in the path's order: by the walk along the tree or by the machine,
@@ -207,20 +203,6 @@ pub(crate) fn spot_set_by_tree<'a>(
     Ok(walk.select_spot_set(tree)?)
 }
 
-// Spots at what the path with this text and token list selects in the value, in the path's order, by the machine.
-pub(crate) fn spots_by_tokens<'a>(
-    alloc: Global,
-    json: &'a Value,
-    text: &str,
-    tokens: &[ParseToken],
-) -> Result<Vec<Spot<'a>>, JsonPathError>
-    requires { IsListOfText text.now tokens.now }
-    ensures ok { IfOk result (λ found. SelectsSpots text.now (view json.now) found.items) }
-    ensures refused { IfErr result (λ e. e ≡ JsonPathError.OutOfMemory) }
-{
-    select_tokens(alloc, json, text, tokens)
-}
-
 // The values that the path with this text and token list selects in the value, in the path's order, by the machine. It
 // follows references, and spots only where references can't tell whether a place is met twice.
 pub(crate) fn values_by_tokens<'a>(
@@ -238,11 +220,11 @@ pub(crate) fn values_by_tokens<'a>(
         root: json,
         text,
     };
-    match machine.select_by_tokens(tokens) {
+    match machine.select_by_tokens::<&Value>(tokens) {
         Ok(found) => Ok(found),
         Err(Halt::OutOfMemory) => Err(JsonPathError::OutOfMemory),
         Err(Halt::NeedsLocations) => {
-            let spots = spots_by_tokens(alloc, json, text, tokens)?;
+            let spots = machine.select_by_tokens::<Spot>(tokens)?;
             let found = values_of_selected_spots(alloc, spots.as_slice())?;
             Ok(found)
         }

@@ -1,12 +1,10 @@
-//! `Halt`: why the machine or a walk stops without an answer, and how it is made of an error.
-
-ghost use Rattle.std.specs.Prelude.{◌≡◌};
+//! `Halt`: why the machine stops without an answer where it follows references, and how it is made of an error.
 
 use jsonpath_nodes::NoMemory;
-use std::alloc::{AllocError, AllocFailed};
+use std::alloc::AllocError;
 
-// Why the machine or a walk stops without an answer.
-#[derive(Clone, Copy, Debug, PartialEq, Eq, Drop)]
+// Why the machine stops without an answer where it follows references.
+#[derive(Drop)]
 pub enum Halt {
     OutOfMemory,
     // Whether two marks stand at one place can't be told without their locations.
@@ -14,31 +12,13 @@ pub enum Halt {
 }
 
 impl From<NoMemory> for Halt {
-    ghost use Rattle.jsonpath_select.specs.declared.error.halt.Halt.TheVariants.{OutOfMemory};
-
-    ghost from_gives = { λ _ halt. halt ≡ OutOfMemory };
-
     fn from(_: NoMemory) -> Halt {
         Halt::OutOfMemory
     }
 }
 
 impl From<AllocError> for Halt {
-    ghost use Rattle.jsonpath_select.specs.declared.error.halt.Halt.TheVariants.{OutOfMemory};
-
-    ghost from_gives = { λ _ halt. halt ≡ OutOfMemory };
-
     fn from(_: AllocError) -> Halt {
-        Halt::OutOfMemory
-    }
-}
-
-impl<T: Drop> From<AllocFailed<T>> for Halt {
-    ghost use Rattle.jsonpath_select.specs.declared.error.halt.Halt.TheVariants.{OutOfMemory};
-
-    ghost from_gives = { λ _ halt. halt ≡ OutOfMemory };
-
-    fn from(_: AllocFailed<T>) -> Halt {
         Halt::OutOfMemory
     }
 }

@@ -2,7 +2,7 @@
 //! applied to them, in slices of 1, 4, 16 and so on, until one slice selects something. A path without filters takes
 //! the nodes before its last step in such slices.
 
-ghost use Rattle.std.specs.Prelude.{◌≡◌, ◌<◌, ◌≤◌, [], ◌∷◌, true, List, IfOk, IfErr, Option};
+ghost use Rattle.std.specs.Prelude.{◌<◌, ◌≤◌, [], ◌∷◌, List, IfOk, Option};
 ghost use Rattle.serde_json.specs.View.{view};
 ghost use Rattle.jsonpath_paths.specs.tree.Tree.{Path, PathSteps};
 ghost use Rattle.jsonpath_nodes.specs.place.Location.{Location};
@@ -13,9 +13,7 @@ ghost use Rattle.jsonpath_select.specs.plan.NextFilter.{CodesSteps};
 ghost use Rattle.jsonpath_select.specs.plan.Standing.{AreStanding, IsStanding};
 ghost use Rattle.jsonpath_paths.specs.tree.Tree.{Condition};
 ghost use Rattle.jsonpath_nodes.specs.place.Mark.{MarksStandAt};
-ghost use Rattle.jsonpath_select.specs.declared.error.halt.Halt.TheVariants.{OutOfMemory};
 
-use crate::error::halt::Halt;
 use crate::filters::next_filter::{condition_end, next_filter};
 use crate::filters::select_list::instruction_count_after_last_filter_with_own_step;
 use crate::laws::first_is_of_first_piece;
@@ -33,10 +31,9 @@ impl<'a, 't> Machine<'a, 't> {
     pub(crate) fn first_by_tokens<M: Carried<'a>>(
         &self,
         tokens: &[ParseToken],
-    ) -> Result<Vec<M>, Halt>
+    ) -> Result<Vec<M>, M::Stop>
         requires { IsSomePath self.now.text.now tokens.now }
-        ensures ok { IfOk result (λ found. (p : Path) → IsListOf self.now.text.now p tokens.now → BeginAs M.located M.stand M.content (view self.now.root.now) (sel self.now.text.now (view self.now.root.now) p) found.items) }
-        ensures refused { IfErr result (λ e. M.located ≡ true → e ≡ OutOfMemory) }
+        ensures { IfOk result (λ found. (p : Path) → IsListOf self.now.text.now p tokens.now → BeginAs M.located M.stand M.content (view self.now.root.now) (sel self.now.text.now (view self.now.root.now) p) found.items) }
     {
         let code = instructions_of_token_list(self.alloc, tokens)?;
         self.first_by_instructions(&code.as_slice()[1..])
@@ -46,17 +43,17 @@ impl<'a, 't> Machine<'a, 't> {
     fn first_by_instructions<M: Carried<'a>>(
         &self,
         left: &[Instruction<'_>],
-    ) -> Result<Vec<M>, Halt>
+    ) -> Result<Vec<M>, M::Stop>
         requires { (ss : PathSteps) × CodesSteps left.now ss }
-        ensures ok { IfOk result (λ found. (ss : PathSteps) → CodesSteps left.now ss → BeginAs M.located M.stand M.content (view self.now.root.now) (follow self.now.text.now (view self.now.root.now) ss ([] ∷ [])) found.items) }
-        ensures refused { IfErr result (λ e. M.located ≡ true → e ≡ OutOfMemory) }
+        ensures { IfOk result (λ found. (ss : PathSteps) → CodesSteps left.now ss → BeginAs M.located M.stand M.content (view self.now.root.now) (follow self.now.text.now (view self.now.root.now) ss ([] ∷ [])) found.items) }
     {
         let root = self.root_marks()?;
         match next_filter(left) {
             Some((way, behind)) => {
                 let shallow = instruction_count_after_last_filter_with_own_step(left);
-                let led = self.marks_before_filter(way.steps, left.len() > shallow, root)?;
-                let candidates = self.candidates_of_places(way, led)?;
+                let asks_standing = left.len() > shallow;
+                let led = self.follow_steps(way.steps, asks_standing, root)?;
+                let candidates = self.candidates_of_places(way, asks_standing, led)?;
                 let end = condition_end(behind);
                 let starts = candidates.marks.as_slice();
                 let condition = Some(&behind[..end]);
@@ -64,8 +61,9 @@ impl<'a, 't> Machine<'a, 't> {
             }
             None => {
                 let last = left.len().saturating_sub(1);
-                let marks = self.follow_steps(&left[..last], root.marks)?;
-                self.first_in_slices(None, &left[last..], Standing::Unknown, marks.as_slice())
+                let led = self.follow_steps(&left[..last], false, root)?;
+                let starts = led.marks.as_slice();
+                self.first_in_slices(None, &left[last..], Standing::Unknown, starts)
             }
         }
     }
@@ -78,13 +76,12 @@ impl<'a, 't> Machine<'a, 't> {
         left: &[Instruction<'_>],
         standing: Standing,
         starts: &[M],
-    ) -> Result<Vec<M>, Halt>
+    ) -> Result<Vec<M>, M::Stop>
         requires is { (f : Option Condition) × CodesOptionalCondition condition f }
         requires steps { (ss : PathSteps) × CodesSteps left.now ss }
         requires there { (ls : List Location) × MarksStandAt M.located M.stand M.content (view self.now.root.now) ls starts.now × IsStanding standing ls }
-        ensures ok { IfOk result (λ found. (f : Option Condition) (ss : PathSteps) (ls : List Location) → CodesOptionalCondition condition.entry f → CodesSteps left.now ss → MarksStandAt M.located M.stand M.content (view self.now.root.now) ls starts.now → IsStanding standing ls
+        ensures { IfOk result (λ found. (f : Option Condition) (ss : PathSteps) (ls : List Location) → CodesOptionalCondition condition.entry f → CodesSteps left.now ss → MarksStandAt M.located M.stand M.content (view self.now.root.now) ls starts.now → IsStanding standing ls
             → BeginAs M.located M.stand M.content (view self.now.root.now) (follow self.now.text.now (view self.now.root.now) ss (kept_by self.now.text.now (view self.now.root.now) f ls)) found.items) }
-        ensures refused { IfErr result (λ e. M.located ≡ true → e ≡ OutOfMemory) }
     {
         first_is_of_first_piece();
         let mut from = 0;
@@ -108,13 +105,12 @@ impl<'a, 't> Machine<'a, 't> {
         condition: Option<&[Instruction<'_>]>,
         left: &[Instruction<'_>],
         slice: StandingMarks<M>,
-    ) -> Result<Vec<M>, Halt>
+    ) -> Result<Vec<M>, M::Stop>
         requires is { (f : Option Condition) × CodesOptionalCondition condition f }
         requires steps { (ss : PathSteps) × CodesSteps left.now ss }
         requires there { (ls : List Location) × AreStanding M.located M.stand M.content (view self.now.root.now) ls slice }
-        ensures ok { IfOk result (λ found. (f : Option Condition) (ss : PathSteps) (ls : List Location) → CodesOptionalCondition condition.entry f → CodesSteps left.now ss → AreStanding M.located M.stand M.content (view self.now.root.now) ls slice
+        ensures { IfOk result (λ found. (f : Option Condition) (ss : PathSteps) (ls : List Location) → CodesOptionalCondition condition.entry f → CodesSteps left.now ss → AreStanding M.located M.stand M.content (view self.now.root.now) ls slice
             → MarksStandAt M.located M.stand M.content (view self.now.root.now) (follow self.now.text.now (view self.now.root.now) ss (kept_by self.now.text.now (view self.now.root.now) f ls)) found.items) }
-        ensures refused { IfErr result (λ e. M.located ≡ true → e ≡ OutOfMemory) }
     {
         match condition {
             Some(condition) => {

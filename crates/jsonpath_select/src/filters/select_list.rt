@@ -2,7 +2,7 @@
 //! If the locations before a filter are known to be apart, no candidate can come twice, and duplicates are not
 //! looked for.
 
-ghost use Rattle.std.specs.Prelude.{◌≡◌, true, List, filter, IfOk, IfErr, IsTrue};
+ghost use Rattle.std.specs.Prelude.{List, filter, IfOk, IsTrue};
 ghost use Rattle.std.specs.List.{list_all};
 ghost use Rattle.serde_json.specs.View.{view};
 ghost use Rattle.jsonpath_paths.specs.tree.Tree.{Condition, Path, PathSteps};
@@ -16,9 +16,7 @@ ghost use Rattle.jsonpath_select.specs.plan.Machine.{gathered};
 ghost use Rattle.jsonpath_select.specs.plan.NextFilter.{CodesCondition, CodesSteps};
 ghost use Rattle.jsonpath_select.specs.plan.Standing.{along, AreStanding, IsStanding};
 ghost use Rattle.jsonpath_select.specs.plan.Unfiltered.{is_plain_step};
-ghost use Rattle.jsonpath_select.specs.declared.error.halt.Halt.TheVariants.{OutOfMemory};
 
-use crate::error::halt::Halt;
 use crate::filters::next_filter::{
     FilterApproach, condition_end, instructions_after_condition, next_filter,
 };
@@ -40,10 +38,9 @@ impl<'a, 't> Machine<'a, 't> {
     pub(crate) fn select_by_tokens<M: Carried<'a>>(
         &self,
         tokens: &[ParseToken],
-    ) -> Result<Vec<M>, Halt>
+    ) -> Result<Vec<M>, M::Stop>
         requires { IsSomePath self.now.text.now tokens.now }
-        ensures ok { IfOk result (λ found. (p : Path) → IsListOf self.now.text.now p tokens.now → MarksStandAt M.located M.stand M.content (view self.now.root.now) (sel self.now.text.now (view self.now.root.now) p) found.items) }
-        ensures refused { IfErr result (λ e. M.located ≡ true → e ≡ OutOfMemory) }
+        ensures { IfOk result (λ found. (p : Path) → IsListOf self.now.text.now p tokens.now → MarksStandAt M.located M.stand M.content (view self.now.root.now) (sel self.now.text.now (view self.now.root.now) p) found.items) }
     {
         let code = instructions_of_token_list(self.alloc, tokens)?;
         let root = self.root_marks()?;
@@ -56,12 +53,11 @@ impl<'a, 't> Machine<'a, 't> {
         &self,
         left: &[Instruction<'_>],
         from: StandingMarks<M>,
-    ) -> Result<Vec<M>, Halt>
+    ) -> Result<Vec<M>, M::Stop>
         requires steps { (ss : PathSteps) × CodesSteps left.now ss }
         requires there { (ls : List Location) × AreStanding M.located M.stand M.content (view self.now.root.now) ls from }
-        ensures ok { IfOk result (λ found. (ss : PathSteps) (ls : List Location) → CodesSteps left.now ss → AreStanding M.located M.stand M.content (view self.now.root.now) ls from
+        ensures { IfOk result (λ found. (ss : PathSteps) (ls : List Location) → CodesSteps left.now ss → AreStanding M.located M.stand M.content (view self.now.root.now) ls from
             → MarksStandAt M.located M.stand M.content (view self.now.root.now) (follow self.now.text.now (view self.now.root.now) ss ls) found.items) }
-        ensures refused { IfErr result (λ e. M.located ≡ true → e ≡ OutOfMemory) }
     {
         let shallow = instruction_count_after_last_filter_with_own_step(left);
         let mut rest = left;
@@ -71,7 +67,8 @@ impl<'a, 't> Machine<'a, 't> {
             found = self.marks_kept_by_filter(way, &behind[..end], rest.len() > shallow, found)?;
             rest = instructions_after_condition(behind);
         }
-        self.follow_steps(rest, found.marks)
+        let led = self.follow_steps(rest, false, found)?;
+        Ok(led.marks)
     }
 
     // The marks that the next filter keeps, found from the marks before its plain steps, and, where `asks_standing` is
@@ -82,54 +79,32 @@ impl<'a, 't> Machine<'a, 't> {
         condition: &[Instruction<'_>],
         asks_standing: bool,
         from: StandingMarks<M>,
-    ) -> Result<StandingMarks<M>, Halt>
+    ) -> Result<StandingMarks<M>, M::Stop>
         requires steps { IsTrue (list_all is_plain_step way.steps.now) }
         requires is { (f : Condition) × CodesCondition condition.now f }
         requires there { (ls : List Location) × AreStanding M.located M.stand M.content (view self.now.root.now) ls from }
-        ensures ok { IfOk result (λ found. (f : Condition) (ls : List Location) → CodesCondition condition.now f → AreStanding M.located M.stand M.content (view self.now.root.now) ls from
+        ensures { IfOk result (λ found. (f : Condition) (ls : List Location) → CodesCondition condition.now f → AreStanding M.located M.stand M.content (view self.now.root.now) ls from
             → AreStanding M.located M.stand M.content (view self.now.root.now) (filter (λ l. holds self.now.text.now (view self.now.root.now) f l) (gathered (view self.now.root.now) way.entry.leaves way.entry.deep (along self.now.text.now (view self.now.root.now) way.entry.steps.now ls))) found) }
-        ensures refused { IfErr result (λ e. M.located ≡ true → e ≡ OutOfMemory) }
     {
-        let led = self.marks_before_filter(way.steps, asks_standing, from)?;
-        let candidates = self.candidates_of_places(way, led)?;
+        let led = self.follow_steps(way.steps, asks_standing, from)?;
+        let candidates = self.candidates_of_places(way, asks_standing, led)?;
         self.keep_passing_with_standing(condition, candidates)
     }
 
-    // The marks to which the plain steps before a filter lead, and, where `asks_standing` is set, how their places
-    // stand to each other.
-    pub(crate) fn marks_before_filter<M: Carried<'a>>(
-        &self,
-        steps: &[Instruction<'_>],
-        asks_standing: bool,
-        from: StandingMarks<M>,
-    ) -> Result<StandingMarks<M>, Halt>
-        requires { IsTrue (list_all is_plain_step steps.now) }
-        ensures ok { IfOk result (λ led. (ls : List Location) → AreStanding M.located M.stand M.content (view self.now.root.now) ls from → AreStanding M.located M.stand M.content (view self.now.root.now) (along self.now.text.now (view self.now.root.now) steps.now ls) led) }
-        ensures refused { IfErr result (λ e. M.located ≡ true → e ≡ OutOfMemory) }
-    {
-        if asks_standing {
-            return self.follow_steps_with_standing(steps, from);
-        }
-        let marks = self.follow_steps(steps, from.marks)?;
-        Ok(StandingMarks {
-            standing: Standing::Unknown,
-            marks,
-        })
-    }
-
-    // The candidates of a filter, from the places that lead to it, and how they stand to each other.
+    // The candidates of a filter, from the places that lead to it, and, where `asks_standing` is set, how they stand to
+    // each other.
     pub(crate) fn candidates_of_places<M: Carried<'a>>(
         &self,
         way: FilterApproach<'_, '_>,
+        asks_standing: bool,
         led: StandingMarks<M>,
-    ) -> Result<StandingMarks<M>, Halt>
-        ensures ok { IfOk result (λ found. (ls : List Location) → AreStanding M.located M.stand M.content (view self.now.root.now) ls led → AreStanding M.located M.stand M.content (view self.now.root.now) (gathered (view self.now.root.now) way.entry.leaves way.entry.deep ls) found) }
-        ensures refused { IfErr result (λ e. M.located ≡ true → e ≡ OutOfMemory) }
+    ) -> Result<StandingMarks<M>, M::Stop>
+        ensures { IfOk result (λ found. (ls : List Location) → AreStanding M.located M.stand M.content (view self.now.root.now) ls led → AreStanding M.located M.stand M.content (view self.now.root.now) (gathered (view self.now.root.now) way.entry.leaves way.entry.deep ls) found) }
     {
         apart_locations_meet_candidates_once();
         match (way.leaves, way.deep) {
             (false, false) => Ok(led),
-            (true, false) => self.follow_step_with_standing(true, &ParseToken::All, led),
+            (true, false) => Ok(self.follow_step(true, &ParseToken::All, asks_standing, led)?),
             (false, true) => Ok(StandingMarks {
                 standing: led.standing.after_flattening(),
                 marks: self.candidates_once_at(led.standing, led.marks.as_slice())?,
@@ -148,10 +123,9 @@ impl<'a, 't> Machine<'a, 't> {
         &self,
         standing: Standing,
         marks: &[M],
-    ) -> Result<Vec<M>, Halt>
-        ensures ok { IfOk result (λ found. (ls : List Location) → IsStanding standing ls → MarksStandAt M.located M.stand M.content (view self.now.root.now) ls marks.now
+    ) -> Result<Vec<M>, M::Stop>
+        ensures { IfOk result (λ found. (ls : List Location) → IsStanding standing ls → MarksStandAt M.located M.stand M.content (view self.now.root.now) ls marks.now
             → MarksStandAt M.located M.stand M.content (view self.now.root.now) (flattened (view self.now.root.now) (step (view self.now.root.now) every (all_below (view self.now.root.now) ls))) found.items) }
-        ensures refused { IfErr result (λ e. M.located ≡ true → e ≡ OutOfMemory) }
     {
         if marks.len() < 2 || !standing.are_disjoint() {
             return M::candidates_below_once(self.alloc, marks);
@@ -167,12 +141,11 @@ impl<'a, 't> Machine<'a, 't> {
         &self,
         condition: &[Instruction<'_>],
         candidates: StandingMarks<M>,
-    ) -> Result<StandingMarks<M>, Halt>
+    ) -> Result<StandingMarks<M>, M::Stop>
         requires is { (f : Condition) × CodesCondition condition.now f }
         requires there { (cs : List Location) × AreStanding M.located M.stand M.content (view self.now.root.now) cs candidates }
-        ensures ok { IfOk result (λ found. (f : Condition) (cs : List Location) → CodesCondition condition.now f → AreStanding M.located M.stand M.content (view self.now.root.now) cs candidates
+        ensures { IfOk result (λ found. (f : Condition) (cs : List Location) → CodesCondition condition.now f → AreStanding M.located M.stand M.content (view self.now.root.now) cs candidates
             → AreStanding M.located M.stand M.content (view self.now.root.now) (filter (λ l. holds self.now.text.now (view self.now.root.now) f l) cs) found) }
-        ensures refused { IfErr result (λ e. M.located ≡ true → e ≡ OutOfMemory) }
     {
         let standing = candidates.standing.after_filter_or_indexes();
         let all = marks_shared_by_candidates(self.alloc, candidates.marks)?;

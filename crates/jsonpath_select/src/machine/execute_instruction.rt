@@ -1,7 +1,7 @@
 //! How the machine executes one instruction, for all candidates at once. As in `Instruction`, `leaves` means that
 //! `..` comes before a step or a filter, and `deep` that a filter uses a relative query with at least one segment.
 
-ghost use Rattle.std.specs.Prelude.{◌≡◌, true, IfOk, IfErr, OnOk};
+ghost use Rattle.std.specs.Prelude.{IfOk, OnOk};
 ghost use Rattle.serde_json.specs.Data.{Data};
 ghost use Rattle.serde_json.specs.View.{view};
 ghost use Rattle.jsonpath_select.specs.plan.Code as code;
@@ -9,13 +9,11 @@ ghost use Rattle.jsonpath_select.specs.plan.Machine.{each_tag, stepped};
 ghost use Rattle.jsonpath_select.specs.plan.Shown.{LeadsPairs};
 ghost use Rattle.jsonpath_select.specs.plan.Stack.{EndsInOne, CanExecute, Executes, Reaches};
 ghost use Rattle.jsonpath_select.specs.plan.Ordered.{instruction_of};
-ghost use Rattle.jsonpath_select.specs.declared.error.halt.Halt.TheVariants.{OutOfMemory};
 
 use crate::comparison::comparer::Comparer;
-use crate::error::halt::Halt;
 use crate::machine::instruction::Instruction;
 use crate::machine::machine::Machine;
-use crate::machine::stacks::{Stacks, pop_marks, pop_top};
+use crate::machine::stacks::{Stacks, pop_marks, pop_top, push_top};
 use crate::step::carried_mark::Carried;
 use crate::step::names::name_at;
 use crate::tagged::conditions::{condition_tags, join_tags};
@@ -34,23 +32,22 @@ impl<'a, 't> Machine<'a, 't> {
         &self,
         instruction: Instruction<'c>,
         stacks: &mut Stacks<'c, M>,
-    ) -> Result<(), Halt>
+    ) -> Result<(), M::Stop>
         requires { CanExecute M.located M.stand M.content self.now.text.now (instruction_of instruction) stacks.old }
-        ensures ok { OnOk result (Executes M.located M.stand M.content self.now.text.now (view self.now.root.now) (instruction_of instruction.entry) stacks.old stacks.new) }
-        ensures refused { IfErr result (λ e. M.located ≡ true → e ≡ OutOfMemory) }
+        ensures { OnOk result (Executes M.located M.stand M.content self.now.text.now (view self.now.root.now) (instruction_of instruction.entry) stacks.old stacks.new) }
     {
         match instruction {
-            Instruction::Start { absolute } => self.start_path(absolute, stacks)?,
-            Instruction::Step { leaves, token } => return self.take_plain_step(
-                leaves, token, stacks,
-            ),
-            Instruction::Enter { leaves, deep } => return self.begin_filter(leaves, deep, stacks),
-            Instruction::Leave => self.end_filter(stacks)?,
-            Instruction::Constant(token) => stacks.operands.push(Operand::Literal(token))?,
-            Instruction::Compares(op) => self.compare_two_operands(op, stacks)?,
-            Instruction::Joins(op) => self.join_two_conditions(op, stacks)?,
+            Instruction::Start { absolute } => Ok(self.start_path(absolute, stacks)?),
+            Instruction::Step { leaves, token } => self.take_plain_step(leaves, token, stacks),
+            Instruction::Enter { leaves, deep } => self.begin_filter(leaves, deep, stacks),
+            Instruction::Leave => Ok(self.end_filter(stacks)?),
+            Instruction::Constant(token) => Ok(push_top(
+                &mut stacks.operands,
+                Operand::Literal(token),
+            )?),
+            Instruction::Compares(op) => Ok(self.compare_two_operands(op, stacks)?),
+            Instruction::Joins(op) => Ok(self.join_two_conditions(op, stacks)?),
         }
-        Ok(())
     }
 
     // Puts on the operands where a path begins: at the root, or at each candidate of the innermost filter.
@@ -99,18 +96,15 @@ impl<'a, 't> Machine<'a, 't> {
         leaves: bool,
         token: &ParseToken,
         stacks: &mut Stacks<'_, M>,
-    ) -> Result<(), Halt>
+    ) -> Result<(), M::Stop>
         requires { CanExecute M.located M.stand M.content self.now.text.now (code.plain_step leaves token.now) stacks.old }
-        ensures ok { OnOk result ((doc : Data) → Executes M.located M.stand M.content self.now.text.now doc (code.plain_step leaves token.now) stacks.old stacks.new) }
-        ensures refused { IfErr result (λ e. M.located ≡ true → e ≡ OutOfMemory) }
+        ensures { OnOk result ((doc : Data) → Executes M.located M.stand M.content self.now.text.now doc (code.plain_step leaves token.now) stacks.old stacks.new) }
     {
         let Found { is_shared, pairs } = pop_marks(&mut stacks.operands);
         let lists = list_count_for_candidates(is_shared, stacks.candidate_count());
         let pairs = self.tagged_marks_after_plain_step(leaves, token, lists, pairs)?;
-        stacks
-            .operands
-            .push(Operand::Marks(Found { is_shared, pairs }))?;
-        Ok(())
+        let found = Operand::Marks(Found { is_shared, pairs });
+        Ok(push_top(&mut stacks.operands, found)?)
     }
 
     // Where a plain step, behind `..` where `leaves` is set, leads the marks of each of `count` candidates. The name of
@@ -121,9 +115,8 @@ impl<'a, 't> Machine<'a, 't> {
         token: &ParseToken,
         count: usize,
         pairs: TaggedMarks<M>,
-    ) -> Result<TaggedMarks<M>, Halt>
-        ensures ok { IfOk result (λ found. LeadsPairs M.located M.stand M.content (λ doc ps. each_tag (stepped self.now.text.now doc leaves token.now) 0 count ps) pairs found) }
-        ensures refused { IfErr result (λ e. M.located ≡ true → e ≡ OutOfMemory) }
+    ) -> Result<TaggedMarks<M>, M::Stop>
+        ensures { IfOk result (λ found. LeadsPairs M.located M.stand M.content (λ doc ps. each_tag (stepped self.now.text.now doc leaves token.now) 0 count ps) pairs found) }
     {
         match (leaves, token) {
             (false, ParseToken::Key(span)) => {
@@ -153,16 +146,14 @@ impl<'a, 't> Machine<'a, 't> {
         leaves: bool,
         deep: bool,
         stacks: &mut Stacks<'_, M>,
-    ) -> Result<(), Halt>
+    ) -> Result<(), M::Stop>
         requires { CanExecute M.located M.stand M.content self.now.text.now (code.enter leaves deep) stacks.old }
-        ensures ok { OnOk result ((doc : Data) → Executes M.located M.stand M.content self.now.text.now doc (code.enter leaves deep) stacks.old stacks.new) }
-        ensures refused { IfErr result (λ e. M.located ≡ true → e ≡ OutOfMemory) }
+        ensures { OnOk result ((doc : Data) → Executes M.located M.stand M.content self.now.text.now doc (code.enter leaves deep) stacks.old stacks.new) }
     {
         let Found { is_shared, pairs } = pop_marks(&mut stacks.operands);
         let lists = list_count_for_candidates(is_shared, stacks.candidate_count());
         let pairs = candidates_of_filter(self.alloc, leaves, deep, lists, pairs)?;
-        stacks.frames.push(Found { is_shared, pairs })?;
-        Ok(())
+        Ok(push_top(&mut stacks.frames, Found { is_shared, pairs })?)
     }
 
     // Closes the innermost filter: its candidates at which the condition on top of the operands holds are put on the

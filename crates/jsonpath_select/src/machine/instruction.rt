@@ -4,6 +4,7 @@ ghost use Rattle.std.specs.Prelude.{◌≡◌, OnOk, IfOk, map, reverse};
 ghost use Rattle.jsonpath_select.specs.plan.Code.{scanned, operator_instruction, with_dots, starts_with_step, note_own_step, in_brackets, scan};
 ghost use Rattle.jsonpath_select.specs.plan.Ordered.{instruction_of, front_of, scan_of};
 
+use crate::machine::stacks::push_top;
 use jsonpath_nodes::NoMemory;
 use jsonpath_paths::{FilterToken, ParseToken};
 use std::alloc::Global;
@@ -66,10 +67,7 @@ fn scan_token<'t>(
     ensures { OnOk result (scan_of code.new.items own.new.items ≡ scanned token.now (scan_of code.old.items own.old.items)) }
 {
     match token {
-        ParseToken::Absolute => {
-            code.push(Instruction::Start { absolute: true })?;
-            Ok(())
-        }
+        ParseToken::Absolute => push_top(code, Instruction::Start { absolute: true }),
         ParseToken::Relative => {
             let has_step = starts_with_step(code.as_slice());
             code.push(Instruction::Start { absolute: false })?;
@@ -83,17 +81,10 @@ fn scan_token<'t>(
         }
         ParseToken::ArrayEof => {
             code.push(Instruction::Leave)?;
-            own.push(false)?;
-            Ok(())
+            push_top(own, false)
         }
-        ParseToken::Filter(op) => {
-            code.push(operator_instruction(*op))?;
-            Ok(())
-        }
-        _ => {
-            code.push(Instruction::Constant(token))?;
-            Ok(())
-        }
+        ParseToken::Filter(op) => push_top(code, operator_instruction(*op)),
+        _ => push_top(code, Instruction::Constant(token)),
     }
 }
 
@@ -152,6 +143,10 @@ fn push_step_or_filter_of_bracket(
 ) -> Result<(), NoMemory>
     ensures { OnOk result (front_of code.new.items ≡ in_brackets deep (front_of code.old.items)) }
 {
+    let filter = Instruction::Enter {
+        leaves: false,
+        deep,
+    };
     match code.pop() {
         Some(Instruction::Constant(token)) => match code.pop() {
             Some(Instruction::Leave) => code.push(Instruction::Step {
@@ -161,30 +156,18 @@ fn push_step_or_filter_of_bracket(
             Some(other) => {
                 code.push(other)?;
                 code.push(Instruction::Constant(token))?;
-                code.push(Instruction::Enter {
-                    leaves: false,
-                    deep,
-                })?;
+                code.push(filter)?;
             }
             None => {
                 code.push(Instruction::Constant(token))?;
-                code.push(Instruction::Enter {
-                    leaves: false,
-                    deep,
-                })?;
+                code.push(filter)?;
             }
         },
         Some(other) => {
             code.push(other)?;
-            code.push(Instruction::Enter {
-                leaves: false,
-                deep,
-            })?;
+            code.push(filter)?;
         }
-        None => code.push(Instruction::Enter {
-            leaves: false,
-            deep,
-        })?,
+        None => code.push(filter)?,
     }
     Ok(())
 }

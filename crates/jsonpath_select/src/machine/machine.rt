@@ -1,20 +1,18 @@
 //! The machine that runs token lists: `Machine`, and how it executes all instructions of a list, one after the other.
 
-ghost use Rattle.std.specs.Prelude.{◌≡◌, ◌<◌, length, drop, true, IfOk, IfErr, IfSome, OnOk, List, filter};
+ghost use Rattle.std.specs.Prelude.{◌<◌, length, drop, IfOk, IfSome, OnOk, List, filter};
 ghost use Rattle.serde_json.specs.View.{view};
 ghost use Rattle.jsonpath_select.specs.plan.Machine.{at_first};
 ghost use Rattle.jsonpath_select.specs.plan.Stack.{ShowsStacks, ExecutesAll, CanGoOn, Advances, IsStepByName, BeginsWithName, ShowsFound};
-ghost use Rattle.jsonpath_select.specs.declared.error.halt.Halt.TheVariants.{OutOfMemory};
 ghost use Rattle.jsonpath_paths.specs.tree.Tree.{Condition};
 ghost use Rattle.jsonpath_nodes.specs.place.Location.{Location};
 ghost use Rattle.jsonpath_select.specs.Meaning.{holds};
 ghost use Rattle.jsonpath_select.specs.plan.NextFilter.{CodesCondition};
 ghost use Rattle.jsonpath_select.specs.plan.Standing.{for_all};
 
-use crate::error::halt::Halt;
 use crate::machine::instruction::Instruction;
 use crate::machine::plain_steps::root_steps_to_filter_with_own_step;
-use crate::machine::stacks::{Stacks, pop_marks};
+use crate::machine::stacks::{Stacks, pop_marks, push_top};
 use crate::step::carried_mark::Carried;
 use crate::tagged::marks::Found;
 use crate::tagged::start_of_paths::root_shared_by_candidates;
@@ -48,10 +46,9 @@ impl<'a, 't> Machine<'a, 't> {
         &self,
         code: &[Instruction<'c>],
         stacks: &mut Stacks<'c, M>,
-    ) -> Result<(), Halt>
+    ) -> Result<(), M::Stop>
         requires { CanGoOn M.located M.stand M.content self.now.text.now (view self.now.root.now) code.now stacks.old }
-        ensures ok { OnOk result (ExecutesAll M.located M.stand M.content self.now.text.now (view self.now.root.now) code.now stacks.old stacks.new) }
-        ensures refused { IfErr result (λ e. M.located ≡ true → e ≡ OutOfMemory) }
+        ensures { OnOk result (ExecutesAll M.located M.stand M.content self.now.text.now (view self.now.root.now) code.now stacks.old stacks.new) }
     {
         let mut at = 0;
         while at < code.len() {
@@ -65,15 +62,14 @@ impl<'a, 't> Machine<'a, 't> {
         &self,
         condition: &[Instruction<'_>],
         candidates: Found<M>,
-    ) -> Result<Found<M>, Halt>
+    ) -> Result<Found<M>, M::Stop>
         requires is { (f : Condition) × CodesCondition condition.now f }
         requires there { (cs : List Location) × ShowsFound M.located M.stand M.content (view self.now.root.now) (for_all cs) candidates }
-        ensures ok { IfOk result (λ found. (f : Condition) (cs : List Location) → CodesCondition condition.now f → ShowsFound M.located M.stand M.content (view self.now.root.now) (for_all cs) candidates
+        ensures { IfOk result (λ found. (f : Condition) (cs : List Location) → CodesCondition condition.now f → ShowsFound M.located M.stand M.content (view self.now.root.now) (for_all cs) candidates
             → ShowsFound M.located M.stand M.content (view self.now.root.now) (for_all (filter (λ l. holds self.now.text.now (view self.now.root.now) f l) cs)) found) }
-        ensures refused { IfErr result (λ e. M.located ≡ true → e ≡ OutOfMemory) }
     {
         let mut stacks = self.stacks_at_start()?;
-        stacks.frames.push(candidates)?;
+        push_top(&mut stacks.frames, candidates)?;
         self.execute_all(condition, &mut stacks)?;
         Ok(pop_marks(&mut stacks.operands))
     }
@@ -87,11 +83,10 @@ impl<'a, 't> Machine<'a, 't> {
         code: &[Instruction<'c>],
         at: usize,
         stacks: &mut Stacks<'c, M>,
-    ) -> Result<usize, Halt>
+    ) -> Result<usize, M::Stop>
         requires some { at < length code.now }
         requires can { CanGoOn M.located M.stand M.content self.now.text.now (view self.now.root.now) (drop at code.now) stacks.old }
-        ensures ok { IfOk result (λ next. Advances M.located M.stand M.content self.now.text.now (view self.now.root.now) code.now at stacks.old next stacks.new) }
-        ensures refused { IfErr result (λ e. M.located ≡ true → e ≡ OutOfMemory) }
+        ensures { IfOk result (λ next. Advances M.located M.stand M.content self.now.text.now (view self.now.root.now) code.now at stacks.old next stacks.new) }
     {
         if let Some(span) = leading_name_span(&code[at..]) {
             self.start_at_member(span, stacks)?;
@@ -99,7 +94,7 @@ impl<'a, 't> Machine<'a, 't> {
         }
         if let Some(steps) = root_steps_to_filter_with_own_step(&code[at..]) {
             let found = self.candidates_behind_steps_from_root(steps)?;
-            stacks.frames.push(found)?;
+            push_top(&mut stacks.frames, found)?;
             return Ok(at + steps.len() + 2);
         }
         self.execute_instruction(code[at], stacks)?;

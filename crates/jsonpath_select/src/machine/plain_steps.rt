@@ -1,19 +1,17 @@
 //! Plain steps, one after the other: what they select, how the selected locations are related, and the filter after the
 //! steps, for all its candidates at once.
 
-ghost use Rattle.std.specs.Prelude.{◌≡◌, List, [], ◌∷◌, false, true, IfOk, IfErr, IfSome, IsTrue};
+ghost use Rattle.std.specs.Prelude.{List, [], ◌∷◌, true, IfOk, IfSome, IsTrue};
 ghost use Rattle.std.specs.List.{list_all};
 ghost use Rattle.serde_json.specs.View.{view};
 ghost use Rattle.jsonpath_nodes.specs.place.Location.{Location};
-ghost use Rattle.jsonpath_nodes.specs.place.Mark.{MarksLeadBy, MarksStandAt};
+ghost use Rattle.jsonpath_nodes.specs.place.Mark.{MarksStandAt};
 ghost use Rattle.jsonpath_nodes.specs.step.Steps.{flattened};
 ghost use Rattle.jsonpath_select.specs.plan.Machine.{stepped};
 ghost use Rattle.jsonpath_select.specs.plan.Stack.{ShowsFound};
 ghost use Rattle.jsonpath_select.specs.plan.Standing.{along, for_all, AreStanding, IsStanding, LeadsToFilter, LeadsOn};
 ghost use Rattle.jsonpath_select.specs.plan.Unfiltered.{is_plain_step};
-ghost use Rattle.jsonpath_select.specs.declared.error.halt.Halt.TheVariants.{OutOfMemory};
 
-use crate::error::halt::Halt;
 use crate::machine::instruction::Instruction;
 use crate::machine::machine::Machine;
 use crate::machine::standing::{Standing, StandingMarks};
@@ -51,60 +49,31 @@ fn plain_steps_to_filter_with_own_step<'c, 't>(
     for (end, instruction) in rest.iter().enumerate() {
         match instruction {
             Instruction::Step { .. } => {}
-            Instruction::Enter { leaves, deep } if is_child_filter_with_own_step(*leaves, *deep) =>
-                {
-                    return Some(&rest[..end]);
-                }
+            Instruction::Enter { leaves, deep } if !*leaves && *deep => return Some(&rest[..end]),
             _ => return None,
         }
     }
     None
 }
 
-// Whether a filter's own `@` has a step, and no `..` stands before it.
-fn is_child_filter_with_own_step(leaves: bool, deep: bool) -> bool
-    ensures { IsTrue result → (leaves ≡ false) × (deep ≡ true) }
-{
-    !leaves && deep
-}
-
 impl<'a, 't> Machine<'a, 't> {
-    // Where plain steps, one after the other, lead from these marks.
+    // Where plain steps, one after the other, lead from these marks, and, where `asks_standing` is set, how the places
+    // stand there to each other.
     pub(crate) fn follow_steps<M: Carried<'a>>(
         &self,
         steps: &[Instruction<'_>],
-        from: Vec<M>,
-    ) -> Result<Vec<M>, Halt>
-        requires { IsTrue (list_all is_plain_step steps.now) }
-        ensures ok { IfOk result (λ found. MarksLeadBy M.located M.stand M.content (λ doc ls. along self.now.text.now doc steps.now ls) from.items found.items) }
-        ensures refused { IfErr result (λ e. M.located ≡ true → e ≡ OutOfMemory) }
-    {
-        let mut marks = from;
-        for step in steps {
-            let Instruction::Step { leaves, token } = step else {
-                unreachable!()
-            };
-            marks = self.follow_step(*leaves, token, marks.as_slice())?;
-        }
-        Ok(marks)
-    }
-
-    // Where plain steps, one after the other, lead from these marks, and how the places stand there to each other.
-    pub(crate) fn follow_steps_with_standing<M: Carried<'a>>(
-        &self,
-        steps: &[Instruction<'_>],
+        asks_standing: bool,
         from: StandingMarks<M>,
-    ) -> Result<StandingMarks<M>, Halt>
+    ) -> Result<StandingMarks<M>, NoMemory>
         requires { IsTrue (list_all is_plain_step steps.now) }
-        ensures ok { IfOk result (λ led. (ls : List Location) → AreStanding M.located M.stand M.content (view self.now.root.now) ls from → AreStanding M.located M.stand M.content (view self.now.root.now) (along self.now.text.now (view self.now.root.now) steps.now ls) led) }
-        ensures refused { IfErr result (λ e. M.located ≡ true → e ≡ OutOfMemory) }
+        ensures { IfOk result (λ led. (ls : List Location) → AreStanding M.located M.stand M.content (view self.now.root.now) ls from → AreStanding M.located M.stand M.content (view self.now.root.now) (along self.now.text.now (view self.now.root.now) steps.now ls) led) }
     {
         let mut led = from;
         for step in steps {
             let Instruction::Step { leaves, token } = step else {
                 unreachable!()
             };
-            led = self.follow_step_with_standing(*leaves, token, led)?;
+            led = self.follow_step(*leaves, token, asks_standing, led)?;
         }
         Ok(led)
     }
@@ -121,33 +90,25 @@ impl<'a, 't> Machine<'a, 't> {
         })
     }
 
-    // Where one plain step leads from these marks; where `leaves` is set, `..` stands before it, so from all below
-    // them, too.
-    fn follow_step<M: Carried<'a>>(
+    // Where one plain step leads from these marks, and from all below them where `leaves` is set; and, where
+    // `asks_standing` is set, how the places stand there to each other.
+    pub(crate) fn follow_step<M: Carried<'a>>(
         &self,
         leaves: bool,
         token: &ParseToken,
-        marks: &[M],
-    ) -> Result<Vec<M>, Halt>
-        ensures ok { IfOk result (λ found. MarksLeadBy M.located M.stand M.content (λ doc ls. stepped self.now.text.now doc leaves token.now ls) marks.now found.items) }
-        ensures refused { IfErr result (λ e. M.located ≡ true → e ≡ OutOfMemory) }
-    {
-        Ok(marks_after_plain_step(self.alloc, self.text, leaves, token, marks)?)
-    }
-
-    // Where one plain step leads from these marks, and from all below them where `leaves` is set, and how the places
-    // stand there to each other.
-    pub(crate) fn follow_step_with_standing<M: Carried<'a>>(
-        &self,
-        leaves: bool,
-        token: &ParseToken,
+        asks_standing: bool,
         from: StandingMarks<M>,
-    ) -> Result<StandingMarks<M>, Halt>
-        ensures ok { IfOk result (λ led. (ls : List Location) → AreStanding M.located M.stand M.content (view self.now.root.now) ls from → AreStanding M.located M.stand M.content (view self.now.root.now) (stepped self.now.text.now (view self.now.root.now) leaves token.now ls) led) }
-        ensures refused { IfErr result (λ e. M.located ≡ true → e ≡ OutOfMemory) }
+    ) -> Result<StandingMarks<M>, NoMemory>
+        ensures { IfOk result (λ led. (ls : List Location) → AreStanding M.located M.stand M.content (view self.now.root.now) ls from → AreStanding M.located M.stand M.content (view self.now.root.now) (stepped self.now.text.now (view self.now.root.now) leaves token.now ls) led) }
     {
         let before = from.marks.as_slice();
-        let marks = self.follow_step(leaves, token, before)?;
+        let marks = marks_after_plain_step(self.alloc, self.text, leaves, token, before)?;
+        if !asks_standing {
+            return Ok(StandingMarks {
+                standing: Standing::Unknown,
+                marks,
+            });
+        }
         let count = marks.as_slice().len();
         let standing = self.standing_after_step_from_marks(
             from.standing,
@@ -165,13 +126,12 @@ impl<'a, 't> Machine<'a, 't> {
     pub(crate) fn candidates_behind_steps_from_root<M: Carried<'a>>(
         &self,
         steps: &[Instruction<'_>],
-    ) -> Result<Found<M>, Halt>
+    ) -> Result<Found<M>, M::Stop>
         requires { IsTrue (list_all is_plain_step steps.now) }
-        ensures ok { IfOk result (λ found. ShowsFound M.located M.stand M.content (view self.now.root.now) (for_all (flattened (view self.now.root.now) (along self.now.text.now (view self.now.root.now) steps.now ([] ∷ [])))) found) }
-        ensures refused { IfErr result (λ e. M.located ≡ true → e ≡ OutOfMemory) }
+        ensures { IfOk result (λ found. ShowsFound M.located M.stand M.content (view self.now.root.now) (for_all (flattened (view self.now.root.now) (along self.now.text.now (view self.now.root.now) steps.now ([] ∷ [])))) found) }
     {
         let root = self.root_marks()?;
-        let led = self.follow_steps_with_standing(steps, root)?;
+        let led = self.follow_steps(steps, true, root)?;
         let marks = self.candidates_once_at(led.standing, led.marks.as_slice())?;
         let found = marks_shared_by_candidates(self.alloc, marks)?;
         Ok(found)
@@ -184,9 +144,8 @@ impl<'a, 't> Machine<'a, 't> {
         &self,
         standing: Standing,
         marks: &[M],
-    ) -> Result<Vec<M>, Halt>
-        ensures ok { IfOk result (λ found. (ls : List Location) → IsStanding standing ls → MarksStandAt M.located M.stand M.content (view self.now.root.now) ls marks.now → MarksStandAt M.located M.stand M.content (view self.now.root.now) (flattened (view self.now.root.now) ls) found.items) }
-        ensures refused { IfErr result (λ e. M.located ≡ true → e ≡ OutOfMemory) }
+    ) -> Result<Vec<M>, M::Stop>
+        ensures { IfOk result (λ found. (ls : List Location) → IsStanding standing ls → MarksStandAt M.located M.stand M.content (view self.now.root.now) ls marks.now → MarksStandAt M.located M.stand M.content (view self.now.root.now) (flattened (view self.now.root.now) ls) found.items) }
     {
         if standing.are_apart() {
             apart_locations_meet_candidates_once();

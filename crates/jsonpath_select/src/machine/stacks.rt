@@ -1,11 +1,12 @@
 //! The machine's two stacks: the candidates of each open filter, and the operands.
 
-ghost use Rattle.std.specs.Prelude.{◌≡◌, ◌++◌, [], ◌∷◌, List, length};
+ghost use Rattle.std.specs.Prelude.{◌≡◌, ◌++◌, [], ◌∷◌, List, length, OnOk};
 ghost use Rattle.jsonpath_select.specs.plan.Stack.{EndsInMarks, EndsInOne, found_on};
 ghost use Rattle.jsonpath_select.specs.declared.tagged.marks.Found.{Found as FoundOf};
 
 use crate::tagged::marks::Found;
 use crate::tagged::operand::Operand;
+use jsonpath_nodes::NoMemory;
 
 // The candidates of each filter that is open, the innermost last, and the operands.
 #[derive(Drop)]
@@ -44,6 +45,14 @@ pub(crate) fn pop_marks<M: Drop>(operands: &mut Vec<Operand<'_, M>>) -> Found<M>
         Some(Operand::Marks(found)) => found,
         _ => unreachable!(),
     }
+}
+
+// Puts something on top of a stack.
+pub(crate) fn push_top<T: Drop>(stack: &mut Vec<T>, top: T) -> Result<(), NoMemory>
+    ensures { OnOk result (stack.new.items ≡ stack.old.items ++ top ∷ []) }
+{
+    stack.push(top)?;
+    Ok(())
 }
 
 // Takes what is on top of a stack, which has to hold something.

@@ -1,6 +1,6 @@
 //! What the machine and the walks pass from step to step for each node: a reference to the value, or a `Spot`.
 
-ghost use Rattle.std.specs.Prelude.{◌≡◌, [], ◌∷◌, true, IfOk, IfErr};
+ghost use Rattle.std.specs.Prelude.{◌≡◌, [], ◌∷◌, IfOk};
 ghost use Rattle.serde_json.specs.View.{view};
 ghost use Rattle.jsonpath_nodes.specs.place.Mark.{shown, MarksStandAt, MarksLeadBy};
 ghost use Rattle.jsonpath_nodes.specs.place.Order.{once_in_order};
@@ -11,12 +11,13 @@ use crate::error::halt::Halt;
 use jsonpath_nodes::steps_on_marks::{candidates_below_mark, flattened_from_mark};
 use jsonpath_nodes::{Mark, NoMemory, Spot, ValueWalker, in_document_order, topmost_spots};
 use serde_json::Value;
-use std::alloc::Global;
+use std::alloc::{AllocError, Global};
 
 // A mark that can be carried from step to step. The candidates of a filter whose own `@` has a step are what is no
 // array and is reached from the marks through arrays alone; to find them is to flatten.
 pub trait Carried<'a>: Mark<'a> {
-    ghost use Rattle.jsonpath_select.specs.declared.error.halt.Halt.TheVariants.{OutOfMemory};
+    // Why a run on such marks stops without an answer.
+    type Stop: From<NoMemory> + From<AllocError>;
 
     // The mark at the root of the document.
     fn root(alloc: Global, value: &'a Value) -> Self
@@ -28,30 +29,28 @@ pub trait Carried<'a>: Mark<'a> {
 
     // The candidates of a filter whose own `@` has a step, found from the marks, each place once; `NeedsLocations`
     // where the marks can't tell which places are the same.
-    fn flattened_once(alloc: Global, marks: &[Self]) -> Result<Vec<Self>, Halt>
-        ensures ok { IfOk result (λ found. MarksLeadBy Self.located Self.stand Self.content flattened marks.now found.items) }
-        ensures refused { IfErr result (λ e. Self.located ≡ true → e ≡ OutOfMemory) };
+    fn flattened_once(alloc: Global, marks: &[Self]) -> Result<Vec<Self>, Self::Stop>
+        ensures { IfOk result (λ found. MarksLeadBy Self.located Self.stand Self.content flattened marks.now found.items) };
 
     // The candidates of a filter behind `..` whose own `@` has a step, found from the marks, each place once;
     // `NeedsLocations` where the marks can't tell which places are the same.
-    fn candidates_below_once(alloc: Global, marks: &[Self]) -> Result<Vec<Self>, Halt>
-        ensures ok { IfOk result (λ found. MarksLeadBy Self.located Self.stand Self.content (λ doc ls. flattened doc (step doc every (all_below doc ls))) marks.now found.items) }
-        ensures refused { IfErr result (λ e. Self.located ≡ true → e ≡ OutOfMemory) };
+    fn candidates_below_once(alloc: Global, marks: &[Self]) -> Result<Vec<Self>, Self::Stop>
+        ensures { IfOk result (λ found. MarksLeadBy Self.located Self.stand Self.content (λ doc ls. flattened doc (step doc every (all_below doc ls))) marks.now found.items) };
 
     // The marks in document order, each place once; `NeedsLocations` where the marks can't tell their order.
-    fn marks_in_document_order(alloc: Global, marks: &[Self]) -> Result<Vec<Self>, Halt>
-        ensures ok { IfOk result (λ found. MarksLeadBy Self.located Self.stand Self.content (λ _ ls. once_in_order ls) marks.now found.items) }
-        ensures refused { IfErr result (λ e. Self.located ≡ true → e ≡ OutOfMemory) };
+    fn marks_in_document_order(alloc: Global, marks: &[Self]) -> Result<Vec<Self>, Self::Stop>
+        ensures { IfOk result (λ found. MarksLeadBy Self.located Self.stand Self.content (λ _ ls. once_in_order ls) marks.now found.items) };
 
     // The marks without those at or below the one kept before them; `NeedsLocations` where the marks can't tell which
     // these are.
-    fn topmost_marks(alloc: Global, marks: &[Self]) -> Result<Vec<Self>, Halt>
-        ensures ok { IfOk result (λ found. MarksLeadBy Self.located Self.stand Self.content (λ _ ls. topmost ls) marks.now found.items) }
-        ensures refused { IfErr result (λ e. Self.located ≡ true → e ≡ OutOfMemory) };
+    fn topmost_marks(alloc: Global, marks: &[Self]) -> Result<Vec<Self>, Self::Stop>
+        ensures { IfOk result (λ found. MarksLeadBy Self.located Self.stand Self.content (λ _ ls. topmost ls) marks.now found.items) };
 }
 
 // References: from two places and more they can't tell whether the same is reached twice.
 impl<'a> Carried<'a> for &'a Value {
+    type Stop = Halt;
+
     #[inline]
     fn root(_alloc: Global, value: &'a Value) -> &'a Value {
         value
@@ -95,6 +94,8 @@ impl<'a> Carried<'a> for &'a Value {
 }
 
 impl<'a> Carried<'a> for Spot<'a> {
+    type Stop = NoMemory;
+
     #[inline]
     fn root(alloc: Global, value: &'a Value) -> Spot<'a> {
         Spot::root(alloc, value)
@@ -106,22 +107,25 @@ impl<'a> Carried<'a> for Spot<'a> {
     }
 
     // The candidates of a filter whose own `@` has a step, found from the spots, each place once.
-    fn flattened_once(alloc: Global, marks: &[Spot<'a>]) -> Result<Vec<Spot<'a>>, Halt> {
-        Ok(ValueWalker::walk_dedup_all(alloc, marks)?)
+    fn flattened_once(alloc: Global, marks: &[Spot<'a>]) -> Result<Vec<Spot<'a>>, NoMemory> {
+        ValueWalker::walk_dedup_all(alloc, marks)
     }
 
     // The candidates of a filter behind `..` whose own `@` has a step, found from the spots, each place once.
-    fn candidates_below_once(alloc: Global, marks: &[Spot<'a>]) -> Result<Vec<Spot<'a>>, Halt> {
-        Ok(ValueWalker::candidates_below(alloc, marks)?)
+    fn candidates_below_once(alloc: Global, marks: &[Spot<'a>]) -> Result<Vec<Spot<'a>>, NoMemory> {
+        ValueWalker::candidates_below(alloc, marks)
     }
 
     // The spots in document order, each location once.
-    fn marks_in_document_order(alloc: Global, marks: &[Spot<'a>]) -> Result<Vec<Spot<'a>>, Halt> {
-        Ok(in_document_order(alloc, marks)?)
+    fn marks_in_document_order(
+        alloc: Global,
+        marks: &[Spot<'a>],
+    ) -> Result<Vec<Spot<'a>>, NoMemory> {
+        in_document_order(alloc, marks)
     }
 
     // The spots without those at or below the one kept before them; in document order these are the topmost.
-    fn topmost_marks(alloc: Global, marks: &[Spot<'a>]) -> Result<Vec<Spot<'a>>, Halt> {
-        Ok(topmost_spots(alloc, marks)?)
+    fn topmost_marks(alloc: Global, marks: &[Spot<'a>]) -> Result<Vec<Spot<'a>>, NoMemory> {
+        topmost_spots(alloc, marks)
     }
 }

@@ -1,12 +1,10 @@
 //! Moves: a step applied to the node references of all candidates at once, for each candidate separately.
 
-ghost use Rattle.std.specs.Prelude.{◌≡◌, [], true, OnOk, IfOk, IfErr};
+ghost use Rattle.std.specs.Prelude.{◌≡◌, [], true, OnOk, IfOk};
 ghost use Rattle.jsonpath_nodes.specs.place.Mark.{MarksGainBy, MarksLeadBy};
 ghost use Rattle.jsonpath_select.specs.plan.Machine.{each_tag, entered};
 ghost use Rattle.jsonpath_select.specs.plan.Shown.{led, LeadsPairs};
-ghost use Rattle.jsonpath_select.specs.declared.error.halt.Halt.TheVariants.{OutOfMemory};
 
-use crate::error::halt::Halt;
 use crate::step::carried_mark::Carried;
 use crate::step::plain::marks_after_plain_step;
 use crate::tagged::marks::TaggedMarks;
@@ -47,9 +45,8 @@ pub(crate) fn lead_marks_of_candidates<'a, M: Carried<'a>>(
     by: Move<'_>,
     count: usize,
     pairs: TaggedMarks<M>,
-) -> Result<TaggedMarks<M>, Halt>
-    ensures ok { IfOk result (λ found. LeadsPairs M.located M.stand M.content (λ doc ps. each_tag (led doc by.entry) 0 count ps) pairs found) }
-    ensures refused { IfErr result (λ e. M.located ≡ true → e ≡ OutOfMemory) }
+) -> Result<TaggedMarks<M>, M::Stop>
+    ensures { IfOk result (λ found. LeadsPairs M.located M.stand M.content (λ doc ps. each_tag (led doc by.entry) 0 count ps) pairs found) }
 {
     if count == 1 {
         lead_only_candidate(alloc, by, pairs)
@@ -63,9 +60,8 @@ fn lead_only_candidate<'a, M: Carried<'a>>(
     alloc: Global,
     by: Move<'_>,
     pairs: TaggedMarks<M>,
-) -> Result<TaggedMarks<M>, Halt>
-    ensures ok { IfOk result (λ found. LeadsPairs M.located M.stand M.content (λ doc ps. each_tag (led doc by.entry) 0 1 ps) pairs found) }
-    ensures refused { IfErr result (λ e. M.located ≡ true → e ≡ OutOfMemory) }
+) -> Result<TaggedMarks<M>, M::Stop>
+    ensures { IfOk result (λ found. LeadsPairs M.located M.stand M.content (λ doc ps. each_tag (led doc by.entry) 0 1 ps) pairs found) }
 {
     let TaggedMarks {
         tags,
@@ -97,9 +93,8 @@ fn lead_each_candidate<'a, M: Carried<'a>>(
     by: Move<'_>,
     count: usize,
     pairs: &TaggedMarks<M>,
-) -> Result<TaggedMarks<M>, Halt>
-    ensures ok { IfOk result (λ found. LeadsPairs M.located M.stand M.content (λ doc ps. each_tag (led doc by.entry) 0 count ps) pairs.now found) }
-    ensures refused { IfErr result (λ e. M.located ≡ true → e ≡ OutOfMemory) }
+) -> Result<TaggedMarks<M>, M::Stop>
+    ensures { IfOk result (λ found. LeadsPairs M.located M.stand M.content (λ doc ps. each_tag (led doc by.entry) 0 count ps) pairs.now found) }
 {
     let old_tags = pairs.tags.as_slice();
     let old_marks = pairs.marks.as_slice();
@@ -123,9 +118,8 @@ pub(crate) fn candidates_of_filter<'a, M: Carried<'a>>(
     deep: bool,
     count: usize,
     pairs: TaggedMarks<M>,
-) -> Result<TaggedMarks<M>, Halt>
-    ensures ok { IfOk result (λ found. LeadsPairs M.located M.stand M.content (λ doc ps. entered doc leaves deep count ps) pairs found) }
-    ensures refused { IfErr result (λ e. M.located ≡ true → e ≡ OutOfMemory) }
+) -> Result<TaggedMarks<M>, M::Stop>
+    ensures { IfOk result (λ found. LeadsPairs M.located M.stand M.content (λ doc ps. entered doc leaves deep count ps) pairs found) }
 {
     match (leaves, deep) {
         (false, false) => Ok(pairs),
@@ -143,9 +137,8 @@ fn add_marks_after_move<'a, M: Carried<'a>>(
     by: Move<'_>,
     marks: &[M],
     out: &mut Vec<M>,
-) -> Result<(), Halt>
-    ensures ok { OnOk result (MarksGainBy M.located M.stand M.content (λ doc ls. led doc by.entry ls) marks.now out.old.items out.new.items) }
-    ensures refused { IfErr result (λ e. M.located ≡ true → e ≡ OutOfMemory) }
+) -> Result<(), M::Stop>
+    ensures { OnOk result (MarksGainBy M.located M.stand M.content (λ doc ls. led doc by.entry ls) marks.now out.old.items out.new.items) }
 {
     match (by, marks) {
         (Move::Member(key), [mark]) => {
@@ -165,9 +158,8 @@ fn marks_after_move<'a, M: Carried<'a>>(
     alloc: Global,
     by: Move<'_>,
     marks: &[M],
-) -> Result<Vec<M>, Halt>
-    ensures ok { IfOk result (λ found. MarksLeadBy M.located M.stand M.content (λ doc ls. led doc by.entry ls) marks.now found.items) }
-    ensures refused { IfErr result (λ e. M.located ≡ true → e ≡ OutOfMemory) }
+) -> Result<Vec<M>, M::Stop>
+    ensures { IfOk result (λ found. MarksLeadBy M.located M.stand M.content (λ doc ls. led doc by.entry ls) marks.now found.items) }
 {
     match by {
         Move::Step {

@@ -2,7 +2,7 @@
 //! of them a condition holds. An inner filter is decided once for each location, and a descent begins at the nodes
 //! with no ancestor in the set.
 
-ghost use Rattle.std.specs.Prelude.{◌≡◌, List, length, map, filter, if◌then◌else◌, true, false, IfOk, IfErr};
+ghost use Rattle.std.specs.Prelude.{◌≡◌, List, length, map, filter, if◌then◌else◌, true, false, IfOk};
 ghost use Rattle.serde_json.specs.Data.{Data};
 ghost use Rattle.serde_json.specs.View.{view};
 ghost use Rattle.jsonpath_paths.specs.tree.Tree.{lone, path};
@@ -17,21 +17,20 @@ ghost use Rattle.jsonpath_select.specs.Meaning.{holds, sel};
 ghost use Rattle.jsonpath_select.specs.plan.SetWalk.{found_sets, set_holds, set_led, set_step, term_sets};
 ghost use Rattle.jsonpath_select.specs.plan.Shown.{Shows};
 ghost use Rattle.jsonpath_select.specs.plan.Stack.{IsOfTerm, ShowsFound, ShowsOperand};
-ghost use Rattle.jsonpath_select.specs.declared.error.halt.Halt.TheVariants.{OutOfMemory};
 
 use crate::comparison::comparer::Comparer;
-use crate::error::halt::Halt;
 use crate::laws::dropping_repeats_keeps_the_set;
 use crate::tagged::conditions::{join_tags, tags_where_marks_found};
 use crate::tagged::kept_marks::keep_marks_at_indexes;
 use crate::tagged::marks::{Found, TaggedMarks};
 use crate::tagged::moves::{Move, candidates_of_filter, lead_marks_of_candidates};
 use crate::tagged::operand::Operand;
-use crate::tagged::shared_lists::list_count_for_candidates;
+use crate::tagged::shared_lists::{
+    copied_marks, list_count_for_candidates, marks_shared_by_candidates,
+};
 use crate::tagged::start_of_paths::{
     numbered_candidates, root_shared_by_candidates, start_of_path,
 };
-use crate::tagged::tag_lists::fill_tags;
 use crate::walk::own_step::condition_has_own_step;
 use crate::walk::tree_walk::Walk;
 use jsonpath_nodes::laws::{
@@ -56,11 +55,8 @@ impl<'a, 't> Walk<'a, 't> {
         topmost_descend_to_same_set();
         dropping_repeats_keeps_the_set();
         let candidates = spots_as_candidates(self.alloc, spots)?;
-        match self.keep_passing_candidates_by_sets(condition, candidates) {
-            Ok(kept) => Ok(kept.marks),
-            Err(Halt::OutOfMemory) => Err(NoMemory),
-            Err(Halt::NeedsLocations) => unreachable!(),
-        }
+        let kept = self.keep_passing_candidates_by_sets(condition, candidates)?;
+        Ok(kept.marks)
     }
 
     // Spots at what a path selects in the document, each location once.
@@ -72,11 +68,8 @@ impl<'a, 't> Walk<'a, 't> {
         topmost_descend_to_same_set();
         dropping_repeats_keeps_the_set();
         let start = root_shared_by_candidates(self.alloc, self.root)?;
-        match self.sets_after_path(path, &start.pairs) {
-            Ok(found) => Ok(found.pairs.marks),
-            Err(Halt::OutOfMemory) => Err(NoMemory),
-            Err(Halt::NeedsLocations) => unreachable!(),
-        }
+        let found = self.sets_after_path(path, &start.pairs)?;
+        Ok(found.pairs.marks)
     }
 
     // The spots from which the steps lead somewhere, in their order, with their repeats.
@@ -95,15 +88,10 @@ impl<'a, 't> Walk<'a, 't> {
         equal_locations_are_same();
         let candidates = spots_as_candidates(self.alloc, spots)?;
         let distinct = in_document_order(self.alloc, spots)?;
-        match self.keep_distinct_that_lead_on(steps, distinct.as_slice()) {
-            Ok(passing) => {
-                let numbers = indexes_standing_among(self.alloc, spots, passing.as_slice())?;
-                let kept = keep_marks_at_indexes(self.alloc, candidates, numbers.as_slice())?;
-                Ok(kept.marks)
-            }
-            Err(Halt::OutOfMemory) => Err(NoMemory),
-            Err(Halt::NeedsLocations) => unreachable!(),
-        }
+        let passing = self.keep_distinct_that_lead_on(steps, distinct.as_slice())?;
+        let numbers = indexes_standing_among(self.alloc, spots, passing.as_slice())?;
+        let kept = keep_marks_at_indexes(self.alloc, candidates, numbers.as_slice())?;
+        Ok(kept.marks)
     }
 
     // The spots from which the steps lead somewhere, where no two of the spots stand at one location.
@@ -111,9 +99,8 @@ impl<'a, 't> Walk<'a, 't> {
         &self,
         steps: &[ParserStep],
         spots: &[Spot<'a>],
-    ) -> Result<Vec<Spot<'a>>, Halt>
-        ensures ok { IfOk result (λ found. LeadsIn (view self.now.root.now) (filter (λ l. set_holds self.now.text.now (view self.now.root.now) (lone (path false (steps_of_list steps.now))) l)) spots.now found.items) }
-        ensures refused { IfErr result (λ e. e ≡ OutOfMemory) }
+    ) -> Result<Vec<Spot<'a>>, NoMemory>
+        ensures { IfOk result (λ found. LeadsIn (view self.now.root.now) (filter (λ l. set_holds self.now.text.now (view self.now.root.now) (lone (path false (steps_of_list steps.now))) l)) spots.now found.items) }
     {
         let candidates = spots_as_candidates(self.alloc, spots)?;
         let count = spots.len();
@@ -133,9 +120,8 @@ impl<'a, 't> Walk<'a, 't> {
         &self,
         path: &ParserNode,
         candidates: &TaggedMarks<Spot<'a>>,
-    ) -> Result<Found<Spot<'a>>, Halt>
-        ensures ok { IfOk result (λ found. (ps : List Tagged) → Shows true location_of value_of (view self.now.root.now) ps candidates.now → ShowsFound true location_of value_of (view self.now.root.now) (found_sets self.now.text.now (view self.now.root.now) (path_of path.now) (places ps)) found) }
-        ensures refused { IfErr result (λ e. e ≡ OutOfMemory) }
+    ) -> Result<Found<Spot<'a>>, NoMemory>
+        ensures { IfOk result (λ found. (ps : List Tagged) → Shows true location_of value_of (view self.now.root.now) ps candidates.now → ShowsFound true location_of value_of (view self.now.root.now) (found_sets self.now.text.now (view self.now.root.now) (path_of path.now) (places ps)) found) }
     {
         let mut pairs = start_of_path(self.alloc, self.root, path.absolute, candidates)?.pairs;
         let lists = list_count_for_candidates(path.absolute, candidates.marks.as_slice().len());
@@ -155,15 +141,13 @@ impl<'a, 't> Walk<'a, 't> {
         step: &ParserStep,
         lists: usize,
         pairs: TaggedMarks<Spot<'a>>,
-    ) -> Result<TaggedMarks<Spot<'a>>, Halt>
-        ensures ok { IfOk result (λ found. (f : Location → List Location) (ls : List Location) → lists ≡ length ls → Shows true location_of value_of (view self.now.root.now) (spread f 0 ls) pairs.entry
+    ) -> Result<TaggedMarks<Spot<'a>>, NoMemory>
+        ensures { IfOk result (λ found. (f : Location → List Location) (ls : List Location) → lists ≡ length ls → Shows true location_of value_of (view self.now.root.now) (spread f 0 ls) pairs.entry
             → Shows true location_of value_of (view self.now.root.now) (spread (λ c. set_step self.now.text.now (view self.now.root.now) (inner_of step.now.inner) step.now.leaves (f c)) 0 ls) found) }
-        ensures refused { IfErr result (λ e. e ≡ OutOfMemory) }
     {
         let top = self.topmost_before_descent(step.leaves, lists, pairs)?;
         let found = self.lists_after_token_or_filter(&step.inner, step.leaves, lists, top)?;
-        let found = lead_marks_of_candidates(self.alloc, Move::InOrder, lists, found)?;
-        Ok(found)
+        lead_marks_of_candidates(self.alloc, Move::InOrder, lists, found)
     }
 
     // Where the token or the filter of a step, behind `..` where `leaves` is set, leads the marks of each of so many
@@ -175,10 +159,9 @@ impl<'a, 't> Walk<'a, 't> {
         leaves: bool,
         lists: usize,
         pairs: TaggedMarks<Spot<'a>>,
-    ) -> Result<TaggedMarks<Spot<'a>>, Halt>
-        ensures ok { IfOk result (λ found. (f : Location → List Location) (ls : List Location) → lists ≡ length ls → Shows true location_of value_of (view self.now.root.now) (spread f 0 ls) pairs.entry
+    ) -> Result<TaggedMarks<Spot<'a>>, NoMemory>
+        ensures { IfOk result (λ found. (f : Location → List Location) (ls : List Location) → lists ≡ length ls → Shows true location_of value_of (view self.now.root.now) (spread f 0 ls) pairs.entry
             → Shows true location_of value_of (view self.now.root.now) (spread (λ c. set_led self.now.text.now (view self.now.root.now) (inner_of inner.now) leaves (f c)) 0 ls) found) }
-        ensures refused { IfErr result (λ e. e ≡ OutOfMemory) }
     {
         match inner {
             Inner::Token(token) => {
@@ -187,14 +170,12 @@ impl<'a, 't> Walk<'a, 't> {
                     token,
                     text: self.text,
                 };
-                let found = lead_marks_of_candidates(self.alloc, by, lists, pairs)?;
-                Ok(found)
+                lead_marks_of_candidates(self.alloc, by, lists, pairs)
             }
             Inner::Filter(condition) => {
                 let deep = condition_has_own_step(condition);
                 let flat = candidates_of_filter(self.alloc, leaves, deep, lists, pairs)?;
-                let kept = self.keep_passing_candidates_by_sets(condition, flat)?;
-                Ok(kept)
+                self.keep_passing_candidates_by_sets(condition, flat)
             }
         }
     }
@@ -206,14 +187,12 @@ impl<'a, 't> Walk<'a, 't> {
         leaves: bool,
         lists: usize,
         pairs: TaggedMarks<Spot<'a>>,
-    ) -> Result<TaggedMarks<Spot<'a>>, Halt>
-        ensures ok { IfOk result (λ found. (doc : Data) (f : Location → List Location) (ls : List Location) → lists ≡ length ls → Shows true location_of value_of doc (spread f 0 ls) pairs.entry
+    ) -> Result<TaggedMarks<Spot<'a>>, NoMemory>
+        ensures { IfOk result (λ found. (doc : Data) (f : Location → List Location) (ls : List Location) → lists ≡ length ls → Shows true location_of value_of doc (spread f 0 ls) pairs.entry
             → Shows true location_of value_of doc (spread (λ c. if leaves then topmost (f c) else f c) 0 ls) found) }
-        ensures refused { IfErr result (λ e. e ≡ OutOfMemory) }
     {
         if leaves {
-            let found = lead_marks_of_candidates(self.alloc, Move::Topmost, lists, pairs)?;
-            Ok(found)
+            lead_marks_of_candidates(self.alloc, Move::Topmost, lists, pairs)
         } else {
             Ok(pairs)
         }
@@ -225,14 +204,12 @@ impl<'a, 't> Walk<'a, 't> {
         &self,
         condition: &Condition,
         candidates: TaggedMarks<Spot<'a>>,
-    ) -> Result<TaggedMarks<Spot<'a>>, Halt>
-        ensures ok { IfOk result (λ found. (ps : List Tagged) → Shows true location_of value_of (view self.now.root.now) ps candidates.entry
+    ) -> Result<TaggedMarks<Spot<'a>>, NoMemory>
+        ensures { IfOk result (λ found. (ps : List Tagged) → Shows true location_of value_of (view self.now.root.now) ps candidates.entry
             → Shows true location_of value_of (view self.now.root.now) (filter (λ (p : Tagged). set_holds self.now.text.now (view self.now.root.now) (condition_of condition.now) p.1) ps) found) }
-        ensures refused { IfErr result (λ e. e ≡ OutOfMemory) }
     {
         let numbers = self.indexes_of_passing_candidates_by_location(condition, &candidates)?;
-        let kept = keep_marks_at_indexes(self.alloc, candidates, numbers.as_slice())?;
-        Ok(kept)
+        keep_marks_at_indexes(self.alloc, candidates, numbers.as_slice())
     }
 
     // The indexes of the candidates at which the condition holds. It is decided once for each location.
@@ -241,9 +218,8 @@ impl<'a, 't> Walk<'a, 't> {
         &self,
         condition: &Condition,
         candidates: &TaggedMarks<Spot<'a>>,
-    ) -> Result<Vec<usize>, Halt>
-        ensures ok { IfOk result (λ numbers. (ps : List Tagged) → Shows true location_of value_of (view self.now.root.now) ps candidates.now → numbers.items ≡ numbers_where (set_holds self.now.text.now (view self.now.root.now) (condition_of condition.now)) 0 (places ps)) }
-        ensures refused { IfErr result (λ e. e ≡ OutOfMemory) }
+    ) -> Result<Vec<usize>, NoMemory>
+        ensures { IfOk result (λ numbers. (ps : List Tagged) → Shows true location_of value_of (view self.now.root.now) ps candidates.now → numbers.items ≡ numbers_where (set_holds self.now.text.now (view self.now.root.now) (condition_of condition.now)) 0 (places ps)) }
     {
         let marks = candidates.marks.as_slice();
         let distinct = in_document_order(self.alloc, marks)?;
@@ -256,8 +232,7 @@ impl<'a, 't> Walk<'a, 't> {
         let alone = spots_as_candidates(self.alloc, distinct.as_slice())?;
         let numbers = self.indexes_of_passing_candidates(condition, &alone)?;
         let passing = keep_marks_at_indexes(self.alloc, alone, numbers.as_slice())?;
-        let found = indexes_standing_among(self.alloc, marks, passing.marks.as_slice())?;
-        Ok(found)
+        indexes_standing_among(self.alloc, marks, passing.marks.as_slice())
     }
 
     // The indexes of the candidates at which the condition holds, decided for all of them at once.
@@ -266,21 +241,14 @@ impl<'a, 't> Walk<'a, 't> {
         &self,
         condition: &Condition,
         candidates: &TaggedMarks<Spot<'a>>,
-    ) -> Result<Vec<usize>, Halt>
-        ensures ok { IfOk result (λ numbers. (ps : List Tagged) → Shows true location_of value_of (view self.now.root.now) ps candidates.now → numbers.items ≡ numbers_where (set_holds self.now.text.now (view self.now.root.now) (condition_of condition.now)) 0 (places ps)) }
-        ensures refused { IfErr result (λ e. e ≡ OutOfMemory) }
+    ) -> Result<Vec<usize>, NoMemory>
+        ensures { IfOk result (λ numbers. (ps : List Tagged) → Shows true location_of value_of (view self.now.root.now) ps candidates.now → numbers.items ≡ numbers_where (set_holds self.now.text.now (view self.now.root.now) (condition_of condition.now)) 0 (places ps)) }
     {
         let count = candidates.marks.as_slice().len();
         match condition {
             Condition::Lone(path) => {
                 let found = self.sets_after_path(path, candidates)?;
-                let tags = tags_where_marks_found(
-                    self.alloc,
-                    found.is_shared,
-                    count,
-                    &found.pairs,
-                )?;
-                Ok(tags)
+                tags_where_marks_found(self.alloc, found.is_shared, count, &found.pairs)
             }
             Condition::Compare(left, op, right) => {
                 let lefts = self.operand_of_term(left, candidates)?;
@@ -291,14 +259,12 @@ impl<'a, 't> Walk<'a, 't> {
                     text: self.text,
                     count,
                 };
-                let tags = comparison.tags_where_comparison_holds(lefts, rights)?;
-                Ok(tags)
+                comparison.tags_where_comparison_holds(lefts, rights)
             }
             Condition::Join(op, left, right) => {
                 let lefts = self.indexes_of_passing_candidates(left, candidates)?;
                 let rights = self.indexes_of_passing_candidates(right, candidates)?;
-                let tags = join_tags(self.alloc, *op, count, lefts.as_slice(), rights.as_slice())?;
-                Ok(tags)
+                join_tags(self.alloc, *op, count, lefts.as_slice(), rights.as_slice())
             }
         }
     }
@@ -309,10 +275,9 @@ impl<'a, 't> Walk<'a, 't> {
         &self,
         term: &'c Term,
         candidates: &TaggedMarks<Spot<'a>>,
-    ) -> Result<Operand<'c, Spot<'a>>, Halt>
+    ) -> Result<Operand<'c, Spot<'a>>, NoMemory>
         ensures kind { IfOk result (λ operand. IsOfTerm operand) }
         ensures ok { IfOk result (λ operand. (ps : List Tagged) → Shows true location_of value_of (view self.now.root.now) ps candidates.now → ShowsOperand true location_of value_of self.now.text.now (view self.now.root.now) (term_sets self.now.text.now (view self.now.root.now) (term_of term.now) (places ps)) operand) }
-        ensures refused { IfErr result (λ e. e ≡ OutOfMemory) }
     {
         match term {
             Term::Path(path) => {
@@ -331,11 +296,7 @@ fn spots_as_candidates<'a>(
 ) -> Result<TaggedMarks<Spot<'a>>, NoMemory>
     ensures { IfOk result (λ found. (doc : Data) (ls : List Location) → StandAt doc ls spots.now → Shows true location_of value_of doc (tagged 0 ls) found) }
 {
-    let mut marks = Vec::with_capacity(alloc, spots.len())?;
-    for spot in spots {
-        marks.push(spot.clone()?)?;
-    }
-    let mut tags = Vec::with_capacity(alloc, spots.len())?;
-    fill_tags(&mut tags, 0, marks.as_slice().len())?;
-    Ok(TaggedMarks { tags, marks })
+    let marks = copied_marks(alloc, spots)?;
+    let found = marks_shared_by_candidates(alloc, marks)?;
+    Ok(found.pairs)
 }

@@ -4,13 +4,12 @@
 ghost use Rattle.std.specs.Prelude.{◌≡◌, [], ◌∷◌, ◌++◌, map, filter, IfOk, OnOk, if◌then◌else◌};
 ghost use Rattle.std.specs.Cow.{cow_str_bytes};
 ghost use Rattle.serde_json.specs.View.{view};
-ghost use Rattle.jsonpath_paths.specs.tree.Tree.{plain};
+ghost use Rattle.jsonpath_paths.specs.tree.Tree.{filter as filter_of};
 ghost use Rattle.jsonpath_paths.specs.tree.View.{path_of, inner_of, condition_of, term_of};
 ghost use Rattle.jsonpath_nodes.specs.place.Location.{Location};
 ghost use Rattle.jsonpath_nodes.specs.place.SpotPlace.{StandAt, StandsAt, LeadsIn, sight_of};
 ghost use Rattle.jsonpath_nodes.specs.compare.Atoms.{seen_by};
-ghost use Rattle.jsonpath_nodes.specs.step.Steps.{step as step_of, every, all_below};
-ghost use Rattle.jsonpath_select.specs.Meaning.{sel, reached as reached_from, inner_on, holds, candidates, values as values_of, quoted_text_of_term};
+ghost use Rattle.jsonpath_select.specs.Meaning.{sel, reached as reached_from, inner_on, holds, values as values_of, quoted_text_of_term};
 
 use crate::comparison::atoms::{atoms_of_marks, literal_atoms};
 use crate::comparison::pairs::has_pair;
@@ -111,65 +110,41 @@ impl<'a, 't> Walk<'a, 't> {
         ensures { IfOk result (λ found. LeadsIn (view self.now.root.now) (inner_on self.now.text.now (view self.now.root.now) (inner_of step.now.inner) step.now.leaves) spots.now found.items) }
     {
         match &step.inner {
-            Inner::Token(token) => self.spots_after_plain_step(token, step.leaves, spots),
-            Inner::Filter(condition) => {
-                if step.leaves {
-                    self.spots_after_filter_below(condition, spots)
-                } else {
-                    self.spots_after_filter(condition, spots)
-                }
-            }
+            Inner::Token(token) => marks_after_plain_step(
+                self.alloc,
+                self.text,
+                step.leaves,
+                token,
+                spots,
+            ),
+            Inner::Filter(condition) => self.spots_after_filter(condition, step.leaves, spots),
         }
     }
 
-    // Where a plain step leads from the spots, alone or after `..`.
-    pub(crate) fn spots_after_plain_step(
-        &self,
-        token: &ParseToken,
-        leaves: bool,
-        spots: &[Spot<'a>],
-    ) -> Result<Vec<Spot<'a>>, NoMemory>
-        ensures { IfOk result (λ found. LeadsIn (view self.now.root.now) (inner_on self.now.text.now (view self.now.root.now) (plain token.now) leaves) spots.now found.items) }
-    {
-        marks_after_plain_step(self.alloc, self.text, leaves, token, spots)
-    }
-
-    // What a filter after `..` keeps: its candidates are found among all below the spots.
-    #[cycle(walk)]
-    fn spots_after_filter_below(
-        &self,
-        condition: &Condition,
-        spots: &[Spot<'a>],
-    ) -> Result<Vec<Spot<'a>>, NoMemory>
-        ensures { IfOk result (λ found. LeadsIn (view self.now.root.now)
-            (λ ls. filter (λ l. holds self.now.text.now (view self.now.root.now) (condition_of condition.now) l)
-            (candidates (view self.now.root.now) (condition_of condition.now) (step_of (view self.now.root.now) every (all_below (view self.now.root.now) ls)))) spots.now found.items) }
-    {
-        if condition_has_own_step(condition) {
-            let flat = ValueWalker::candidates_below(self.alloc, spots)?;
-            self.filter_spots(condition, flat.as_slice())
-        } else {
-            let lower = ValueWalker::all(self.alloc, spots)?;
-            self.filter_spots(condition, lower.as_slice())
-        }
-    }
-
-    // What a filter keeps that no `..` stands before: its candidates are found from the spots.
+    // What a filter keeps: its candidates are found from the spots, or, where `leaves` is set, from all below them.
     #[cycle(walk)]
     fn spots_after_filter(
         &self,
         condition: &Condition,
+        leaves: bool,
         spots: &[Spot<'a>],
     ) -> Result<Vec<Spot<'a>>, NoMemory>
-        ensures { IfOk result (λ found. LeadsIn (view self.now.root.now)
-            (λ ls. filter (λ l. holds self.now.text.now (view self.now.root.now) (condition_of condition.now) l)
-            (candidates (view self.now.root.now) (condition_of condition.now) ls)) spots.now found.items) }
+        ensures { IfOk result (λ found. LeadsIn (view self.now.root.now) (inner_on self.now.text.now (view self.now.root.now) (filter_of (condition_of condition.now)) leaves) spots.now found.items) }
     {
-        if condition_has_own_step(condition) {
-            let flat = ValueWalker::walk_dedup_all(self.alloc, spots)?;
-            self.filter_spots(condition, flat.as_slice())
-        } else {
-            self.filter_spots(condition, spots)
+        match (leaves, condition_has_own_step(condition)) {
+            (false, false) => self.filter_spots(condition, spots),
+            (true, false) => {
+                let lower = ValueWalker::all(self.alloc, spots)?;
+                self.filter_spots(condition, lower.as_slice())
+            }
+            (false, true) => {
+                let flat = ValueWalker::walk_dedup_all(self.alloc, spots)?;
+                self.filter_spots(condition, flat.as_slice())
+            }
+            (true, true) => {
+                let flat = ValueWalker::candidates_below(self.alloc, spots)?;
+                self.filter_spots(condition, flat.as_slice())
+            }
         }
     }
 

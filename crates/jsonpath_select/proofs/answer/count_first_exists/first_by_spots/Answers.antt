@@ -15,5 +15,5 @@ returns-in-Some c =
       answer text doc p,
       record { path = p; spelled = c.requires.spelled; holds = refl },
       ap (λ d. Some d) c.value.ensures ∙ ap (option_map value_of) (c.in-Some.ensures.value ∙ ap (λ spots. slice_get spots 0) c.deref.ensures.value)
-          ∙ first_answered true location_of value_of doc (sel text doc p) c.in-Ok.found.items (c.in-Ok.ensures.ok p c.requires.holds),
+          ∙ first_answered true location_of value_of doc (sel text doc p) c.in_ok-found.found.items (c.in_ok-found.ensures p c.requires.holds),
     )

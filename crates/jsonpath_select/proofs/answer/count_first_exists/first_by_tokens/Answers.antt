@@ -14,5 +14,5 @@ returns-in-Ok c =
       answer text doc p,
       record { path = p; spelled = c.requires.spelled; holds = refl },
       ap (option_map (λ v. view v.now)) (c.copied.ensures ∙ c.first.ensures.value ∙ ap (λ vs. slice_get vs 0) c.deref.ensures.value)
-          ∙ first_answered false (λ v. []) (λ v. view v.now) doc (sel text doc p) c.in-Ok.found.items (c.in-Ok.ensures.ok p c.requires.holds),
+          ∙ first_answered false (λ v. []) (λ v. view v.now) doc (sel text doc p) c.in-Ok.found.items (c.in-Ok.ensures p c.requires.holds),
     )

@@ -8,6 +8,9 @@ use Rattle.jsonpath_select.proofs.answer.select.values_by_tokens.Goals as goal
 pub select_by_tokens-requires : goal.select_by_tokens-requires
 select_by_tokens-requires c = λ k. ((refl, tt), (c.requires.path, c.requires.holds))
 
+pub select_by_tokens-requires-in-Err-NeedsLocations : goal.select_by_tokens-requires-in-Err-NeedsLocations
+select_by_tokens-requires-in-Err-NeedsLocations c = λ k. ((refl, tt), (c.requires.path, c.requires.holds))
+
 pub returns-in-Ok-clause-ok : goal.returns-in-Ok-clause-ok
 returns-in-Ok-clause-ok c =
     let doc = view c.args.json.now in
@@ -15,11 +18,13 @@ returns-in-Ok-clause-ok c =
     record {
       path = p;
       spelled = c.requires.spelled;
-      holds = contents-at false (λ m. []) (λ m. view m.now) doc (sel c.args.text.now doc p) c.in-Ok.found.items (c.in-Ok.ensures.ok p c.requires.holds);
+      holds = contents-at false (λ m. []) (λ m. view m.now) doc (sel c.args.text.now doc p) c.in-Ok.found.items (c.in-Ok.ensures p c.requires.holds);
     }
 
 pub returns-in_ok-found-in-Err-NeedsLocations-clause-ok : goal.returns-in_ok-found-in-Err-NeedsLocations-clause-ok
 returns-in_ok-found-in-Err-NeedsLocations-clause-ok c =
     let text = c.args.text.now in
     let doc = view c.args.json.now in
-    c.in_ok-found-in-Err-NeedsLocations.ensures.ok text doc (subst (λ (ss : List Spot). SelectsSpots text doc ss) (sym c.as_slice.ensures.value) c.in_ok-spots-in-Err-NeedsLocations.ensures.ok)
+    let p = c.requires.path in
+    let spots : SelectsSpots text doc c.in_ok-spots-in-Err-NeedsLocations.spots.items = record { path = p; spelled = c.requires.spelled; holds = c.in_ok-spots-in-Err-NeedsLocations.ensures p c.requires.holds } in
+    c.in_ok-found-in-Err-NeedsLocations.ensures.ok text doc (subst (λ (ss : List Spot). SelectsSpots text doc ss) (sym c.as_slice.ensures.value) spots)

@@ -7,5 +7,4 @@ pub returns-in-Enter : goal.returns-in-Enter
 returns-in-Enter c =
     let rest = c.args.rest.now in
     let end = c.loop-end.end in
-    let told = c.is_child_filter_with_own_step.ensures c.if-is_child_filter_with_own_step.true in
-    (drop (suc end) rest, up_to rest end c.index-rest-end.result (Enter false true) c.loop-end-test.true c.index-rest-end.is (c.in-Enter.is ∙ ap₂ Enter told.0 told.1), c.loop-end.invariant)
+    (drop (suc end) rest, up_to rest end c.index-rest-end.result (Enter false true) c.loop-end-test.true c.index-rest-end.is (c.in-Enter.is ∙ ap₂ Enter c.if-not-leaves.true c.if-deep.true), c.loop-end.invariant)

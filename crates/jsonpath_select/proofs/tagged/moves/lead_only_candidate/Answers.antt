@@ -7,8 +7,8 @@ use Rattle.jsonpath_select.proofs.tagged.moves.lead_only_candidate.Goals as goal
 pub fill_tags-requires : goal.fill_tags-requires
 fill_tags-requires g c = let none : length c.emptied_or_new_list-tags.result.items ≡ 0 = ap length c.emptied_or_new_list-tags.ensures in omega (arith, none)
 
-pub returns-clause-ok : goal.returns-clause-ok
-returns-clause-ok g c = λ doc ps are.
+pub returns : goal.returns
+returns g c = λ doc ps are.
     let way = led doc c.args.by in
     let end : ℕ = c.candidate_end_in_tags-end.result in
     let old = c.args.pairs.marks.items in
@@ -22,4 +22,4 @@ returns-clause-ok g c = λ doc ps are.
     filled 0 (length c.as_slice-4.result.now) (length found) [] (ap length c.as_slice-4.ensures.value ∙ longer) (c.in_ok-fill_tags.ensures ∙ ap (λ (ts : List ℕ). ts ++ replicate (length c.as_slice-4.result.now - length ts) 0) c.emptied_or_new_list-tags.ensures) in
     turn_done g.M.Mark.located g.M.Mark.stand g.M.Mark.content doc way ps 1 1 end c.fill_tags.new.tags.items found (omega arith)
     (turn_next g.M.Mark.located g.M.Mark.stand g.M.Mark.content doc way ps c.args.pairs.tags.items old 1 0 0 end (length found) [] c.fill_tags.new.tags.items [] found (take end c.as_slice-2.result.now)
-    are (omega arith) ends slice longer tags (λ ls h. c.in_ok-marks.ensures.ok doc ls h) (turn_begins g.M.Mark.located g.M.Mark.stand g.M.Mark.content doc way ps 1))
+    are (omega arith) ends slice longer tags (λ ls h. c.in_ok-marks.ensures doc ls h) (turn_begins g.M.Mark.located g.M.Mark.stand g.M.Mark.content doc way ps 1))

@@ -5,9 +5,9 @@ use Rattle.jsonpath_nodes.specs.step.Steps.{flattened}
 use Rattle.jsonpath_select.specs.plan.Standing.{along}
 use Rattle.jsonpath_select.proofs.machine.machine.Machine.candidates_behind_steps_from_root.Goals as goal
 
-pub returns-clause-ok : goal.returns-clause-ok
-returns-clause-ok g c =
+pub returns : goal.returns
+returns g c =
     let doc = view c.args.self.now.root.now in
     let ls = along c.args.self.now.text.now doc c.args.steps.now ([] ∷ []) in
-    let led = c.in_ok-led.ensures.ok ([] ∷ []) c.in_ok-root.ensures in
-    c.in_ok-found.ensures doc (flattened doc ls) (c.in_ok-marks.ensures.ok ls led.1 (ap (map (shown g.M.Mark.stand g.M.Mark.content)) c.as_slice.ensures.value ∙ led.0))
+    let led = c.in_ok-led.ensures ([] ∷ []) c.in_ok-root.ensures in
+    c.in_ok-found.ensures doc (flattened doc ls) (c.in_ok-marks.ensures ls led.1 (ap (map (shown g.M.Mark.stand g.M.Mark.content)) c.as_slice.ensures.value ∙ led.0))

@@ -20,12 +20,12 @@ pub loop-at-preserved : goal.loop-at-preserved
 loop-at-preserved g c = λ s t h e.
     let held = c.loop-at.invariant s t h e in
     let code = c.args.code.now in
-    let taken = c.in_ok-at.ensures.ok in
+    let taken = c.in_ok-at.ensures in
     let next = between c.args.self.now.text.now (view c.args.self.now.root.now) (drop c.loop-at.at code) taken.1 (drop c.in_ok-at.at code) held.0 t taken.2 held.2 in
     (next.0, taken.3 held.0 next.0 held.1 next.1, next.2)
 
-pub returns-clause-ok : goal.returns-clause-ok
-returns-clause-ok g c = λ s t h e.
+pub returns : goal.returns
+returns g c = λ s t h e.
     let held = c.loop-at.invariant s t h e in
     let none : drop c.loop-at.at c.args.code.now ≡ [] = drop_of_length-le c.args.code.now {i = c.loop-at.at} c.loop-at-test.false in
     let last : Some held.0 ≡ Some t = ap (λ (js : List Instruction). run_all c.args.self.now.text.now (view c.args.self.now.root.now) (map instruction_of js) held.0) (sym none) ∙ held.2 in

@@ -14,30 +14,30 @@ as_is : {M : Type 0} (located : Bool) (stand : M → Location) (content : M → 
     → Executes located stand content text doc (instruction_of j) before after → Executes located stand content text doc (instruction_of i) before after
 as_is located stand content text doc i j before after is steps = subst (λ (k : Instruction). Executes located stand content text doc (instruction_of k) before after) (sym is) steps
 
-pub returns-in_ok-start_path-in-Start-clause-ok : goal.returns-in_ok-start_path-in-Start-clause-ok
-returns-in_ok-start_path-in-Start-clause-ok g c =
+pub returns-in_ok-start_path-in-Start : goal.returns-in_ok-start_path-in-Start
+returns-in_ok-start_path-in-Start g c =
     as_is g.M.Mark.located g.M.Mark.stand g.M.Mark.content c.args.self.now.text.now (view c.args.self.now.root.now) c.args.instruction _ c.args.stacks.now c.start_path.new.stacks c.in-Start.is c.in_ok-start_path-in-Start.ensures
 
-pub returns-in-Step-clause-ok : goal.returns-in-Step-clause-ok
-returns-in-Step-clause-ok g c =
+pub returns-in-Step : goal.returns-in-Step
+returns-in-Step g c =
     weaken c.take_plain_step.result
     (λ steps. as_is g.M.Mark.located g.M.Mark.stand g.M.Mark.content c.args.self.now.text.now (view c.args.self.now.root.now) c.args.instruction _ c.args.stacks.now c.take_plain_step.new.stacks c.in-Step.is (steps (view c.args.self.now.root.now)))
-    c.take_plain_step.ensures.ok
+    c.take_plain_step.ensures
 
-pub returns-in-Enter-clause-ok : goal.returns-in-Enter-clause-ok
-returns-in-Enter-clause-ok g c =
+pub returns-in-Enter : goal.returns-in-Enter
+returns-in-Enter g c =
     weaken c.begin_filter.result
     (λ steps. as_is g.M.Mark.located g.M.Mark.stand g.M.Mark.content c.args.self.now.text.now (view c.args.self.now.root.now) c.args.instruction _ c.args.stacks.now c.begin_filter.new.stacks c.in-Enter.is (steps (view c.args.self.now.root.now)))
-    c.begin_filter.ensures.ok
+    c.begin_filter.ensures
 
-pub returns-in_ok-end_filter-in-Leave-clause-ok : goal.returns-in_ok-end_filter-in-Leave-clause-ok
-returns-in_ok-end_filter-in-Leave-clause-ok g c =
+pub returns-in_ok-end_filter-in-Leave : goal.returns-in_ok-end_filter-in-Leave
+returns-in_ok-end_filter-in-Leave g c =
     as_is g.M.Mark.located g.M.Mark.stand g.M.Mark.content c.args.self.now.text.now (view c.args.self.now.root.now) c.args.instruction _ c.args.stacks.now c.end_filter.new.stacks c.in-Leave.is (c.in_ok-end_filter-in-Leave.ensures (view c.args.self.now.root.now))
 
-pub returns-in_ok-compare_two_operands-in-Compares-clause-ok : goal.returns-in_ok-compare_two_operands-in-Compares-clause-ok
-returns-in_ok-compare_two_operands-in-Compares-clause-ok g c =
+pub returns-in_ok-compare_two_operands-in-Compares : goal.returns-in_ok-compare_two_operands-in-Compares
+returns-in_ok-compare_two_operands-in-Compares g c =
     as_is g.M.Mark.located g.M.Mark.stand g.M.Mark.content c.args.self.now.text.now (view c.args.self.now.root.now) c.args.instruction _ c.args.stacks.now c.compare_two_operands.new.stacks c.in-Compares.is (c.in_ok-compare_two_operands-in-Compares.ensures (view c.args.self.now.root.now))
 
-pub returns-in_ok-join_two_conditions-in-Joins-clause-ok : goal.returns-in_ok-join_two_conditions-in-Joins-clause-ok
-returns-in_ok-join_two_conditions-in-Joins-clause-ok g c =
+pub returns-in_ok-join_two_conditions-in-Joins : goal.returns-in_ok-join_two_conditions-in-Joins
+returns-in_ok-join_two_conditions-in-Joins g c =
     as_is g.M.Mark.located g.M.Mark.stand g.M.Mark.content c.args.self.now.text.now (view c.args.self.now.root.now) c.args.instruction _ c.args.stacks.now c.join_two_conditions.new.stacks c.in-Joins.is (c.in_ok-join_two_conditions-in-Joins.ensures (view c.args.self.now.root.now))

@@ -18,8 +18,8 @@ start_at_member-requires g c = λ k.
     let first = first_there text doc _ (Start false) (begins.0 ∷ begins.1) can.0 can.1 (sym (take_rest c.args.code.now c.args.at) ∙ begins.2) can.3 in
     ((refl, tt), inside_frames g.M.Mark.located g.M.Mark.stand g.M.Mark.content text doc (code.start false) can.0.frames can.0.operands first.0 c.args.stacks.now.frames.items can.2.0 first.1)
 
-pub returns-in-Some-clause-ok : goal.returns-in-Some-clause-ok
-returns-in-Some-clause-ok g c =
+pub returns-in-Some : goal.returns-in-Some
+returns-in-Some g c =
     let begins = c.in-Some.ensures in
     let text = c.args.self.now.text.now in
     let doc = view c.args.self.now.root.now in (
@@ -39,18 +39,18 @@ execute_instruction-requires g c = λ k.
     let first = first_there text doc _ c.index-code-at.result _ can.0 can.1 (one_taken c.args.code.now c.args.at c.index-code-at.result c.index-code-at.is c.requires.some) can.3 in
     ((refl, tt), (doc, can.0, first.0, can.2, first.1))
 
-pub returns-clause-ok : goal.returns-clause-ok
-returns-clause-ok g c =
+pub returns : goal.returns
+returns g c =
     let text = c.args.self.now.text.now in
     let doc = view c.args.self.now.root.now in (
       omega arith,
       c.index-code-at.result ∷ [],
       one_taken c.args.code.now c.args.at c.index-code-at.result c.index-code-at.is c.requires.some,
-      λ s t h e. c.in_ok-execute_instruction.ensures.ok s t h (alone text doc (instruction_of c.index-code-at.result) s t e),
+      λ s t h e. c.in_ok-execute_instruction.ensures s t h (alone text doc (instruction_of c.index-code-at.result) s t e),
     )
 
-pub returns-in-Some-root_steps_to_filter_with_own_step-clause-ok : goal.returns-in-Some-root_steps_to_filter_with_own_step-clause-ok
-returns-in-Some-root_steps_to_filter_with_own_step-clause-ok g c =
+pub returns-in-Some-root_steps_to_filter_with_own_step : goal.returns-in-Some-root_steps_to_filter_with_own_step
+returns-in-Some-root_steps_to_filter_with_own_step g c =
     let steps = c.in-Some-root_steps_to_filter_with_own_step.steps.now in
     let leads = c.in-Some-root_steps_to_filter_with_own_step.ensures in
     let text = c.args.self.now.text.now in
@@ -59,6 +59,6 @@ returns-in-Some-root_steps_to_filter_with_own_step-clause-ok g c =
       Start true ∷ steps ++ Enter false true ∷ [],
       many_taken c.args.code.now c.args.at (Start true) (Enter false true) steps leads.0 (sym (take_rest c.args.code.now c.args.at) ∙ leads.1),
       λ s t h e.
-          shown_there g.M.Mark.located g.M.Mark.stand g.M.Mark.content text doc steps s t c.args.stacks.now.frames.items c.push.new.self.items c.args.stacks.now.operands.items c.in_ok-found.found
-          leads.2 h e c.in_ok-found.ensures.ok c.in_ok-push.ensures.items,
+          shown_there g.M.Mark.located g.M.Mark.stand g.M.Mark.content text doc steps s t c.args.stacks.now.frames.items c.push_top.new.stack.items c.args.stacks.now.operands.items c.in_ok-found.found
+          leads.2 h e c.in_ok-found.ensures c.in_ok-push_top.ensures,
     )

@@ -1,4 +1,4 @@
-use Rattle.std.proofs.Common.{◌-◌, List, [], ◌∷◌, Some, None, take, refl, sym, subst}
+use Rattle.std.proofs.Common.{List, [], ◌∷◌, Some, None, take, refl, sym, subst}
 use Rattle.std.proofs.lemmas.List.{take_rest}
 use Rattle.std.proofs.lemmas.Result.{IfOk-weaker}
 use Rattle.serde_json.specs.View.{view}
@@ -23,7 +23,7 @@ first_in_slices-requires g c = λ k.
     let n = next_of text doc way.steps.now way.leaves way.deep behind c.requires.0 cut.1 (subst (λ (is : List Instruction). CodesSteps is c.requires.0) cut.0 c.requires.1) in
     let parts = ends_condition behind end n.0 n.1 n.2 c.condition_end-end.ensures.behind in
     let ks = along text doc way.steps.now ([] ∷ []) in
-    let there = c.in_ok-candidates-in-Some.ensures.ok ks (c.in_ok-led-in-Some.ensures.ok ([] ∷ []) c.in_ok-root.ensures) in (
+    let there = c.in_ok-candidates-in-Some.ensures ks (c.in_ok-led-in-Some.ensures ([] ∷ []) c.in_ok-root.ensures) in (
       (refl, tt),
       (
         (Some n.0, parts.0),
@@ -34,8 +34,8 @@ first_in_slices-requires g c = λ k.
       ),
     )
 
-pub follow_steps-requires : goal.follow_steps-requires
-follow_steps-requires g c = λ k. ((refl, tt), (plain_split c.args.self.now.text.now (view c.args.self.now.root.now) c.saturating_sub-last.result c.args.left.now c.requires.0 c.requires.1 c.in-None.ensures.none).3)
+pub follow_steps-requires-in-None : goal.follow_steps-requires-in-None
+follow_steps-requires-in-None g c = λ k. ((refl, tt), (plain_split c.args.self.now.text.now (view c.args.self.now.root.now) c.saturating_sub-last.result c.args.left.now c.requires.0 c.requires.1 c.in-None.ensures.none).3)
 
 pub first_in_slices-requires-in-None : goal.first_in_slices-requires-in-None
 first_in_slices-requires-in-None g c = λ k.
@@ -50,13 +50,13 @@ first_in_slices-requires-in-None g c = λ k.
         (None, tt),
         (
           (split.0, subst (λ (is : List Instruction). CodesSteps is split.0) (sym (take_rest left last)) split.1),
-          (ks, subst (λ ms. MarksStandAt g.M.Mark.located g.M.Mark.stand g.M.Mark.content doc ks ms) (sym c.as_slice.ensures.value) (c.in_ok-marks-in-None.ensures.ok doc ([] ∷ []) c.in_ok-root.ensures.0), tt),
+          (ks, subst (λ ms. MarksStandAt g.M.Mark.located g.M.Mark.stand g.M.Mark.content doc ks ms) (sym c.as_slice-starts-in-None.ensures.value) ((c.in_ok-led-in-None.ensures ([] ∷ []) c.in_ok-root.ensures).0), tt),
         ),
       ),
     )
 
-pub returns-in_ok-candidates-in-Some-clause-ok : goal.returns-in_ok-candidates-in-Some-clause-ok
-returns-in_ok-candidates-in-Some-clause-ok g c =
+pub returns-in_ok-candidates-in-Some : goal.returns-in_ok-candidates-in-Some
+returns-in_ok-candidates-in-Some g c =
     let text = c.args.self.now.text.now in
     let doc = view c.args.self.now.root.now in
     let way = c.in-Some.way in
@@ -64,7 +64,7 @@ returns-in_ok-candidates-in-Some-clause-ok g c =
     let end = c.condition_end-end.result in
     let cut = c.in-Some.ensures.some in
     let ks = along text doc way.steps.now ([] ∷ []) in
-    let there = c.in_ok-candidates-in-Some.ensures.ok ks (c.in_ok-led-in-Some.ensures.ok ([] ∷ []) c.in_ok-root.ensures) in
+    let there = c.in_ok-candidates-in-Some.ensures ks (c.in_ok-led-in-Some.ensures ([] ∷ []) c.in_ok-root.ensures) in
     IfOk-weaker c.first_in_slices.result _ _
     (λ found begin ss are.
     let n = next_of text doc way.steps.now way.leaves way.deep behind ss cut.1 (subst (λ (is : List Instruction). CodesSteps is ss) cut.0 are) in
@@ -72,10 +72,10 @@ returns-in_ok-candidates-in-Some-clause-ok g c =
     subst (λ (ls : List Location). BeginAs g.M.Mark.located g.M.Mark.stand g.M.Mark.content doc ls found.items) (sym (n.3 ([] ∷ [])))
     (begin (Some n.0) n.1 (gathered doc way.leaves way.deep ks) parts.0 (subst (λ (is : List Instruction). CodesSteps is n.1) (sym (take_rest behind end)) parts.1)
     (subst (λ ms. MarksStandAt g.M.Mark.located g.M.Mark.stand g.M.Mark.content doc (gathered doc way.leaves way.deep ks) ms) (sym c.as_slice-starts.ensures.value) there.0) there.1))
-    c.first_in_slices.ensures.ok
+    c.first_in_slices.ensures
 
-pub returns-in_ok-marks-in-None-clause-ok : goal.returns-in_ok-marks-in-None-clause-ok
-returns-in_ok-marks-in-None-clause-ok g c =
+pub returns-in_ok-led-in-None : goal.returns-in_ok-led-in-None
+returns-in_ok-led-in-None g c =
     let text = c.args.self.now.text.now in
     let doc = view c.args.self.now.root.now in
     let left = c.args.left.now in
@@ -86,5 +86,5 @@ returns-in_ok-marks-in-None-clause-ok g c =
     let split = plain_split text doc last left ss are c.in-None.ensures.none in
     subst (λ (ls : List Location). BeginAs g.M.Mark.located g.M.Mark.stand g.M.Mark.content doc ls found.items) (sym (split.2 ([] ∷ [])))
     (begin None split.0 ks tt (subst (λ (is : List Instruction). CodesSteps is split.0) (sym (take_rest left last)) split.1)
-    (subst (λ ms. MarksStandAt g.M.Mark.located g.M.Mark.stand g.M.Mark.content doc ks ms) (sym c.as_slice.ensures.value) (c.in_ok-marks-in-None.ensures.ok doc ([] ∷ []) c.in_ok-root.ensures.0)) tt))
-    c.first_in_slices-in-None.ensures.ok
+    (subst (λ ms. MarksStandAt g.M.Mark.located g.M.Mark.stand g.M.Mark.content doc ks ms) (sym c.as_slice-starts-in-None.ensures.value) ((c.in_ok-led-in-None.ensures ([] ∷ []) c.in_ok-root.ensures).0)) tt))
+    c.first_in_slices-in-None.ensures

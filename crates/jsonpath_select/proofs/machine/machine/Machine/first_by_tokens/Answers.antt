@@ -11,12 +11,12 @@ first_by_instructions-requires g c = λ k.
     let begins = list_begins c.args.self.now.text.now (view c.args.self.now.root.now) c.requires.0 c.args.tokens.now c.as_slice.result.now c.in_ok-code.code.items c.requires.1 c.as_slice.ensures.value c.in_ok-code.ensures in
     ((refl, tt), (begins.0, begins.1))
 
-pub returns-clause-ok : goal.returns-clause-ok
-returns-clause-ok g c =
+pub returns : goal.returns
+returns g c =
     let text = c.args.self.now.text.now in
     let doc = view c.args.self.now.root.now in
     IfOk-weaker c.first_by_instructions.result _ _
     (λ found leads p h.
     let begins = list_begins text doc p c.args.tokens.now c.as_slice.result.now c.in_ok-code.code.items h c.as_slice.ensures.value c.in_ok-code.ensures in
     subst (λ (ls : List Location). BeginAs g.M.Mark.located g.M.Mark.stand g.M.Mark.content doc ls found.items) begins.2 (leads begins.0 begins.1))
-    c.first_by_instructions.ensures.ok
+    c.first_by_instructions.ensures

@@ -1,4 +1,4 @@
-use Rattle.std.proofs.Common.{◌≡◌, ◌++◌, ◌-◌, ◌≤◌, ◌==◌, true, false, List, [], take, drop, length, map, refl, sym, ap, ◌∙◌, drop_of_length-le, arith}
+use Rattle.std.proofs.Common.{◌≡◌, ◌++◌, ◌-◌, ◌≤◌, ◌==◌, true, List, [], take, drop, length, map, refl, sym, ap, ◌∙◌, drop_of_length-le, arith}
 use Rattle.serde_json.specs.View.{view}
 use Rattle.jsonpath_nodes.specs.place.Location.{Location}
 use Rattle.jsonpath_nodes.specs.place.Mark.{shown}
@@ -33,13 +33,13 @@ loop-from-preserved g c = (
       let pieces : (xs ys : List Location) → take 1 (lead (xs ++ ys)) ≡ take 1 (lead xs ++ lead ys) =
       λ xs ys. ap (λ (ks : List Location). take 1 (follow text doc ss ks)) (kept-append text doc f xs ys) ∙ c.first_is_of_first_piece.ensures text doc ss (kept_by text doc f xs) (kept_by text doc f ys) in
       let stand = c.in_ok-marks.ensures ∙ slice_stands g.M.Mark.located g.M.Mark.stand g.M.Mark.content doc ls c.args.starts.now from (end - from) there in
-      let led = c.in_ok-found.ensures.ok f ss (take (end - from) (drop from ls)) is are (stand, slice_standing c.args.standing from (end - from) ls standing) in
+      let led = c.in_ok-found.ensures f ss (take (end - from) (drop from ls)) is are (stand, slice_standing c.args.standing from (end - from) ls standing) in
       let none : (length c.in_ok-found.found.items == 0) ≡ true = ap (λ ms. length ms == 0) (sym c.as_slice.ensures.value) ∙ sym c.is_empty.ensures ∙ c.if-not-is_empty.false in
       c.loop-from.invariant.1 f ss ls is are there standing ∙ none_here lead pieces ls from (end - from) end (omega (arith, c.slice_end-end.ensures.after)) (none_stands g.M.Mark.located g.M.Mark.stand g.M.Mark.content doc _ c.in_ok-found.found.items led none),
 )
 
-pub returns-then-not-is_empty-clause-ok : goal.returns-then-not-is_empty-clause-ok
-returns-then-not-is_empty-clause-ok g c = λ f ss ls is are there standing.
+pub returns-then-not-is_empty : goal.returns-then-not-is_empty
+returns-then-not-is_empty g c = λ f ss ls is are there standing.
     let text = c.args.self.now.text.now in
     let doc = view c.args.self.now.root.now in
     let lead : List Location → List Location = λ ks. follow text doc ss (kept_by text doc f ks) in
@@ -48,11 +48,11 @@ returns-then-not-is_empty-clause-ok g c = λ f ss ls is are there standing.
     let pieces : (xs ys : List Location) → take 1 (lead (xs ++ ys)) ≡ take 1 (lead xs ++ lead ys) =
     λ xs ys. ap (λ (ks : List Location). take 1 (follow text doc ss ks)) (kept-append text doc f xs ys) ∙ c.first_is_of_first_piece.ensures text doc ss (kept_by text doc f xs) (kept_by text doc f ys) in
     let stand = c.in_ok-marks.ensures ∙ slice_stands g.M.Mark.located g.M.Mark.stand g.M.Mark.content doc ls c.args.starts.now from size there in
-    let led = c.in_ok-found.ensures.ok f ss (take size (drop from ls)) is are (stand, slice_standing c.args.standing from size ls standing) in
+    let led = c.in_ok-found.ensures f ss (take size (drop from ls)) is are (stand, slice_standing c.args.standing from size ls standing) in
     (lead (take size (drop from ls)), led, c.loop-from.invariant.1 f ss ls is are there standing ∙ first_here lead pieces ls from size (some_stands g.M.Mark.located g.M.Mark.stand g.M.Mark.content doc _ c.in_ok-found.found.items led (ap (λ ms. length ms == 0) (sym c.as_slice.ensures.value) ∙ sym c.is_empty.ensures ∙ c.if-not-is_empty.true)))
 
-pub returns-clause-ok : goal.returns-clause-ok
-returns-clause-ok g c = λ f ss ls is are there standing.
+pub returns : goal.returns
+returns g c = λ f ss ls is are there standing.
     let text = c.args.self.now.text.now in
     let doc = view c.args.self.now.root.now in
     let same = length-marks g.M.Mark.located g.M.Mark.stand g.M.Mark.content doc ls c.args.starts.now there in

@@ -1,8 +1,11 @@
-use Rattle.std.proofs.Common.{take}
-use Rattle.jsonpath_nodes.specs.place.Mark.{MarksLeadBy}
-use Rattle.jsonpath_select.specs.plan.Standing.{along}
+use Rattle.std.proofs.Common.{List, take}
+use Rattle.serde_json.specs.View.{view}
+use Rattle.jsonpath_nodes.specs.place.Location.{Location}
+use Rattle.jsonpath_select.specs.plan.Standing.{along, AreStanding}
 use Rattle.jsonpath_select.proofs.machine.machine.Machine.follow_steps.Given as goal
 
--- the marks stand where the steps so far lead
+-- the marks stand where the steps so far lead, and that is known of it
 abbrev pub invariant-loop-step : goal.invariant-loop-step
-invariant-loop-step g l = MarksLeadBy g.M.Mark.located g.M.Mark.stand g.M.Mark.content (λ doc ls. along l.self.text.now doc (take l.step-index l.steps) ls) l.fn.from.items l.marks.items
+invariant-loop-step g l =
+    (ls : List Location) → AreStanding g.M.Mark.located g.M.Mark.stand g.M.Mark.content (view l.self.root.now) ls l.fn.from
+    → AreStanding g.M.Mark.located g.M.Mark.stand g.M.Mark.content (view l.self.root.now) (along l.self.text.now (view l.self.root.now) (take l.step-index l.steps) ls) l.led

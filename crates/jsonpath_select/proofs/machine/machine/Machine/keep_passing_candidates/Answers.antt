@@ -29,7 +29,7 @@ execute_all-requires g c = λ k.
       (
         begun cs,
         answering (filter (λ l. holds text doc f l) cs),
-        ((c.in_ok-stacks.stacks.frames.items, c.args.candidates, c.in_ok-push.ensures.items, c.requires.there.1, c.in_ok-stacks.ensures.0), c.in_ok-stacks.ensures.1),
+        ((c.in_ok-stacks.stacks.frames.items, c.args.candidates, c.in_ok-push_top.ensures, c.requires.there.1, c.in_ok-stacks.ensures.0), c.in_ok-stacks.ensures.1),
         decided text doc c.args.condition.now f cs c.requires.is.1,
       ),
     )
@@ -42,18 +42,18 @@ pop_marks-requires g c =
     let cs = c.requires.there.0 in
     let ks = filter (λ l. holds text doc f l) cs in
     let after =
-    c.in_ok-execute_all.ensures.ok (begun cs) (answering ks)
-    ((c.in_ok-stacks.stacks.frames.items, c.args.candidates, c.in_ok-push.ensures.items, c.requires.there.1, c.in_ok-stacks.ensures.0), c.in_ok-stacks.ensures.1)
+    c.in_ok-execute_all.ensures (begun cs) (answering ks)
+    ((c.in_ok-stacks.stacks.frames.items, c.args.candidates, c.in_ok-push_top.ensures, c.requires.there.1, c.in_ok-stacks.ensures.0), c.in_ok-stacks.ensures.1)
     (decided text doc c.args.condition.now f cs c.requires.is.1) in
     found_there g.M.Mark.located g.M.Mark.stand g.M.Mark.content text doc (for_all ks) c.execute_all.new.stacks.operands.items after.1
 
-pub returns-clause-ok : goal.returns-clause-ok
-returns-clause-ok g c = λ f cs is there.
+pub returns : goal.returns
+returns g c = λ f cs is there.
     let text = c.args.self.now.text.now in
     let doc = view c.args.self.now.root.now in
     let ks = filter (λ l. holds text doc f l) cs in
     let after =
-    c.in_ok-execute_all.ensures.ok (begun cs) (answering ks)
-    ((c.in_ok-stacks.stacks.frames.items, c.args.candidates, c.in_ok-push.ensures.items, there, c.in_ok-stacks.ensures.0), c.in_ok-stacks.ensures.1)
+    c.in_ok-execute_all.ensures (begun cs) (answering ks)
+    ((c.in_ok-stacks.stacks.frames.items, c.args.candidates, c.in_ok-push_top.ensures, there, c.in_ok-stacks.ensures.0), c.in_ok-stacks.ensures.1)
     (decided text doc c.args.condition.now f cs is) in
     found_is g.M.Mark.located g.M.Mark.stand g.M.Mark.content text doc (for_all ks) c.execute_all.new.stacks.operands.items c.pop_marks.new.operands.items c.pop_marks.result after.1 c.pop_marks.ensures

@@ -12,11 +12,11 @@ keep_passing_candidates-requires g c = λ k.
     let cs = c.requires.there.0 in
     ((refl, tt), (c.requires.is, (cs, c.in_ok-all.ensures (view c.args.self.now.root.now) cs c.requires.there.1.0)))
 
-pub returns-clause-ok : goal.returns-clause-ok
-returns-clause-ok g c = λ f cs is there.
+pub returns : goal.returns
+returns g c = λ f cs is there.
     let doc = view c.args.self.now.root.now in
     let test = λ (l : Location). holds c.args.self.now.text.now doc f l in
-    let kept = c.in_ok-kept.ensures.ok f cs is (c.in_ok-all.ensures doc cs there.0) in (
+    let kept = c.in_ok-kept.ensures f cs is (c.in_ok-all.ensures doc cs there.0) in (
       subst (λ (ks : List Location). MarksStandAt g.M.Mark.located g.M.Mark.stand g.M.Mark.content doc ks c.in_ok-kept.kept.pairs.marks.items) (places_tagged 0 (filter test cs)) kept.1.1,
       c.after_filter_or_indexes-standing.ensures.filter cs test there.1,
     )

@@ -1,6 +1,5 @@
 use Rattle.std.proofs.Common.{◌≡◌, ◌+◌, List, ◌∷◌, length, refl, sym, ap, ◌∙◌, subst, length-append, arith}
 use Rattle.std.specs.Prelude.{filter}
-use Rattle.std.proofs.lemmas.Result.{IfOk-weaker}
 use Rattle.serde_json.specs.View.{view}
 use Rattle.jsonpath_nodes.specs.place.Location.{Location}
 use Rattle.jsonpath_nodes.specs.place.Mark.{MarksStandAt}
@@ -49,16 +48,14 @@ loop-way-preserved g c = λ ss ls are there.
       n.1,
       filter (λ l. holds text doc n.0 l) (gathered doc way.leaves way.deep (along text doc way.steps.now h.1)),
       behind_begun behind c.instructions_after_condition-rest.result.now n.0 n.1 n.2 c.instructions_after_condition-rest.ensures.behind,
-      c.in_ok-found.ensures.ok n.0 h.1 parts.0 h.3,
+      c.in_ok-found.ensures n.0 h.1 parts.0 h.3,
       h.4 ∙ n.3 h.1,
     )
 
-pub returns-clause-ok : goal.returns-clause-ok
-returns-clause-ok g c =
+pub returns : goal.returns
+returns g c =
     let text = c.args.self.now.text.now in
     let doc = view c.args.self.now.root.now in
-    IfOk-weaker c.follow_steps.result _ _
-    (λ found led ss ls are there.
+    λ ss ls are there.
     let h = c.loop-way.invariant ss ls are there in
-    subst (λ (ks : List Location). MarksStandAt g.M.Mark.located g.M.Mark.stand g.M.Mark.content doc ks found.items) (sym (h.4 ∙ plain_followed text doc c.loop-way.rest.now h.0 h.1 h.2 c.in_default.ensures.none)) (led doc h.1 h.3.0))
-    c.follow_steps.ensures.ok
+    subst (λ (ks : List Location). MarksStandAt g.M.Mark.located g.M.Mark.stand g.M.Mark.content doc ks c.in_ok-led.led.marks.items) (sym (h.4 ∙ plain_followed text doc c.loop-way.rest.now h.0 h.1 h.2 c.in_default.ensures.none)) (c.in_ok-led.ensures h.1 h.3).0

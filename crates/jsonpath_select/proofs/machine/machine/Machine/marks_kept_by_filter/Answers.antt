@@ -10,14 +10,14 @@ keep_passing_with_standing-requires g c = λ k.
     let doc = view c.args.self.now.root.now in
     let way = c.args.way in
     let ms = along c.args.self.now.text.now doc way.steps.now c.requires.there.0 in
-    ((refl, tt), (c.requires.is, (gathered doc way.leaves way.deep ms, c.in_ok-candidates.ensures.ok ms (c.in_ok-led.ensures.ok c.requires.there.0 c.requires.there.1))))
+    ((refl, tt), (c.requires.is, (gathered doc way.leaves way.deep ms, c.in_ok-candidates.ensures ms (c.in_ok-led.ensures c.requires.there.0 c.requires.there.1))))
 
-pub returns-clause-ok : goal.returns-clause-ok
-returns-clause-ok g c =
+pub returns : goal.returns
+returns g c =
     let doc = view c.args.self.now.root.now in
     let way = c.args.way in
     IfOk-weaker c.keep_passing_with_standing.result _ _
     (λ found keeps f ls is there.
     let ms = along c.args.self.now.text.now doc way.steps.now ls in
-    keeps f (gathered doc way.leaves way.deep ms) is (c.in_ok-candidates.ensures.ok ms (c.in_ok-led.ensures.ok ls there)))
-    c.keep_passing_with_standing.ensures.ok
+    keeps f (gathered doc way.leaves way.deep ms) is (c.in_ok-candidates.ensures ms (c.in_ok-led.ensures ls there)))
+    c.keep_passing_with_standing.ensures

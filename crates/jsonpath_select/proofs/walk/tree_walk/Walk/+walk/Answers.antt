@@ -1,5 +1,6 @@
 use Rattle.std.proofs.Common.{map, ap, sym, subst, ◌∙◌, [], ◌∷◌}
-use Rattle.std.specs.Prelude.{if◌then◌else◌, IfOk}
+use Rattle.std.proofs.lemmas.Result.{IfOk-weaker}
+use Rattle.std.specs.Prelude.{if◌then◌else◌}
 use Rattle.jsonpath_paths.specs.declared.tree.parser_node.ParserNode.{out-ParserNode}
 use Rattle.serde_json.specs.View.{view}
 use Rattle.jsonpath_paths.specs.tree.View.{condition_of, inner_of}
@@ -34,4 +35,6 @@ pub spots_after_step-returns-in-Token : goal.spots_after_step-returns-in-Token
 spots_after_step-returns-in-Token t c =
     let doc = view c.args.self.now.root.now in
     let text = c.args.self.now.text.now in
-    subst (λ (i : Inner). IfOk c.spots_after_plain_step.result (λ found. LeadsIn doc (inner_on text doc (inner_of i) c.args.step.now.leaves) c.args.spots.now found.items)) (sym c.in-Token.is) c.spots_after_plain_step.ensures
+    IfOk-weaker c.marks_after_plain_step.result _ _
+    (λ found leads. subst (λ (i : Inner). LeadsIn doc (inner_on text doc (inner_of i) c.args.step.now.leaves) c.args.spots.now found.items) (sym c.in-Token.is) (λ ls stand. leads doc ls stand))
+    c.marks_after_plain_step.ensures

@@ -31,12 +31,12 @@ loop-step-preserved c = λ ls stand.
     let s = c.step-item.result in (
       λ l. set_step text doc (inner_of s.inner) s.leaves (inv.0 l),
       inv.1,
-      c.in_ok-pairs-2.ensures.ok inv.0 ls inv.1 inv.2,
+      c.in_ok-pairs-2.ensures inv.0 ls inv.1 inv.2,
       λ l. steps_next text doc c.args.steps.now c.loop-step.step-index s (inv.0 l) _ (omega arith) c.step-item.is (inv.3 l),
     )
 
-pub returns-clause-ok : goal.returns-clause-ok
-returns-clause-ok c = λ ls stand.
+pub returns : goal.returns
+returns c = λ ls stand.
     let text = c.args.self.now.text.now in
     let doc = view c.args.self.now.root.now in
     let test = set_holds text doc (lone (path false (steps_of_list c.args.steps.now))) in
