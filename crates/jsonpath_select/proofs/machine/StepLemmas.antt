@@ -1,6 +1,6 @@
 -- The code's steps beside the machine's.
-use Rattle.std.proofs.Common.{◌≡◌, ℕ, ◌+◌, ◌<◌, ◌&&◌, Bool, true, false, List, [], ◌∷◌, ◌++◌, map, length, get_or, cond, Option, Some, None, Result, Ok, Err, refl, sym, ap, ap₂, ◌∙◌, subst, length-append}
-use Rattle.std.specs.Prelude.{option_map, option_and_then, OnOk}
+use Rattle.std.proofs.Common.{◌≡◌, ℕ, ◌+◌, ◌<◌, ◌&&◌, Bool, true, false, List, [], ◌∷◌, ◌++◌, map, length, get_or, cond, Option, Some, None, refl, sym, ap, ap₂, ◌∙◌, subst, length-append}
+use Rattle.std.specs.Prelude.{option_map, option_and_then}
 use Rattle.std.proofs.lemmas.List.{map-append}
 use Rattle.serde_json.specs.Data.{Data}
 use Rattle.jsonpath_paths.specs.declared.token.tokens.FilterToken.{FilterToken}
@@ -40,11 +40,6 @@ both_true : (a b : Bool) → (a && b) ≡ true → (a ≡ true) × (b ≡ true)
 both_true true true e = (refl, refl)
 both_true true false e = cc
 both_true false b e = cc
-
--- what holds on an answer, where something else does
-pub weaken : {A E P Q : Type 0} (r : Result A E) → (P → Q) → OnOk r P → OnOk r Q
-weaken (Ok x) f h = f h
-weaken (Err e) f h = tt
 
 -- ---- for marks of either kind: whether they keep their locations, where they stand, what they hold
 

@@ -79,21 +79,12 @@ fn first_by_tokens<'a>(
     match machine.first_by_tokens::<&Value>(tokens) {
         Ok(found) => Ok(found.first().copied()),
         Err(Halt::OutOfMemory) => Err(NoMemory),
-        Err(Halt::NeedsLocations) => first_by_spots(machine, tokens),
-    }
-}
-
-// The first of the values that the path with this token list selects, by the machine on spots.
-fn first_by_spots<'a>(
-    machine: Machine<'a, '_>,
-    tokens: &[ParseToken],
-) -> Result<Option<&'a Value>, NoMemory>
-    requires { IsListOfText machine.text.now tokens.now }
-    ensures { IfOk result (λ first. IsFirstOf (Selects machine.entry.text.now (view machine.entry.root.now)) (option_map (λ v. view v.now) first)) }
-{
-    let found = machine.first_by_tokens::<Spot>(tokens)?;
-    match found.first() {
-        Some(spot) => Ok(Some(spot.value())),
-        None => Ok(None),
+        Err(Halt::NeedsLocations) => {
+            let found = machine.first_by_tokens::<Spot>(tokens)?;
+            match found.first() {
+                Some(spot) => Ok(Some(spot.value())),
+                None => Ok(None),
+            }
+        }
     }
 }

@@ -1,4 +1,5 @@
 use Rattle.std.proofs.Common.{◌≡◌, ℕ, Bool, List, sym, subst}
+use Rattle.std.proofs.lemmas.Result.{on_ok_weaker}
 use Rattle.serde_json.specs.Data.{Data}
 use Rattle.serde_json.specs.View.{view}
 use Rattle.jsonpath_nodes.specs.place.Location.{Location}
@@ -6,7 +7,6 @@ use Rattle.jsonpath_select.specs.plan.Ordered.{instruction_of}
 use Rattle.jsonpath_select.specs.plan.Stack.{Executes}
 use Rattle.jsonpath_select.specs.declared.machine.instruction.Instruction.{Instruction}
 use Rattle.jsonpath_select.specs.declared.machine.stacks.Stacks.{Stacks}
-use Rattle.jsonpath_select.proofs.machine.StepLemmas.{weaken}
 use Rattle.jsonpath_select.proofs.machine.machine.Machine.execute_instruction.Goals as goal
 
 -- the step of an instruction is that of the one that it is
@@ -20,13 +20,13 @@ returns-in_ok-start_path-in-Start g c =
 
 pub returns-in-Step : goal.returns-in-Step
 returns-in-Step g c =
-    weaken c.take_plain_step.result
+    on_ok_weaker c.take_plain_step.result
     (λ steps. as_is g.M.Mark.located g.M.Mark.stand g.M.Mark.content c.args.self.now.text.now (view c.args.self.now.root.now) c.args.instruction _ c.args.stacks.now c.take_plain_step.new.stacks c.in-Step.is (steps (view c.args.self.now.root.now)))
     c.take_plain_step.ensures
 
 pub returns-in-Enter : goal.returns-in-Enter
 returns-in-Enter g c =
-    weaken c.begin_filter.result
+    on_ok_weaker c.begin_filter.result
     (λ steps. as_is g.M.Mark.located g.M.Mark.stand g.M.Mark.content c.args.self.now.text.now (view c.args.self.now.root.now) c.args.instruction _ c.args.stacks.now c.begin_filter.new.stacks c.in-Enter.is (steps (view c.args.self.now.root.now)))
     c.begin_filter.ensures
 
