@@ -19,22 +19,16 @@ pub(crate) fn has_unread_number(value: &Value) -> bool
     match value {
         Value::Null | Value::Bool(_) | Value::String(_) => false,
         Value::Number(number) => number.is_f64(),
-        Value::Array(items) => has_unread_number_in_items(items),
+        Value::Array(items) => {
+            for item in items {
+                if has_unread_number(item) {
+                    return true;
+                }
+            }
+            false
+        }
         Value::Object(members) => has_unread_number_in_members(members),
     }
-}
-
-// Whether an unread number, one that is no whole number of 64 bits, stands in one of the items, at any depth.
-#[cycle(unread)]
-fn has_unread_number_in_items(items: &Vec<Value>) -> bool
-    ensures { result ≡ items_have_float (items_view items.now.items) }
-{
-    for item in items {
-        if has_unread_number(item) {
-            return true;
-        }
-    }
-    false
 }
 
 // Whether an unread number, one that is no whole number of 64 bits, stands in one of the members' values, at any depth.

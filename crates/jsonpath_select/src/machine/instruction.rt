@@ -141,25 +141,27 @@ fn push_step_or_filter_of_bracket(
     };
     match code.pop() {
         Some(Instruction::Constant(token)) => match code.pop() {
-            Some(Instruction::Leave) => code.push(Instruction::Step {
-                leaves: false,
-                token,
-            })?,
+            Some(Instruction::Leave) => push_top(
+                code,
+                Instruction::Step {
+                    leaves: false,
+                    token,
+                },
+            ),
             Some(other) => {
                 code.push(other)?;
                 code.push(Instruction::Constant(token))?;
-                code.push(filter)?;
+                push_top(code, filter)
             }
             None => {
                 code.push(Instruction::Constant(token))?;
-                code.push(filter)?;
+                push_top(code, filter)
             }
         },
         Some(other) => {
             code.push(other)?;
-            code.push(filter)?;
+            push_top(code, filter)
         }
-        None => code.push(filter)?,
+        None => push_top(code, filter),
     }
-    Ok(())
 }
