@@ -1,53 +1,40 @@
 //! Numbers that are not integers of 64 bits, which are neither printed nor deserialized: whether a value contains
 //! one, and the error.
 ghost use Rattle.std.specs.Prelude.{◌≡◌, map};
-ghost use Rattle.serde_json.specs.View.{view, items_view, members_view};
-ghost use Rattle.serde_json.specs.Written.{has_float, items_have_float, members_have_float};
+ghost use Rattle.serde_json.specs.View.{view};
+ghost use Rattle.serde_json.specs.Written.{has_float};
 ghost use Rattle.jsonpath_select.specs.answer.AnswerText.{holds_unread, IsUnreadError};
 
 use crate::error::JsonPathError;
-use serde_json::{Map, Value};
+use serde_json::Value;
 use std::alloc::Global;
 
 const UNREAD_NUMBER: &str = "number is not a whole number of 64 bits";
 
 // Whether an unread number, one that is no whole number of 64 bits, stands in the value, at any depth.
-#[cycle(unread)]
 pub(crate) fn has_unread_number(value: &Value) -> bool
     ensures { result ≡ has_float (view value.now) }
 {
     match value {
         Value::Null | Value::Bool(_) | Value::String(_) => false,
         Value::Number(number) => number.is_f64(),
-        Value::Array(items) => has_unread_number_in_items(items),
-        Value::Object(members) => has_unread_number_in_members(members),
-    }
-}
-
-// Whether an unread number, one that is no whole number of 64 bits, stands in one of the items, at any depth.
-#[cycle(unread)]
-fn has_unread_number_in_items(items: &Vec<Value>) -> bool
-    ensures { result ≡ items_have_float (items_view items.now.items) }
-{
-    for item in items {
-        if has_unread_number(item) {
-            return true;
+        Value::Array(items) => {
+            for item in items {
+                if has_unread_number(item) {
+                    return true;
+                }
+            }
+            false
+        }
+        Value::Object(members) => {
+            for (_key, member) in members.iter() {
+                if has_unread_number(member) {
+                    return true;
+                }
+            }
+            false
         }
     }
-    false
-}
-
-// Whether an unread number, one that is no whole number of 64 bits, stands in one of the members' values, at any depth.
-#[cycle(unread)]
-fn has_unread_number_in_members(members: &Map<String, Value>) -> bool
-    ensures { result ≡ members_have_float (members_view members.now.entries) }
-{
-    for (_key, member) in members.iter() {
-        if has_unread_number(member) {
-            return true;
-        }
-    }
-    false
 }
 
 // Whether an unread number, one that is no whole number of 64 bits, stands in one of the values, at any depth.

@@ -3,9 +3,7 @@
 
 ghost use Rattle.std.specs.Prelude.{◌≡◌, ◌↔◌, IsTrue, Some, IfOk, IfErr};
 ghost use Rattle.std.specs.List.{list_all};
-ghost use Rattle.std.specs.Str.{chars};
-ghost use Rattle.jsonpath_paths.specs.tree.WellFormed.{is_dot_word, is_literal};
-ghost use Rattle.jsonpath_paths.specs.token.Kinds.{is_name};
+ghost use Rattle.jsonpath_paths.specs.tree.WellFormed.{is_literal};
 ghost use Rattle.jsonpath_paths.specs.Listed.{is_name_at, has_names_of_token, IsSomePath};
 ghost use Rattle.jsonpath_select.specs.plan.Fits.{may_stand_alone_in_brackets, may_stand_in_brackets, is_term_entry, is_condition_entry, takes_dots, takes_array, on_top, may_join, worded, ended, operated, fits, is_one_path_from_root, is_token_list_of_path};
 ghost use Rattle.jsonpath_select.specs.plan.Entries.{entry_of, entries_of, Took, name_span};
@@ -53,19 +51,6 @@ pub fn tokens_fit(alloc: Global, text: &str, tokens: &[ParseToken]) -> Result<bo
     Ok(fit)
 }
 
-// Whether the whole text is one word or one quoted text.
-fn is_name(text: &str) -> bool
-    ensures { result ≡ is_name (chars text.now) }
-{
-    match Tokenizer::new(text).next_token() {
-        Ok(token) => match name_span(token) {
-            Some(span) => span.offset == text.len(),
-            None => false,
-        },
-        Err(_) => false,
-    }
-}
-
 // The span of the token, if it is a word or a text in quotes.
 fn name_span(token: Token) -> Option<StrRange>
     ensures { result ≡ name_span token }
@@ -82,7 +67,14 @@ fn name_span(token: Token) -> Option<StrRange>
 fn is_name_at(text: &str, span: StrRange) -> bool
     ensures { result ≡ is_name_at text.now span }
 {
-    is_name(slice_at(text, span))
+    let part = slice_at(text, span);
+    match Tokenizer::new(part).next_token() {
+        Ok(token) => match name_span(token) {
+            Some(found) => found.offset == part.len(),
+            None => false,
+        },
+        Err(_) => false,
+    }
 }
 
 // Whether the text has a word, or a text in quotes, at each of the spans.
@@ -209,14 +201,13 @@ fn accept_plain_step_or_literal(
     ensures { IfOk result (λ ok. Took ok entries.new.items (worded token.now (entries_of entries.old.items))) }
 {
     match entries.pop() {
-        Some(Entry::Dotted { absolute, .. }) => {
-            if may_stand_behind_dots(token) {
+        Some(Entry::Dotted { absolute, .. }) => match token {
+            ParseToken::All | ParseToken::Key(_) => {
                 entries.push(Entry::Ready { absolute })?;
                 Ok(true)
-            } else {
-                Ok(false)
             }
-        }
+            _ => Ok(false),
+        },
         below => {
             if let Some(entry) = below {
                 entries.push(entry)?;
@@ -306,13 +297,6 @@ fn is_condition_entry(entry: Entry) -> bool
         Entry::Logical => true,
         _ => false,
     }
-}
-
-// Whether the token may stand behind a dot.
-fn may_stand_behind_dots(token: &ParseToken) -> bool
-    ensures { result ≡ is_dot_word token.now }
-{
-    matches!(token, ParseToken::All | ParseToken::Key(_))
 }
 
 // Whether the token may stand alone between brackets, as a plain step.

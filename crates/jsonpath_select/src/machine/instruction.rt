@@ -1,7 +1,7 @@
 //! `Instruction`, what the machine runs, and the instructions of a token list, which are found from its end.
 
 ghost use Rattle.std.specs.Prelude.{◌≡◌, OnOk, IfOk, map, reverse};
-ghost use Rattle.jsonpath_select.specs.plan.Code.{scanned, operator_instruction, with_dots, starts_with_step, note_own_step, in_brackets, scan};
+ghost use Rattle.jsonpath_select.specs.plan.Code.{scanned, with_dots, starts_with_step, note_own_step, in_brackets, scan};
 ghost use Rattle.jsonpath_select.specs.plan.Ordered.{instruction_of, front_of, scan_of};
 
 use crate::machine::stacks::push_top;
@@ -83,19 +83,9 @@ fn scan_token<'t>(
             code.push(Instruction::Leave)?;
             push_top(own, false)
         }
-        ParseToken::Filter(op) => push_top(code, operator_instruction(*op)),
+        ParseToken::Filter(op) if op.is_comparison() => push_top(code, Instruction::Compares(*op)),
+        ParseToken::Filter(op) => push_top(code, Instruction::Joins(*op)),
         _ => push_top(code, Instruction::Constant(token)),
-    }
-}
-
-// The instruction for a comparison, or for `&&` or `||`.
-fn operator_instruction<'t>(op: FilterToken) -> Instruction<'t>
-    ensures { instruction_of result ≡ operator_instruction op }
-{
-    if op.is_comparison() {
-        Instruction::Compares(op)
-    } else {
-        Instruction::Joins(op)
     }
 }
 
@@ -114,10 +104,9 @@ fn note_own_step(has_step: bool, own: &mut Vec<bool>) -> Result<(), NoMemory>
     ensures { OnOk result (reverse own.new.items ≡ note_own_step has_step (reverse own.old.items)) }
 {
     match own.pop() {
-        Some(before) => own.push(before || has_step)?,
-        None => {}
+        Some(before) => push_top(own, before || has_step),
+        None => Ok(()),
     }
-    Ok(())
 }
 
 // Notes at the step or filter found last that `.` or `..` stands before it. A `Constant` found last, here a name or
@@ -126,13 +115,16 @@ fn note_dots_before_step(leaves: bool, code: &mut Vec<Instruction<'_>>) -> Resul
     ensures { OnOk result (front_of code.new.items ≡ with_dots leaves (front_of code.old.items)) }
 {
     match code.pop() {
-        Some(Instruction::Constant(token)) => code.push(Instruction::Step { leaves, token })?,
-        Some(Instruction::Step { token, .. }) => code.push(Instruction::Step { leaves, token })?,
-        Some(Instruction::Enter { deep, .. }) => code.push(Instruction::Enter { leaves, deep })?,
-        Some(other) => code.push(other)?,
-        None => {}
+        Some(Instruction::Constant(token)) | Some(Instruction::Step { token, .. }) => {
+            push_top(code, Instruction::Step { leaves, token })
+        }
+        Some(Instruction::Enter { deep, .. }) => push_top(
+            code,
+            Instruction::Enter { leaves, deep },
+        ),
+        Some(other) => push_top(code, other),
+        None => Ok(()),
     }
-    Ok(())
 }
 
 // Takes in a bracket that opens. Where one token alone stands in it (names, indexes, a range or `*`), it is a plain
@@ -149,25 +141,27 @@ fn push_step_or_filter_of_bracket(
     };
     match code.pop() {
         Some(Instruction::Constant(token)) => match code.pop() {
-            Some(Instruction::Leave) => code.push(Instruction::Step {
-                leaves: false,
-                token,
-            })?,
+            Some(Instruction::Leave) => push_top(
+                code,
+                Instruction::Step {
+                    leaves: false,
+                    token,
+                },
+            ),
             Some(other) => {
                 code.push(other)?;
                 code.push(Instruction::Constant(token))?;
-                code.push(filter)?;
+                push_top(code, filter)
             }
             None => {
                 code.push(Instruction::Constant(token))?;
-                code.push(filter)?;
+                push_top(code, filter)
             }
         },
         Some(other) => {
             code.push(other)?;
-            code.push(filter)?;
+            push_top(code, filter)
         }
-        None => code.push(filter)?,
+        None => push_top(code, filter),
     }
-    Ok(())
 }

@@ -118,7 +118,12 @@ impl<'t> Choice<'t> {
     // Whether sets are better for a path: it has a filter, or two steps that can lead to one place more than once, or,
     // where `from_root` is set, begins at the root.
     fn is_path_better_by_sets(self, path: &ParserNode, from_root: bool) -> Result<bool, NoMemory> {
-        Ok((from_root && path.absolute) || has_filter(path) || self.has_repeating_steps(path, 2)?)
+        let mut steps = path.steps.as_slice().iter();
+        Ok(
+            (from_root && path.absolute)
+                || steps.any(|step| matches!(step.inner, Inner::Filter(_)))
+                || self.has_repeating_steps(path, 2)?,
+        )
     }
 }
 
@@ -132,14 +137,4 @@ fn ascend_from_front(indexes: &[i64]) -> bool {
         last = *index;
     }
     true
-}
-
-// Whether a step of the path is a filter.
-fn has_filter(path: &ParserNode) -> bool {
-    for step in &path.steps {
-        if let Inner::Filter(_) = &step.inner {
-            return true;
-        }
-    }
-    false
 }
