@@ -13,7 +13,7 @@ use Rattle.jsonpath_nodes.specs.step.Candidates.{flat_members, in_objects, in_ob
 use Rattle.jsonpath_nodes.proofs.step.DeepLemmas.{gathered-items, gathered-members}
 use Rattle.jsonpath_nodes.specs.plan.Gathered.{all_gathered}
 use Rattle.jsonpath_nodes.proofs.step.ListLemmas.{map-nothing, from_each-twice}
-use Rattle.jsonpath_nodes.proofs.step.RepeatLemmas.{each_once_after-append, nothing_new, under-append, under-same, under-other, each_once_after-step, each_once-deeper}
+use Rattle.jsonpath_nodes.proofs.step.RepeatLemmas.{each_once_after-append, nothing_new_after, under-append, under-same, under-other, each_once_after-step, each_once-deeper}
 use Rattle.jsonpath_nodes.proofs.step.ChildLemmas.{Kid, through, itself, flat_items-kids, flat_members-kids, indexes-kids, names-kids, item_kids, member_kids, AreAt, AreDistinct, all_items_at, items_distinct, members_at, members_distinct}
 
 -- ---- with repeats
@@ -127,7 +127,7 @@ mutual
   new_below (array ds) h =
       let own = flat_items 0 ds in
       ap (each_once_after own) (repeated-items ds) ∙ each_once_after-append own own (through all_candidates (item_kids 0 ds))
-      ∙ ap (λ (ls : List Location). ls ++ each_once_after (own ++ ls) (through all_candidates (item_kids 0 ds))) (nothing_new own)
+      ∙ ap (λ (ls : List Location). ls ++ each_once_after (own ++ ls) (through all_candidates (item_kids 0 ds))) (nothing_new_after [] own)
       ∙ ap (λ (ls : List Location). each_once_after ls (through all_candidates (item_kids 0 ds))) (append-nil own)
       ∙ new_items own 0 ds h (items_distinct 0 ds) (items_flat ds)
   new_below (object ms) h =
