@@ -75,26 +75,23 @@ comes_off_elsewhere k l us all rest apart h q = (
   λ other. under_elsewhere (name l) (name q) all ∙ ap (λ (ws : List Location). cond (same_step (name q) (name l)) [] ws) ((h q).1 other) ∙ sym (under_elsewhere (name l) (name q) rest),
 )
 
+like_name : (k l q : List ℕ) → same_step (name k) (name l) ≡ true → same_step (name q) (name l) ≡ same_step (name q) (name k)
+like_name k l q same = same_back (name q) (name l) ∙ sym (step_congr (name k) (name l) (name q) same) ∙ same_back (name k) (name q)
+
 -- without the name itself, both lead to the same
 off_names : (k l : List ℕ) (us all rest : List Location) → same_step (name k) (name l) ≡ true → ComesOff k us all rest → SameNames (elsewhere (name l) all) rest
 off_names k l us all rest same h q = under_elsewhere (name l) (name q) all ∙ by (same_step (name q) (name l)) refl
   where
-    like : same_step (name q) (name l) ≡ same_step (name q) (name k)
-    like = same_back (name q) (name l) ∙ sym (step_congr (name k) (name l) (name q) same) ∙ same_back (name k) (name q)
-
     by : (b : Bool) → same_step (name q) (name l) ≡ b → cond b [] (under (name q) all) ≡ under (name q) rest
-    by true e = sym ((h q).0 (sym like ∙ e)).1
-    by false e = (h q).1 (sym like ∙ e)
+    by true e = sym ((h q).0 (sym (like_name k l q same) ∙ e)).1
+    by false e = (h q).1 (sym (like_name k l q same) ∙ e)
 
 both_elsewhere : (k l : List ℕ) (us all rest : List Location) → same_step (name k) (name l) ≡ true → ComesOff k us all rest → SameNames (elsewhere (name l) all) (elsewhere (name l) rest)
 both_elsewhere k l us all rest same h q = under_elsewhere (name l) (name q) all ∙ by (same_step (name q) (name l)) refl ∙ sym (under_elsewhere (name l) (name q) rest)
   where
-    like : same_step (name q) (name l) ≡ same_step (name q) (name k)
-    like = same_back (name q) (name l) ∙ sym (step_congr (name k) (name l) (name q) same) ∙ same_back (name k) (name q)
-
     by : (b : Bool) → same_step (name q) (name l) ≡ b → cond b [] (under (name q) all) ≡ cond b [] (under (name q) rest)
     by true e = refl
-    by false e = (h q).1 (sym like ∙ e)
+    by false e = (h q).1 (sym (like_name k l q same) ∙ e)
 
 put_back : (p : Option Data) (l : List ℕ) (all rest : List Location) (es : Members) → under (name l) rest ≡ [] → SameNames (elsewhere (name l) all) rest → SameNames (elsewhere (name l) all) (elsewhere (name l) rest)
     → member_if l p (members_with_answer None (elsewhere (name l) all) es) ≡ members_with_answer None rest (member_if l p es)
