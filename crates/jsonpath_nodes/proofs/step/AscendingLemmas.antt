@@ -36,13 +36,9 @@ apart_trans (s ∷ l) [] n h k = cc
 apart_trans (s ∷ l) (t ∷ m) [] h k = cc
 apart_trans (s ∷ l) (t ∷ m) (u ∷ n) h k = apart_trans_at s t u l m n (apart_trans l m n) (step_cmp s t) (step_cmp t u) refl refl h k
 
-all_after : (l m : Location) (ls : List Location) → first_difference_ascends l m ≡ true → AllByRecursion (λ n. first_difference_ascends m n ≡ true) ls → AllByRecursion (λ n. first_difference_ascends l n ≡ true) ls
-all_after l m [] h k = tt
-all_after l m (n ∷ ls) h k = (apart_trans l m n h k.0, all_after l m ls h k.1)
-
 all_apart : (l : Location) (ls : List Location) → AscendFrom l ls → AllByRecursion (λ m. first_difference_ascends l m ≡ true) ls
 all_apart l [] h = tt
-all_apart l (m ∷ ls) h = (h.0, all_after l m ls h.0 (all_apart m ls h.1))
+all_apart l (m ∷ ls) h = (h.0, all_then (λ n. first_difference_ascends m n ≡ true) (λ n. first_difference_ascends l n ≡ true) ls (λ n. apart_trans l m n h.0) (all_apart m ls h.1))
 
 -- ---- they are disjoint
 

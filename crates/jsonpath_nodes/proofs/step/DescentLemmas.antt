@@ -11,7 +11,7 @@ use Rattle.jsonpath_nodes.specs.place.Order.{IsDocument, AreDocuments, HoldDocum
 use Rattle.jsonpath_nodes.specs.step.Steps.{from, from_each, every, step, all_below, flattened}
 use Rattle.jsonpath_nodes.proofs.place.KeptLemmas.{seen-from_each}
 use Rattle.jsonpath_nodes.proofs.step.ChildLemmas.{through, item_kids, member_kids}
-use Rattle.jsonpath_nodes.proofs.step.DeepLemmas.{gathered-items, gathered-members}
+use Rattle.jsonpath_nodes.proofs.step.DeepLemmas.{items_through, members_through}
 use Rattle.jsonpath_nodes.proofs.step.OneDescentLemmas.{from_one}
 use Rattle.jsonpath_nodes.proofs.step.SeparateLemmas.{apart_has_no_repeat_flat, one_is_apart}
 use Rattle.jsonpath_nodes.proofs.place.SightLemmas.{Sight}
@@ -21,8 +21,8 @@ use Rattle.jsonpath_nodes.proofs.place.SightLemmas.{Sight}
 -- what is flat in the objects of a document, as one descent gathers it
 mutual
   pub flat_gathered : (d : Data) → IsDocument d → all_gathered flat_in_object d ≡ in_objects d
-  flat_gathered (array ds) h = gathered-items flat_in_object ds ∙ items_gathered 0 ds h
-  flat_gathered (object ms) h = gathered-members flat_in_object ms h.0 ∙ ap (λ (ls : List Location). flat_members ms ++ ls) (members_gathered ms h.1)
+  flat_gathered (array ds) h = items_through flat_in_object ds ∙ items_gathered 0 ds h
+  flat_gathered (object ms) h = members_through flat_in_object ms h.0 ∙ ap (λ (ls : List Location). flat_members ms ++ ls) (members_gathered ms h.1)
   flat_gathered _ h = refl
 
   items_gathered : (n : ℕ) (ds : Items) → AreDocuments ds → through (all_gathered flat_in_object) (item_kids n ds) ≡ in_objects_items n ds

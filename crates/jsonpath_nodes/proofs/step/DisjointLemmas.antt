@@ -6,14 +6,14 @@ use Rattle.std.proofs.lemmas.List.Folds.{list_any-append}
 use Rattle.serde_json.specs.Data.{Data}
 use Rattle.jsonpath_nodes.specs.place.Location.{Step, name, index, Location, at, below, flat, is_same}
 use Rattle.jsonpath_nodes.specs.step.Candidates.{candidates_below, DisjointInOneDescent}
-use Rattle.jsonpath_nodes.specs.step.Separate.{HasNoRepeat, are_indexes, goes_on_by_indexes, in_one_array, in_one_branch, IsApart, IsDisjoint, LevelIsDisjoint, DisjointStandsApart, StepStaysDisjoint, KeptStayDisjoint, CandidatesStayDisjoint, BelowDisjointHasNoRepeat}
+use Rattle.jsonpath_nodes.specs.step.Separate.{HasNoRepeat, are_indexes, goes_on_by_indexes, in_one_array, in_one_branch, IsApart, IsDisjoint, LevelIsDisjoint, DisjointStandsApart, StepStaysDisjoint, CandidatesStayDisjoint, BelowDisjointHasNoRepeat}
 use Rattle.jsonpath_nodes.specs.step.Steps.{selected, from, from_each, each_once, each_once_after}
 use Rattle.jsonpath_nodes.specs.update.Apart.{apart}
 use Rattle.jsonpath_nodes.specs.update.Topmost.{same_step}
 use Rattle.jsonpath_nodes.proofs.place.AscendsLemmas.{locations_below_root_ascend}
 use Rattle.jsonpath_nodes.proofs.update.SetLemmas.{same_location, same_back}
 use Rattle.jsonpath_nodes.proofs.step.RepeatLemmas.{each_once_after-append}
-use Rattle.jsonpath_nodes.proofs.step.DistinctLemmas.{AllPairs, anything, all_of, pairs_map, pairs_rest, distinct_map, distinct_filter, distinct_other}
+use Rattle.jsonpath_nodes.proofs.step.DistinctLemmas.{AllPairs, anything, all_of, pairs_map, pairs_rest, distinct_map, distinct_other}
 use Rattle.jsonpath_nodes.proofs.step.SeparateLemmas.{pairs_from_each, distinct_from_each, distinct_step, distinct_behind, selects_distinct_at, either_false, is_other, other_is, none_before, once_keeps, apart_parts, flat_indexes, candidates_stand_apart, apart_has_no_repeat_flat}
 use Rattle.jsonpath_nodes.proofs.step.ChildLemmas.{document_at}
 use Rattle.jsonpath_nodes.proofs.step.OneDescentLemmas.{all_candidates, all_repeated, repeated_below, flat_alone}
@@ -119,9 +119,6 @@ pub step_stands_disjoint : StepStaysDisjoint
 step_stands_disjoint doc p ls once ordered h =
     distinct_step in_one_branch in_one_branch (λ (s : Step). Unit {0}) doc p ls (selects_distinct_at doc p ls once ordered) (λ d. anything (selected p d)) two_steps
     (λ l m s t other x y. branch_below l m (s ∷ []) (t ∷ []) other) h
-
-pub kept_stand_disjoint : KeptStayDisjoint
-kept_stand_disjoint test ls h = distinct_filter in_one_branch test ls h
 
 flat_disjoint : (d : Data) → IsDisjoint (flat d)
 flat_disjoint d =

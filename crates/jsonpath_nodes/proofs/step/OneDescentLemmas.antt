@@ -10,10 +10,10 @@ use Rattle.jsonpath_nodes.specs.step.Steps.{every, single_steps, step, from, fro
 use Rattle.jsonpath_nodes.specs.update.Topmost.{same_step, under}
 use Rattle.jsonpath_nodes.proofs.step.SeparateLemmas.{apart_has_no_repeat_flat, one_is_apart}
 use Rattle.jsonpath_nodes.specs.step.Candidates.{flat_members, in_objects, in_objects_items, in_objects_members, candidates_below}
-use Rattle.jsonpath_nodes.proofs.step.DeepLemmas.{gathered-items, gathered-members}
+use Rattle.jsonpath_nodes.proofs.step.DeepLemmas.{items_through, members_through}
 use Rattle.jsonpath_nodes.specs.plan.Gathered.{all_gathered}
 use Rattle.jsonpath_nodes.proofs.step.ListLemmas.{map-nothing, from_each-twice}
-use Rattle.jsonpath_nodes.proofs.step.RepeatLemmas.{each_once_after-append, nothing_new, under-append, under-same, under-other, each_once_after-step, each_once-deeper}
+use Rattle.jsonpath_nodes.proofs.step.RepeatLemmas.{each_once_after-append, nothing_new_after, under-append, under-same, under-other, each_once_after-step, each_once-deeper}
 use Rattle.jsonpath_nodes.proofs.step.ChildLemmas.{Kid, through, itself, flat_items-kids, flat_members-kids, indexes-kids, names-kids, item_kids, member_kids, AreAt, AreDistinct, all_items_at, items_distinct, members_at, members_distinct}
 
 -- ---- with repeats
@@ -41,10 +41,10 @@ abbrev pub all_candidates : Data → List Location
 all_candidates d = all_gathered flattened_from_each d
 
 repeated-items : (ds : Items) → all_candidates (array ds) ≡ flat_items 0 ds ++ through all_candidates (item_kids 0 ds)
-repeated-items ds = gathered-items flattened_from_each ds ∙ ap (λ (ls : List Location). ls ++ through all_candidates (item_kids 0 ds)) (flattened_from_each-items ds)
+repeated-items ds = items_through flattened_from_each ds ∙ ap (λ (ls : List Location). ls ++ through all_candidates (item_kids 0 ds)) (flattened_from_each-items ds)
 
 repeated-members : (ms : Members) → IsDocument (object ms) → all_candidates (object ms) ≡ flat_members ms ++ through all_candidates (member_kids ms)
-repeated-members ms h = gathered-members flattened_from_each ms h.0 ∙ ap (λ (ls : List Location). ls ++ through all_candidates (member_kids ms)) (flattened_from_each-members ms h)
+repeated-members ms h = members_through flattened_from_each ms h.0 ∙ ap (λ (ls : List Location). ls ++ through all_candidates (member_kids ms)) (flattened_from_each-members ms h)
 
 -- ---- each once
 
@@ -127,7 +127,7 @@ mutual
   new_below (array ds) h =
       let own = flat_items 0 ds in
       ap (each_once_after own) (repeated-items ds) ∙ each_once_after-append own own (through all_candidates (item_kids 0 ds))
-      ∙ ap (λ (ls : List Location). ls ++ each_once_after (own ++ ls) (through all_candidates (item_kids 0 ds))) (nothing_new own)
+      ∙ ap (λ (ls : List Location). ls ++ each_once_after (own ++ ls) (through all_candidates (item_kids 0 ds))) (nothing_new_after [] own)
       ∙ ap (λ (ls : List Location). each_once_after ls (through all_candidates (item_kids 0 ds))) (append-nil own)
       ∙ new_items own 0 ds h (items_distinct 0 ds) (items_flat ds)
   new_below (object ms) h =

@@ -30,15 +30,12 @@ each_once_after-append before (x ∷ xs) ys = by (list_any (is_same x) before) (
 
 -- ---- what was given before
 
-nothing_new_after : (before xs : List Location) → each_once_after (before ++ xs) xs ≡ []
+pub nothing_new_after : (before xs : List Location) → each_once_after (before ++ xs) xs ≡ []
 nothing_new_after before [] = refl
 nothing_new_after before (x ∷ xs) =
     let all = before ++ x ∷ xs in
     let later : each_once_after all xs ≡ [] = ap (λ (ms : List Location). each_once_after ms xs) (sym (append_assoc before (x ∷ []) xs)) ∙ nothing_new_after (before ++ x ∷ []) xs in
     ap (λ (b : Bool). cond b (each_once_after all xs) (x ∷ each_once_after (all ++ x ∷ []) xs)) (any_to (is_same x) x all (among_back x before (x ∷ xs) (inl refl)) (ap is_eq (location-tied x))) ∙ later
-
-pub nothing_new : (xs : List Location) → each_once_after xs xs ≡ []
-nothing_new xs = nothing_new_after [] xs
 
 -- ---- below one step
 

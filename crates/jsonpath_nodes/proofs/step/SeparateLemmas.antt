@@ -17,7 +17,7 @@ use Rattle.serde_json.specs.Events.{items_len}
 use Rattle.serde_json.specs.Find.{get_item}
 use Rattle.jsonpath_nodes.specs.place.Location.{Step, name, index, Location, at, child, children, indexes_from, names, below, flat, flat_items, is_same, step_cmp, location_cmp}
 use Rattle.jsonpath_nodes.specs.place.Order.{IsDocument, location_total}
-use Rattle.jsonpath_nodes.specs.step.Separate.{HasNoRepeat, are_indexes, goes_on_by_indexes, in_one_array, IsApart, SelectsNoneTwice, is_every, goes_by_names, HasNamesInOrder, NamesInOrderAt, ApartHasNoRepeatFlat, OneIsApart, ApartHasNoRepeat, NamesStandApart, ListsStandApart, IndexStandsApart, RangeStandsApart, StepStandsApart, KeptStandApart, CandidatesStandApart, StepHasNoRepeat, EveryHasNoRepeat, ChildHasNoRepeat, KeptHasNoRepeat, BelowHasNoRepeat, DescentStandsApart}
+use Rattle.jsonpath_nodes.specs.step.Separate.{HasNoRepeat, are_indexes, goes_on_by_indexes, in_one_array, IsApart, SelectsNoneTwice, is_every, goes_by_names, HasNamesInOrder, NamesInOrderAt, ApartHasNoRepeatFlat, OneIsApart, ApartHasNoRepeat, NamesStandApart, ListsStandApart, IndexStandsApart, RangeStandsApart, StepStandsApart, CandidatesStandApart, StepHasNoRepeat, EveryHasNoRepeat, ChildHasNoRepeat, BelowHasNoRepeat, DescentStandsApart}
 use Rattle.jsonpath_nodes.specs.step.Steps.{Plain, every, named, listed, nth, union, range, selected, present, nth_of, abs_index, length_of, is_in_range, count_up, single_steps, from, from_each, step, all_below, each_once_after, flattened}
 use Rattle.jsonpath_nodes.specs.update.Topmost.{same_step}
 use Rattle.jsonpath_nodes.proofs.place.AscendsLemmas.{flat_ascends, locations_below_root_ascend, sorted_deeper}
@@ -387,12 +387,6 @@ pub step_has_no_repeat : StepHasNoRepeat
 step_has_no_repeat doc p ls document once h =
     no_repeat_by doc p ls (all_of (SelectsOnceAt doc p) ls (λ l d is. selects_distinct p d once (λ e. document_in_order d (document_at l doc d document is)))) h
 
-pub kept_stand_apart : KeptStandApart
-kept_stand_apart test ls h = distinct_filter in_one_array test ls h
-
-pub kept_has_no_repeat : KeptHasNoRepeat
-kept_has_no_repeat test ls h = distinct_filter is_same test ls h
-
 pub one_is_apart : OneIsApart
 unfolding IsDistinct
 one_is_apart l = (tt, tt)
@@ -475,9 +469,6 @@ no_item : (d : Data) (i : ℕ) (m : Location) → no_array (Some d) ≡ true →
 no_item null i m h k = cc
 no_item _ i m h k = cc
 
-pub same_steps_on : (s t : Step) (l m : Location) → same_step s t ≡ true → same_location l m ≡ true → same_location (s ∷ l) (t ∷ m) ≡ true
-same_steps_on s t l m h k = ap₂ (λ (x y : Bool). x && y) h k
-
 -- of two such values none stands behind the other in an array
 ends_there : (l m : Location) (d : Data) → no_array (at d l) ≡ true → no_array (at d m) ≡ true → goes_on_by_indexes l m ≡ true → same_location l m ≡ true
 ends_there [] [] d p q h = refl
@@ -487,7 +478,7 @@ ends_there (s ∷ l) [] d p q h = cc
 ends_there (s ∷ l) (t ∷ m) d p q h =
     let parts = and_parts (same_step s t) (goes_on_by_indexes l m) h in
     let one : s ≡ t = step_same s t (is_equal (step_cmp s t) (sym (step_eq s t) ∙ parts.0)) in
-    same_steps_on s t l m parts.0
+    ap₂ (λ (x y : Bool). x && y) parts.0
     (by (child s d) (λ c. ends_there l m c) p (ap (λ (u : Step). no_array (option_and_then (λ c. at c m) (child u d))) one ∙ q) parts.1)
   where
     by : (o : Option Data) → ((c : Data) → no_array (at c l) ≡ true → no_array (at c m) ≡ true → goes_on_by_indexes l m ≡ true → same_location l m ≡ true)

@@ -75,26 +75,23 @@ comes_off_elsewhere k l us all rest apart h q = (
   λ other. under_elsewhere (name l) (name q) all ∙ ap (λ (ws : List Location). cond (same_step (name q) (name l)) [] ws) ((h q).1 other) ∙ sym (under_elsewhere (name l) (name q) rest),
 )
 
+like_name : (k l q : List ℕ) → same_step (name k) (name l) ≡ true → same_step (name q) (name l) ≡ same_step (name q) (name k)
+like_name k l q same = same_back (name q) (name l) ∙ sym (step_congr (name k) (name l) (name q) same) ∙ same_back (name k) (name q)
+
 -- without the name itself, both lead to the same
 off_names : (k l : List ℕ) (us all rest : List Location) → same_step (name k) (name l) ≡ true → ComesOff k us all rest → SameNames (elsewhere (name l) all) rest
 off_names k l us all rest same h q = under_elsewhere (name l) (name q) all ∙ by (same_step (name q) (name l)) refl
   where
-    like : same_step (name q) (name l) ≡ same_step (name q) (name k)
-    like = same_back (name q) (name l) ∙ sym (step_congr (name k) (name l) (name q) same) ∙ same_back (name k) (name q)
-
     by : (b : Bool) → same_step (name q) (name l) ≡ b → cond b [] (under (name q) all) ≡ under (name q) rest
-    by true e = sym ((h q).0 (sym like ∙ e)).1
-    by false e = (h q).1 (sym like ∙ e)
+    by true e = sym ((h q).0 (sym (like_name k l q same) ∙ e)).1
+    by false e = (h q).1 (sym (like_name k l q same) ∙ e)
 
 both_elsewhere : (k l : List ℕ) (us all rest : List Location) → same_step (name k) (name l) ≡ true → ComesOff k us all rest → SameNames (elsewhere (name l) all) (elsewhere (name l) rest)
 both_elsewhere k l us all rest same h q = under_elsewhere (name l) (name q) all ∙ by (same_step (name q) (name l)) refl ∙ sym (under_elsewhere (name l) (name q) rest)
   where
-    like : same_step (name q) (name l) ≡ same_step (name q) (name k)
-    like = same_back (name q) (name l) ∙ sym (step_congr (name k) (name l) (name q) same) ∙ same_back (name k) (name q)
-
     by : (b : Bool) → same_step (name q) (name l) ≡ b → cond b [] (under (name q) all) ≡ cond b [] (under (name q) rest)
     by true e = refl
-    by false e = (h q).1 (sym like ∙ e)
+    by false e = (h q).1 (sym (like_name k l q same) ∙ e)
 
 put_back : (p : Option Data) (l : List ℕ) (all rest : List Location) (es : Members) → under (name l) rest ≡ [] → SameNames (elsewhere (name l) all) rest → SameNames (elsewhere (name l) all) (elsewhere (name l) rest)
     → member_if l p (members_with_answer None (elsewhere (name l) all) es) ≡ members_with_answer None rest (member_if l p es)
@@ -155,19 +152,19 @@ pub clears_over : (depth : ℕ) {ls others : List Location} {x : Location} {all 
 clears_over depth {others = others} {x = x} {all = all} {first = first} {now = now} cases none p =
     clears_skip all first now (drop depth x) (beyond depth others) (no_name_there (drop depth x) (beyond depth others) none) (subst (λ (r : List Location). Clears all first now (beyond depth r)) cases p)
 
+through_itself : (k : List ℕ) (l : Location) (rest : List Location) → under (name k) ((name k ∷ l) ∷ rest) ≡ l ∷ under (name k) rest
+through_itself k l rest = let same : same_step (name k) (name k) ≡ true = same_itself (name k) in rw same refl
+
 -- those at the front that go through one name
 clears_more : (all : List Location) (first now after : Members) (k : List ℕ) (l : Location) (rest : List Location)
     → after ≡ edit_member (piece None (under (name k) ((name k ∷ l) ∷ rest))) k now → Clears all first now ((name k ∷ l) ∷ rest) → Clears all first after (drop (leading (name k) rest) rest)
 unfolding IsStrictlySortedBy
 clears_more all first now after k l rest is p = record {
   sorted = sorted_drop (leading (name k) rest) rest p.sorted.1;
-  same = ap (members_with_answer None (drop (leading (name k) rest) rest)) (is ∙ ap (λ (us : List Location). edit_member (piece None us) k now) through)
+  same = ap (members_with_answer None (drop (leading (name k) rest) rest)) (is ∙ ap (λ (us : List Location). edit_member (piece None us) k now) (through_itself k l rest))
       ∙ sym (members_off k (l ∷ under (name k) rest) ((name k ∷ l) ∷ rest) (drop (leading (name k) rest) rest) now (name_off k l rest p.sorted))
       ∙ p.same;
 }
-  where
-    through : under (name k) ((name k ∷ l) ∷ rest) ≡ l ∷ under (name k) rest
-    through = let same : same_step (name k) (name k) ≡ true = same_itself (name k) in rw same refl
 
 pub clears_end : (depth : ℕ) (rest : List Location) {all : List Location} {first now : Members} → length rest ≡ 0 → Clears all first now (beyond depth rest) → now ≡ members_with_answer None all first
 clears_end depth rest {all} {first} {now} none q =
@@ -183,7 +180,7 @@ module _ {depth g : ℕ} {ls others : List Location} {k : List ℕ} {l : Locatio
   through_name = under (name k) ((name k ∷ l) ∷ rest)
 
   through_front : through_name ≡ l ∷ under (name k) rest
-  through_front = let same : same_step (name k) (name k) ≡ true = same_itself (name k) in rw same refl
+  through_front = through_itself k l rest
 
   module _ {later : List Location} (behind : later ≡ drop g ls) {all : List Location} {first : Members} (es fs : List Entry) (p : Clears all first (members_view es) (beyond depth ls)) where
     at_front : Clears all first (members_view es) ((name k ∷ l) ∷ rest)

@@ -1,6 +1,6 @@
 -- Of the locations only what they cover matters to what is nulled and taken: not their order, nor repeats, nor those below another one.
 use Rattle.std.proofs.Common.{◌≡◌, ℕ, suc, List, [], ◌∷◌, fold, Option, Some, Bool, true, false, ◌&&◌, ◌||◌, not, Ordering, Less, Equal, Greater, nat_cmp, nat_eq, cond, is_eq, refl, sym, ap, ◌∙◌, ◌⊎◌, inl, inr, arith}
-use Rattle.std.proofs.Math.Bool.{or-false, or_assoc, or_comm, or_self}
+use Rattle.std.proofs.Math.Bool.{and-false, or-false, or_assoc, or_comm, or_self}
 use Rattle.std.proofs.lemmas.Bool.{eqb-true}
 use Rattle.std.proofs.lemmas.Bool.Decides.{eqb_tells, nat_tests}
 use Rattle.std.proofs.lemmas.Cmp.{nat_list_cmp_total}
@@ -79,10 +79,6 @@ under_covers s p ((t ∷ l) ∷ ls) = ap (λ (b : Bool). (b && begins_with l p) 
     by true (u ∷ m) e = ap (λ (x : Bool). begins_with (u ∷ m) p || x) e ∙ swapped (begins_with (u ∷ m) p) (has_root (under s ls)) (covers p (under s ls))
     by false m e = e
 
-not_and_false : (c : Bool) → false ≡ (not c && false)
-not_and_false true = refl
-not_and_false false = refl
-
 elsewhere_cases : (b c p q x : Bool) → (p ≡ true → b ≡ c) → cond b (not c && x) ((p && q) || (not c && x)) ≡ (not c && ((p && q) || x))
 elsewhere_cases true true p q x h = refl
 elsewhere_cases true false true q x h = absurd (let e : true ≡ false = h refl in cc)
@@ -97,7 +93,7 @@ elsewhere_at true t r m p e y h = h
 elsewhere_at false t r m p e y h = ap (λ z. (same_step r t && begins_with m p) || z) h
 
 elsewhere_covers : (s r : Step) (p : Location) (ls : List Location) → covers (r ∷ p) (elsewhere s ls) ≡ (not (same_step r s) && covers (r ∷ p) ls)
-elsewhere_covers s r p [] = not_and_false (same_step r s)
+elsewhere_covers s r p [] = sym (and-false (not (same_step r s)))
 elsewhere_covers s r p ([] ∷ ls) = elsewhere_covers s r p ls
 elsewhere_covers s r p ((t ∷ m) ∷ ls) =
     elsewhere_at (same_step t s) t r m p (elsewhere s ls) _ (elsewhere_covers s r p ls)

@@ -1,4 +1,6 @@
-use Rattle.jsonpath_nodes.proofs.step.SeparateLemmas.{names_stand_apart, lists_stand_apart, step_stands_apart, descent_stands_apart, index_stands_apart, range_stands_apart, kept_stand_apart}
+use Rattle.jsonpath_nodes.specs.step.Separate.{in_one_array}
+use Rattle.jsonpath_nodes.proofs.step.DistinctLemmas.{distinct_filter}
+use Rattle.jsonpath_nodes.proofs.step.SeparateLemmas.{names_stand_apart, lists_stand_apart, step_stands_apart, descent_stands_apart, index_stands_apart, range_stands_apart}
 use Rattle.jsonpath_nodes.proofs.laws.steps_keep_locations_apart.Goals as goal
 
 pub returns-clause-named : goal.returns-clause-named
@@ -14,7 +16,7 @@ pub returns-clause-range : goal.returns-clause-range
 returns-clause-range c = range_stands_apart
 
 pub returns-clause-kept : goal.returns-clause-kept
-returns-clause-kept c = kept_stand_apart
+returns-clause-kept c = distinct_filter in_one_array
 
 pub returns-clause-lists : goal.returns-clause-lists
 returns-clause-lists c = lists_stand_apart
