@@ -20,8 +20,10 @@ const FRIENDS: &str =
 const STORE: &str =
     "{\"store\":{\"book\":[{\"price\":895},{\"price\":1299},{\"price\":899},{\"price\":2299}],\"bicycle\":{\"price\":1995}}}";
 
-// Path, document, answer.
-const SELECTED: [(&str, &str, &str); 4] = [
+// Path, document, answer. Each is tried by itself, since a test runs once for each growth.
+type Row = (&'static str, &'static str, &'static str);
+
+const SELECTED: [Row; 4] = [
     (
         "$..friends[0]",
         FRIENDS,
@@ -35,9 +37,6 @@ const SELECTED: [(&str, &str, &str); 4] = [
     ),
     ("$.foo.bar", "{\"foo\":{\"bar\":\"baz\"}}", "[\"baz\"]"),
 ];
-
-// The rows of these that are also tried by each type that holds a path: a descent, and a filter in a filter.
-const HELD: [usize; 2] = [0, 2];
 
 // Path, document, the document after deleting.
 const DELETED: [(&str, &str, &str); 3] = [
@@ -68,7 +67,8 @@ macro_rules! made {
     };
 }
 
-fn short_selections_grow(rt: &(impl Abort + AllocGlobal), path: &str, json: &str, text: &str) {
+fn short_selections_grow(rt: &(impl Abort + AllocGlobal), row: Row) {
+    let (path, json, text) = row;
     let alloc = rt.alloc();
     let document = made!(Value::from_str(alloc, json));
     let mut refused = 0u8;
@@ -96,10 +96,23 @@ fn short_selections_grow(rt: &(impl Abort + AllocGlobal), path: &str, json: &str
 }
 
 #[test]
-fn growths_of_short_selections(rt: HostRuntime) {
-    for (path, json, text) in SELECTED {
-        short_selections_grow(&rt, path, json, text);
-    }
+fn growths_of_short_selections_by_descents(rt: HostRuntime) {
+    short_selections_grow(&rt, SELECTED[0]);
+}
+
+#[test]
+fn growths_of_short_selections_by_prices(rt: HostRuntime) {
+    short_selections_grow(&rt, SELECTED[1]);
+}
+
+#[test]
+fn growths_of_short_selections_by_nested_filters(rt: HostRuntime) {
+    short_selections_grow(&rt, SELECTED[2]);
+}
+
+#[test]
+fn growths_of_short_selections_by_names(rt: HostRuntime) {
+    short_selections_grow(&rt, SELECTED[3]);
 }
 
 fn json_selector_answers(
@@ -141,13 +154,20 @@ fn json_selector_grows<'a>(
     }
 }
 
+fn json_selector_grows_for(rt: &(impl Abort + AllocGlobal), row: Row) {
+    let (path, json, text) = row;
+    let document = made!(Value::from_str(rt.alloc(), json));
+    json_selector_grows(rt, path, &document, text);
+}
+
 #[test]
-fn growths_of_json_selectors(rt: HostRuntime) {
-    for row in HELD {
-        let (path, json, text) = SELECTED[row];
-        let document = made!(Value::from_str(rt.alloc(), json));
-        json_selector_grows(&rt, path, &document, text);
-    }
+fn growths_of_json_selectors_by_descents(rt: HostRuntime) {
+    json_selector_grows_for(&rt, SELECTED[0]);
+}
+
+#[test]
+fn growths_of_json_selectors_by_nested_filters(rt: HostRuntime) {
+    json_selector_grows_for(&rt, SELECTED[2]);
 }
 
 fn selector_answers(
@@ -168,7 +188,8 @@ fn selector_answers(
     }
 }
 
-fn selector_grows(rt: &(impl Abort + AllocGlobal), path: &str, json: &str, text: &str) {
+fn selector_grows(rt: &(impl Abort + AllocGlobal), row: Row) {
+    let (path, json, text) = row;
     let alloc = rt.alloc();
     let document = made!(Value::from_str(alloc, json));
     let node = made!(Parser::compile(alloc, path));
@@ -186,11 +207,13 @@ fn selector_grows(rt: &(impl Abort + AllocGlobal), path: &str, json: &str, text:
 }
 
 #[test]
-fn growths_of_selectors(rt: HostRuntime) {
-    for row in HELD {
-        let (path, json, text) = SELECTED[row];
-        selector_grows(&rt, path, json, text);
-    }
+fn growths_of_selectors_by_descents(rt: HostRuntime) {
+    selector_grows(&rt, SELECTED[0]);
+}
+
+#[test]
+fn growths_of_selectors_by_nested_filters(rt: HostRuntime) {
+    selector_grows(&rt, SELECTED[2]);
 }
 
 #[test]
@@ -306,14 +329,21 @@ fn kept_path_grows(rt: &(impl Abort + AllocGlobal), path: &str, json: &str, text
     check!(rt; refused != 2);
 }
 
+fn compiled_paths_grow(rt: &(impl Abort + AllocGlobal), row: Row) {
+    let (path, json, text) = row;
+    shared_path_grows(rt, path, json, text);
+    owned_path_grows(rt, path, json, text);
+    kept_path_grows(rt, path, json, text);
+}
+
 #[test]
-fn growths_of_compiled_paths(rt: HostRuntime) {
-    for row in HELD {
-        let (path, json, text) = SELECTED[row];
-        shared_path_grows(&rt, path, json, text);
-        owned_path_grows(&rt, path, json, text);
-        kept_path_grows(&rt, path, json, text);
-    }
+fn growths_of_compiled_paths_by_descents(rt: HostRuntime) {
+    compiled_paths_grow(&rt, SELECTED[0]);
+}
+
+#[test]
+fn growths_of_compiled_paths_by_nested_filters(rt: HostRuntime) {
+    compiled_paths_grow(&rt, SELECTED[2]);
 }
 
 // Asserts which document a call leaves, or that it wanted memory.
