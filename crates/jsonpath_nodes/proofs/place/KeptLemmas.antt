@@ -16,9 +16,8 @@ use Rattle.jsonpath_nodes.proofs.step.DeepLemmas.{gathered_items, gathered_membe
 use Rattle.jsonpath_nodes.proofs.step.ListLemmas.{from_each-twice}
 use Rattle.jsonpath_nodes.proofs.place.LeadLemmas.{look-below}
 use Rattle.jsonpath_nodes.proofs.step.NowhereLemmas.{IsLeaf, leaf_selects, leaf_gathered, nothing_at_leaf, nothing_in_leaves, nothing_gained}
-use Rattle.jsonpath_nodes.specs.declared.step.gather.Gathered.{Gathered}
 use Rattle.jsonpath_nodes.specs.plan.Containers.{some_container}
-use Rattle.jsonpath_nodes.specs.plan.Gathered.{gathered_at, all_gathered}
+use Rattle.jsonpath_nodes.specs.plan.Gathered.{Gathered, gathered_at, all_gathered}
 
 -- ---- what is kept of a sight
 

@@ -7,9 +7,7 @@ use Rattle.serde_json.specs.Find.{as_array, as_object}
 use Rattle.jsonpath_nodes.specs.plan.Containers.{is_container, some_container}
 use Rattle.jsonpath_nodes.specs.place.Location.{Step, name, index, Location, child, below}
 use Rattle.jsonpath_nodes.specs.step.Steps.{Plain, every, named, listed, nth, union, range, present, nth_of, length_of, abs_index, single_steps, from_each}
-use Rattle.jsonpath_nodes.specs.declared.step.gather.Gathered.{Gathered}
-use Rattle.jsonpath_nodes.specs.declared.step.gather.Gathered.TheVariants.{Selected, Flattened}
-use Rattle.jsonpath_nodes.specs.plan.Gathered.{gathered_at, all_gathered}
+use Rattle.jsonpath_nodes.specs.plan.Gathered.{Gathered, selected, flattened, gathered_at, all_gathered}
 use Rattle.jsonpath_nodes.specs.step.PlainSteps.{plain_step_of}
 use Rattle.jsonpath_nodes.specs.place.Order.{IsDocument, HoldDocuments}
 use Rattle.jsonpath_nodes.specs.place.Mark.{look_kept_from}
@@ -66,8 +64,8 @@ leaf_gathered own d h none =
     ∙ ap (λ (ls : List Location). map (λ m. [] ++ m) ls ++ []) none
 
 pub nothing_at_leaf : (what : Gathered) (d : Data) → IsLeaf d → gathered_at what d ≡ []
-nothing_at_leaf (Selected p) d h = leaf_selects (plain_step_of p) d h
-nothing_at_leaf Flattened d h = leaf_by (λ c. gathered_at Flattened c ≡ []) refl (λ b. refl) (λ n. refl) (λ s. refl) d h
+nothing_at_leaf (selected p) d h = leaf_selects p d h
+nothing_at_leaf flattened d h = leaf_by (λ c. gathered_at flattened c ≡ []) refl (λ b. refl) (λ n. refl) (λ s. refl) d h
 
 pub nothing_gained : (b : Bool) (l : Location) (d : Data) (xs : List Sight) (ls : List Location) → ls ≡ [] → xs ≡ xs ++ map (look_kept_from b l d) ls
 nothing_gained b l d xs ls none = sym (append-nil xs) ∙ ap (λ (ks : List Location). xs ++ map (look_kept_from b l d) ks) (sym none)

@@ -1,12 +1,14 @@
 -- What a descent gathers at each array and object where it comes.
 use Rattle.std.specs.Prelude.{List, []}
 use Rattle.serde_json.specs.Data.{Data, object}
-use Rattle.jsonpath_nodes.specs.declared.step.gather.Gathered.{Gathered}
-use Rattle.jsonpath_nodes.specs.declared.step.gather.Gathered.TheVariants.{Selected, Flattened}
 use Rattle.jsonpath_nodes.specs.place.Location.{Location, below}
 use Rattle.jsonpath_nodes.specs.step.Candidates.{flat_members}
-use Rattle.jsonpath_nodes.specs.step.PlainSteps.{plain_step_of}
-use Rattle.jsonpath_nodes.specs.step.Steps.{from_each, single_steps}
+use Rattle.jsonpath_nodes.specs.step.Steps.{Plain, from_each, single_steps}
+
+-- what a step selects; or what is flat in objects
+pub data Gathered : Type 0 where
+  selected : Plain → Gathered
+  flattened : Gathered
 
 -- what is no array and is reached through arrays alone from the members of an object
 abbrev pub flat_in_object : Data → List Location
@@ -15,8 +17,8 @@ flat_in_object _ = []
 
 -- what is gathered at a value
 abbrev pub gathered_at : Gathered → Data → List Location
-gathered_at (Selected p) = single_steps (plain_step_of p)
-gathered_at Flattened = flat_in_object
+gathered_at (selected p) = single_steps p
+gathered_at flattened = flat_in_object
 
 -- what own gives at a value and at all that lies below it
 abbrev pub all_gathered : (Data → List Location) → Data → List Location

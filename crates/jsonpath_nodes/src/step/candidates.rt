@@ -19,7 +19,7 @@ use crate::place::location::{LocStep, Location};
 use crate::place::spot::Spot;
 use crate::step::child_lookup::is_container;
 use crate::step::descends::{Descends, DownStep};
-use crate::step::gather::{Gathered, add_at_or_below};
+use crate::step::gather::{Flattened, add_at_or_below};
 use crate::tree::Tree;
 use std::alloc::Global;
 use std::cmp::Ordering;
@@ -133,7 +133,7 @@ fn add_in_objects<M: Descends>(
     ensures gains { OnOk result (MarksGain M.located M.stand M.content in_objects (way_stand M.located (M.start way.old) (M.steps way.old)) (M.Tree.content value) out.old.items out.new.items) }
     ensures document { OnOk result (IsDocument (M.Tree.content value)) }
 {
-    add_at_or_below::<M>(value, way, &Gathered::Flattened, out)?;
+    add_at_or_below::<M, Flattened>(value, way, &Flattened, out)?;
     Ok(())
 }
 

@@ -5,7 +5,7 @@ ghost use Rattle.serde_json.specs.Data.{array, object};
 ghost use Rattle.jsonpath_nodes.specs.place.Mark.{MarksGain};
 ghost use Rattle.jsonpath_nodes.specs.place.Order.{IsDocument};
 ghost use Rattle.jsonpath_nodes.specs.plan.Containers.{some_container};
-ghost use Rattle.jsonpath_nodes.specs.plan.Gathered.{gathered_at, all_gathered};
+ghost use Rattle.jsonpath_nodes.specs.plan.Gathered.{Gathered, selected, flattened, gathered_at, all_gathered};
 ghost use Rattle.jsonpath_nodes.specs.plan.Way.{down_step, way_stand, Stays};
 ghost use Rattle.jsonpath_nodes.specs.step.PlainSteps.{plain_step_of};
 ghost use Rattle.jsonpath_nodes.specs.step.Steps.{deep, named, single_steps};
@@ -19,12 +19,101 @@ use crate::step::plain_step::PlainStep;
 use crate::tree::Tree;
 use std::alloc::Global;
 
-// What a descent adds at each array and object where it comes: what a step selects there; or, in objects alone, what is no
-// array and is reached through arrays alone from a member.
+// What a descent adds at each array and object where it comes. A type of its own for each kind has the descent compiled
+// for that kind alone.
+pub trait Gathers {
+    ghost what: { Self → Gathered };
+
+    // Adds what is gathered at the array where the descent is, itself alone.
+    fn add_in_array<M: Descends>(
+        &self,
+        items: <M::Tree as Tree>::Array,
+        way: &mut M::Way,
+        out: &mut Vec<M>,
+    ) -> Result<(), NoMemory>
+        ensures gains { OnOk result (MarksGain M.located M.stand M.content (gathered_at (what self.now)) (way_stand M.located (M.start way.old) (M.steps way.old)) (array (M.Tree.items items)) out.old.items out.new.items) }
+        ensures stays { OnOk result (Stays M.located (M.start way.old) (M.steps way.old) (M.start way.new) (M.steps way.new)) };
+
+    // Adds what is gathered at the object where the descent is, itself alone. It answers whether some member may be an
+    // array or an object: it says no only where none is.
+    fn add_in_object<M: Descends>(
+        &self,
+        members: <M::Tree as Tree>::Object,
+        way: &mut M::Way,
+        out: &mut Vec<M>,
+    ) -> Result<bool, NoMemory>
+        ensures gains { OnOk result (MarksGain M.located M.stand M.content (gathered_at (what self.now)) (way_stand M.located (M.start way.old) (M.steps way.old)) (object (M.Tree.members members)) out.old.items out.new.items) }
+        ensures below { IfOk result (λ b. b ≡ false → some_container (M.Tree.members members) ≡ false) }
+        ensures stays { OnOk result (Stays M.located (M.start way.old) (M.steps way.old) (M.start way.new) (M.steps way.new)) };
+}
+
+// What a step selects. The way to an array or object is shared only where the step may select a child there.
+impl<'p> Gathers for PlainStep<'p> {
+    ghost what = { λ plain. selected (plain_step_of plain) };
+
+    #[inline(always)]
+    fn add_in_array<M: Descends>(
+        &self,
+        items: <M::Tree as Tree>::Array,
+        way: &mut M::Way,
+        out: &mut Vec<M>,
+    ) -> Result<(), NoMemory> {
+        if may_select_item::<M::Tree>(items, self) {
+            let here = M::items_here(way)?;
+            add_selected_items(items, &here, self, out)?;
+        }
+        Ok(())
+    }
+
+    #[inline(always)]
+    fn add_in_object<M: Descends>(
+        &self,
+        members: <M::Tree as Tree>::Object,
+        way: &mut M::Way,
+        out: &mut Vec<M>,
+    ) -> Result<bool, NoMemory> {
+        match self {
+            PlainStep::Named(name) => {
+                add_named_member_at_way::<M>(members, way, name, out)?;
+                Ok(true)
+            }
+            PlainStep::Nth(_) => Ok(true),
+            PlainStep::Union(_) => Ok(true),
+            PlainStep::Range(_, _, _) => Ok(true),
+            _ => {
+                let here = M::members_here(way)?;
+                add_selected_members(members, &here, self, out)
+            }
+        }
+    }
+}
+
+// In objects alone, what is no array and is reached through arrays alone from a member.
 #[derive(Clone, Copy)]
-pub enum Gathered<'p> {
-    Selected(PlainStep<'p>),
-    Flattened,
+pub struct Flattened;
+
+impl Gathers for Flattened {
+    ghost what = { λ _. flattened };
+
+    #[inline(always)]
+    fn add_in_array<M: Descends>(
+        &self,
+        _items: <M::Tree as Tree>::Array,
+        _way: &mut M::Way,
+        _out: &mut Vec<M>,
+    ) -> Result<(), NoMemory> {
+        Ok(())
+    }
+
+    #[inline(always)]
+    fn add_in_object<M: Descends>(
+        &self,
+        members: <M::Tree as Tree>::Object,
+        way: &mut M::Way,
+        out: &mut Vec<M>,
+    ) -> Result<bool, NoMemory> {
+        add_flattened_members::<M>(members, way, out)
+    }
 }
 
 // Adds what a step selects in the value of a node and in all below it, each value before its children.
@@ -38,27 +127,27 @@ pub(crate) fn add_selected_at_or_below<M: Descends>(
     ensures { OnOk result (MarksGain M.located M.stand M.content (deep (plain_step_of plain.now)) (M.stand node.now) (M.content node.now) out.old.items out.new.items) }
 {
     let mut way = node.way_from(alloc)?;
-    add_at_or_below::<M>(node.tree(), &mut way, &Gathered::Selected(*plain), out)
+    add_at_or_below::<M, PlainStep<'_>>(node.tree(), &mut way, plain, out)
 }
 
 // Adds what is gathered at the value where the descent is and at all below it, each value before its children. It also
 // tells that the names ascend in each object there.
 #[cycle(deep)]
 #[inline(always)]
-pub(crate) fn add_at_or_below<M: Descends>(
+pub(crate) fn add_at_or_below<M: Descends, G: Gathers>(
     value: M::Tree,
     way: &mut M::Way,
-    what: &Gathered<'_>,
+    what: &G,
     out: &mut Vec<M>,
 ) -> Result<(), NoMemory>
-    ensures gains { OnOk result (MarksGain M.located M.stand M.content (all_gathered (gathered_at what.now)) (way_stand M.located (M.start way.old) (M.steps way.old)) (M.Tree.content value) out.old.items out.new.items) }
+    ensures gains { OnOk result (MarksGain M.located M.stand M.content (all_gathered (gathered_at (G.what what.now))) (way_stand M.located (M.start way.old) (M.steps way.old)) (M.Tree.content value) out.old.items out.new.items) }
     ensures stays { OnOk result (Stays M.located (M.start way.old) (M.steps way.old) (M.start way.new) (M.steps way.new)) }
     ensures document { OnOk result (IsDocument (M.Tree.content value)) }
 {
     if let Some(members) = value.as_object() {
-        add_at_or_below_object::<M>(members, way, what, out)
+        add_at_or_below_object::<M, G>(members, way, what, out)
     } else if let Some(items) = value.as_array() {
-        add_at_or_below_array::<M>(items, way, what, out)
+        add_at_or_below_array::<M, G>(items, way, what, out)
     } else {
         Ok(())
     }
@@ -67,20 +156,20 @@ pub(crate) fn add_at_or_below<M: Descends>(
 // Adds what is gathered at a child of the container where the descent is, and at all below that child.
 #[cycle(deep)]
 #[inline(always)]
-fn add_at_or_below_child<M: Descends>(
+fn add_at_or_below_child<M: Descends, G: Gathers>(
     value: M::Tree,
     step: DownStep<<M::Tree as Tree>::Name>,
     way: &mut M::Way,
-    what: &Gathered<'_>,
+    what: &G,
     out: &mut Vec<M>,
 ) -> Result<(), NoMemory>
-    ensures gains { OnOk result (MarksGain M.located M.stand M.content (all_gathered (gathered_at what.now)) (way_stand M.located (M.start way.old) (M.steps way.old ++ down_step M.Tree.name_bytes step ∷ [])) (M.Tree.content value) out.old.items out.new.items) }
+    ensures gains { OnOk result (MarksGain M.located M.stand M.content (all_gathered (gathered_at (G.what what.now))) (way_stand M.located (M.start way.old) (M.steps way.old ++ down_step M.Tree.name_bytes step ∷ [])) (M.Tree.content value) out.old.items out.new.items) }
     ensures stays { OnOk result (Stays M.located (M.start way.old) (M.steps way.old) (M.start way.new) (M.steps way.new)) }
     ensures document { OnOk result (IsDocument (M.Tree.content value)) }
 {
     if is_container(value) {
         M::go_down(way, step)?;
-        add_at_or_below::<M>(value, way, what, out)?;
+        add_at_or_below::<M, G>(value, way, what, out)?;
         M::go_back(way);
     }
     Ok(())
@@ -88,23 +177,23 @@ fn add_at_or_below_child<M: Descends>(
 
 // Adds what is gathered at the array where the descent is, and at all below it.
 #[cycle(deep)]
-fn add_at_or_below_array<M: Descends>(
+fn add_at_or_below_array<M: Descends, G: Gathers>(
     items: <M::Tree as Tree>::Array,
     way: &mut M::Way,
-    what: &Gathered<'_>,
+    what: &G,
     out: &mut Vec<M>,
 ) -> Result<(), NoMemory>
-    ensures gains { OnOk result (MarksGain M.located M.stand M.content (all_gathered (gathered_at what.now)) (way_stand M.located (M.start way.old) (M.steps way.old)) (array (M.Tree.items items)) out.old.items out.new.items) }
+    ensures gains { OnOk result (MarksGain M.located M.stand M.content (all_gathered (gathered_at (G.what what.now))) (way_stand M.located (M.start way.old) (M.steps way.old)) (array (M.Tree.items items)) out.old.items out.new.items) }
     ensures stays { OnOk result (Stays M.located (M.start way.old) (M.steps way.old) (M.start way.new) (M.steps way.new)) }
     ensures document { OnOk result (IsDocument (array (M.Tree.items items))) }
 {
-    add_items_at_way::<M>(items, way, what, out)?;
+    what.add_in_array::<M>(items, way, out)?;
     // Also says that the indexes fit.
     let _len = <M::Tree as Tree>::len(items);
     let mut left = <M::Tree as Tree>::each_item(items);
     let mut i = 0;
     while let Some(item) = <M::Tree as Tree>::next_item(&mut left) {
-        add_at_or_below_child::<M>(item, DownStep::Item(i), way, what, out)?;
+        add_at_or_below_child::<M, G>(item, DownStep::Item(i), way, what, out)?;
         i += 1;
     }
     Ok(())
@@ -112,77 +201,25 @@ fn add_at_or_below_array<M: Descends>(
 
 // Adds what is gathered at the object where the descent is, and at all below it.
 #[cycle(deep)]
-fn add_at_or_below_object<M: Descends>(
+fn add_at_or_below_object<M: Descends, G: Gathers>(
     members: <M::Tree as Tree>::Object,
     way: &mut M::Way,
-    what: &Gathered<'_>,
+    what: &G,
     out: &mut Vec<M>,
 ) -> Result<(), NoMemory>
-    ensures gains { OnOk result (MarksGain M.located M.stand M.content (all_gathered (gathered_at what.now)) (way_stand M.located (M.start way.old) (M.steps way.old)) (object (M.Tree.members members)) out.old.items out.new.items) }
+    ensures gains { OnOk result (MarksGain M.located M.stand M.content (all_gathered (gathered_at (G.what what.now))) (way_stand M.located (M.start way.old) (M.steps way.old)) (object (M.Tree.members members)) out.old.items out.new.items) }
     ensures stays { OnOk result (Stays M.located (M.start way.old) (M.steps way.old) (M.start way.new) (M.steps way.new)) }
     ensures document { OnOk result (IsDocument (object (M.Tree.members members))) }
 {
-    let holds = add_members_at_way::<M>(members, way, what, out)?;
+    let holds = what.add_in_object::<M>(members, way, out)?;
     // Made in both cases, since it tells that the names ascend.
     let mut left = <M::Tree as Tree>::each_member(members);
     if holds {
         while let Some((name, member)) = <M::Tree as Tree>::next_member(&mut left) {
-            add_at_or_below_child::<M>(member, DownStep::Member(name), way, what, out)?;
+            add_at_or_below_child::<M, G>(member, DownStep::Member(name), way, what, out)?;
         }
     }
     Ok(())
-}
-
-// Adds what is gathered at the array where the descent is, itself alone. The way there is shared only where a step may
-// select an item.
-#[inline(always)]
-fn add_items_at_way<M: Descends>(
-    items: <M::Tree as Tree>::Array,
-    way: &mut M::Way,
-    what: &Gathered<'_>,
-    out: &mut Vec<M>,
-) -> Result<(), NoMemory>
-    ensures gains { OnOk result (MarksGain M.located M.stand M.content (gathered_at what.now) (way_stand M.located (M.start way.old) (M.steps way.old)) (array (M.Tree.items items)) out.old.items out.new.items) }
-    ensures stays { OnOk result (Stays M.located (M.start way.old) (M.steps way.old) (M.start way.new) (M.steps way.new)) }
-{
-    if let Gathered::Selected(plain) = what {
-        if may_select_item::<M::Tree>(items, plain) {
-            let here = M::items_here(way)?;
-            add_selected_items(items, &here, plain, out)?;
-        }
-    }
-    Ok(())
-}
-
-// Adds what is gathered at the object where the descent is, itself alone; for a step, the way there is shared only where it
-// may select a member. It answers whether some member may be an array or an object: it says no only where none is.
-#[inline(always)]
-fn add_members_at_way<M: Descends>(
-    members: <M::Tree as Tree>::Object,
-    way: &mut M::Way,
-    what: &Gathered<'_>,
-    out: &mut Vec<M>,
-) -> Result<bool, NoMemory>
-    ensures gains { OnOk result (MarksGain M.located M.stand M.content (gathered_at what.now) (way_stand M.located (M.start way.old) (M.steps way.old)) (object (M.Tree.members members)) out.old.items out.new.items) }
-    ensures below { IfOk result (λ b. b ≡ false → some_container (M.Tree.members members) ≡ false) }
-    ensures stays { OnOk result (Stays M.located (M.start way.old) (M.steps way.old) (M.start way.new) (M.steps way.new)) }
-{
-    let Gathered::Selected(plain) = what else {
-        return add_flattened_members::<M>(members, way, out);
-    };
-    match plain {
-        PlainStep::Named(name) => {
-            add_named_member_at_way::<M>(members, way, name, out)?;
-            Ok(true)
-        }
-        PlainStep::Nth(_) => Ok(true),
-        PlainStep::Union(_) => Ok(true),
-        PlainStep::Range(_, _, _) => Ok(true),
-        _ => {
-            let here = M::members_here(way)?;
-            add_selected_members(members, &here, plain, out)
-        }
-    }
 }
 
 // Adds the member of this name of the object where the descent is. The way there is shared only where it has one.

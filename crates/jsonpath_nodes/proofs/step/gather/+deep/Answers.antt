@@ -16,24 +16,24 @@ use Rattle.jsonpath_nodes.proofs.step.gather.+deep.Goals.{add_at_or_below_object
 pub add_at_or_below_array-returns-clause-gains : goal.add_at_or_below_array-returns-clause-gains
 add_at_or_below_array-returns-clause-gains g t c =
     let b = g.M.Descends.located in
-    let own = gathered_at c.args.what.now in
+    let own = gathered_at (g.G.Gathers.what c.args.what.now) in
     let whole = g.M.Tree.Tree.items c.args.items in
     let here = way_stand b (g.M.Descends.start c.args.way.now) (g.M.Descends.steps c.args.way.now) in
-    let first = c.add_items_at_way.new.way in
-    let same = stays-stand b (g.M.Descends.start c.args.way.now) (g.M.Descends.start first) (g.M.Descends.steps c.args.way.now) (g.M.Descends.steps first) c.in_ok-add_items_at_way.ensures.stays in
+    let first = c.add_in_array.new.way in
+    let same = stays-stand b (g.M.Descends.start c.args.way.now) (g.M.Descends.start first) (g.M.Descends.steps c.args.way.now) (g.M.Descends.steps first) c.in_ok-add_in_array.ensures.stays in
     deep_after _ _ _ _ _ _
     (items_end (seen_items b (all_gathered own) (way_stand b (g.M.Descends.start first) (g.M.Descends.steps first))) c.loop-item.i (g.M.Tree.Tree.items_left c.loop-item.left) whole _ _ _ (λ n. refl) c.in_default.ensures c.loop-item.invariant.gains
     (ap (λ (m : Location). seen_items b (all_gathered own) m 0 whole) same))
-    c.in_ok-add_items_at_way.ensures.gains
+    c.in_ok-add_in_array.ensures.gains
     (gathered_of_items b own here whole)
 
 pub add_at_or_below_object-returns-clause-gains : goal.add_at_or_below_object-returns-clause-gains
 add_at_or_below_object-returns-clause-gains g t c =
     let b = g.M.Descends.located in
-    let own = gathered_at c.args.what.now in
+    let own = gathered_at (g.G.Gathers.what c.args.what.now) in
     let whole = g.M.Tree.Tree.members c.args.members in
     let here = way_stand b (g.M.Descends.start c.args.way.now) (g.M.Descends.steps c.args.way.now) in
-    let first = c.add_members_at_way.new.way in
+    let first = c.add_in_object.new.way in
     let same = stays-stand b (g.M.Descends.start c.args.way.now) (g.M.Descends.start first) (g.M.Descends.steps c.args.way.now) (g.M.Descends.steps first) c.in_ok-holds.ensures.stays in
     elim c.if-holds.branch [
       | add_at_or_below_object-then-holds+in_default w ↦
@@ -46,7 +46,7 @@ add_at_or_below_object-returns-clause-gains g t c =
           rw w.out-is (deep_after _ _ _ _ _ _
           (sym (append-nil _))
           c.in_ok-holds.ensures.gains
-          (gathered_of_members b own here whole c.each_member-left.ensures.ordered ∙ ap (λ (xs : List Sight). map (look_kept_from b here (object whole)) (own (object whole)) ++ xs) (nothing_seen b c.args.what.now here whole (c.in_ok-holds.ensures.below w.if-holds.false))))
+          (gathered_of_members b own here whole c.each_member-left.ensures.ordered ∙ ap (λ (xs : List Sight). map (look_kept_from b here (object whole)) (own (object whole)) ++ xs) (nothing_seen b (g.G.Gathers.what c.args.what.now) here whole (c.in_ok-holds.ensures.below w.if-holds.false))))
     ]
 
 pub add_at_or_below_object-returns-clause-document : goal.add_at_or_below_object-returns-clause-document
@@ -58,10 +58,10 @@ add_at_or_below_object-returns-clause-document g t c =
 
 pub add_at_or_below-returns-in_default-as_array-clause-gains : goal.add_at_or_below-returns-in_default-as_array-clause-gains
 add_at_or_below-returns-in_default-as_array-clause-gains g t c =
-    leaf_gathered_step g.M.Descends.located c.args.what.now (way_stand g.M.Descends.located (g.M.Descends.start c.args.way.now) (g.M.Descends.steps c.args.way.now)) (g.M.Tree.Tree.content c.args.value) _
+    leaf_gathered_step g.M.Descends.located (g.G.Gathers.what c.args.what.now) (way_stand g.M.Descends.located (g.M.Descends.start c.args.way.now) (g.M.Descends.steps c.args.way.now)) (g.M.Tree.Tree.content c.args.value) _
     (leaf_else (g.M.Tree.Tree.content c.args.value) c.in_default-as_array.ensures.none c.in_default.ensures.none)
 
 pub add_at_or_below_child-returns-else-is_container-clause-gains : goal.add_at_or_below_child-returns-else-is_container-clause-gains
 add_at_or_below_child-returns-else-is_container-clause-gains g t c =
-    leaf_gathered_step g.M.Descends.located c.args.what.now (way_stand g.M.Descends.located (g.M.Descends.start c.args.way.now) (g.M.Descends.steps c.args.way.now ++ down_step g.M.Tree.Tree.name_bytes c.args.step ∷ [])) (g.M.Tree.Tree.content c.args.value) _
+    leaf_gathered_step g.M.Descends.located (g.G.Gathers.what c.args.what.now) (way_stand g.M.Descends.located (g.M.Descends.start c.args.way.now) (g.M.Descends.steps c.args.way.now ++ down_step g.M.Tree.Tree.name_bytes c.args.step ∷ [])) (g.M.Tree.Tree.content c.args.value) _
     (no_container (g.M.Tree.Tree.content c.args.value) (sym c.is_container.ensures ∙ c.if-is_container.false))

@@ -28,7 +28,7 @@ invariant-add_at_or_below_array-loop-item g l =
     let place = way_stand b (g.M.Descends.start l.initial.way) (g.M.Descends.steps l.initial.way) in
     let show = shown g.M.Descends.stand g.M.Descends.content in
     record {
-      gains : map show l.out.items ++ seen_items b (all_gathered (gathered_at l.what)) place l.i left ≡ map show l.initial.out.items ++ seen_items b (all_gathered (gathered_at l.what)) place 0 all;
+      gains : map show l.out.items ++ seen_items b (all_gathered (gathered_at (g.G.Gathers.what l.what))) place l.i left ≡ map show l.initial.out.items ++ seen_items b (all_gathered (gathered_at (g.G.Gathers.what l.what))) place 0 all;
       stays : Stays b (g.M.Descends.start l.initial.way) (g.M.Descends.steps l.initial.way) (g.M.Descends.start l.way) (g.M.Descends.steps l.way);
       documents : AreDocuments left → AreDocuments all;
       count : l.i + items_len left ≡ items_len all;
@@ -46,7 +46,7 @@ invariant-add_at_or_below_object-loop-name g l =
     let place = way_stand b (g.M.Descends.start l.initial.way) (g.M.Descends.steps l.initial.way) in
     let show = shown g.M.Descends.stand g.M.Descends.content in
     record {
-      gains : map show l.out.items ++ seen_members b (all_gathered (gathered_at l.what)) place left ≡ map show l.initial.out.items ++ seen_members b (all_gathered (gathered_at l.what)) place all;
+      gains : map show l.out.items ++ seen_members b (all_gathered (gathered_at (g.G.Gathers.what l.what))) place left ≡ map show l.initial.out.items ++ seen_members b (all_gathered (gathered_at (g.G.Gathers.what l.what))) place all;
       stays : Stays b (g.M.Descends.start l.initial.way) (g.M.Descends.steps l.initial.way) (g.M.Descends.start l.way) (g.M.Descends.steps l.way);
       documents : HoldDocuments left → HoldDocuments all;
       within : members_depth left ≤ members_depth all;
