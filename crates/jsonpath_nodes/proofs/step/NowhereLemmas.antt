@@ -8,7 +8,6 @@ use Rattle.jsonpath_nodes.specs.plan.Containers.{is_container, some_container}
 use Rattle.jsonpath_nodes.specs.place.Location.{Step, name, index, Location, child, below}
 use Rattle.jsonpath_nodes.specs.step.Steps.{Plain, every, named, listed, nth, union, range, present, nth_of, length_of, abs_index, single_steps, from_each}
 use Rattle.jsonpath_nodes.specs.plan.Gathered.{Gathered, selected, flattened, gathered_at, all_gathered}
-use Rattle.jsonpath_nodes.specs.step.PlainSteps.{plain_step_of}
 use Rattle.jsonpath_nodes.specs.place.Order.{IsDocument, HoldDocuments}
 use Rattle.jsonpath_nodes.specs.place.Mark.{look_kept_from}
 use Rattle.jsonpath_nodes.specs.place.SpotPlace.{look_from}

@@ -48,8 +48,13 @@ pub trait Gathers {
 }
 
 // What a step selects. The way to an array or object is shared only where the step may select a child there.
-impl<'p> Gathers for PlainStep<'p> {
-    ghost what = { λ plain. selected (plain_step_of plain) };
+#[derive(Clone, Copy)]
+pub struct Selected<'p> {
+    step: PlainStep<'p>,
+}
+
+impl<'p> Gathers for Selected<'p> {
+    ghost what = { λ it. selected (plain_step_of it.step) };
 
     #[inline(always)]
     fn add_in_array<M: Descends>(
@@ -58,9 +63,9 @@ impl<'p> Gathers for PlainStep<'p> {
         way: &mut M::Way,
         out: &mut Vec<M>,
     ) -> Result<(), NoMemory> {
-        if may_select_item::<M::Tree>(items, self) {
+        if may_select_item::<M::Tree>(items, &self.step) {
             let here = M::items_here(way)?;
-            add_selected_items(items, &here, self, out)?;
+            add_selected_items(items, &here, &self.step, out)?;
         }
         Ok(())
     }
@@ -72,7 +77,7 @@ impl<'p> Gathers for PlainStep<'p> {
         way: &mut M::Way,
         out: &mut Vec<M>,
     ) -> Result<bool, NoMemory> {
-        match self {
+        match &self.step {
             PlainStep::Named(name) => {
                 add_named_member_at_way::<M>(members, way, name, out)?;
                 Ok(true)
@@ -82,7 +87,7 @@ impl<'p> Gathers for PlainStep<'p> {
             PlainStep::Range(_, _, _) => Ok(true),
             _ => {
                 let here = M::members_here(way)?;
-                add_selected_members(members, &here, self, out)
+                add_selected_members(members, &here, &self.step, out)
             }
         }
     }
@@ -127,7 +132,8 @@ pub(crate) fn add_selected_at_or_below<M: Descends>(
     ensures { OnOk result (MarksGain M.located M.stand M.content (deep (plain_step_of plain.now)) (M.stand node.now) (M.content node.now) out.old.items out.new.items) }
 {
     let mut way = node.way_from(alloc)?;
-    add_at_or_below::<M, PlainStep<'_>>(node.tree(), &mut way, plain, out)
+    let what = Selected { step: *plain };
+    add_at_or_below::<M, Selected<'_>>(node.tree(), &mut way, &what, out)
 }
 
 // Adds what is gathered at the value where the descent is and at all below it, each value before its children. It also
