@@ -37,7 +37,7 @@ pub enum Call<'a> {
 /// The file of an edit in place whose facts (owner, size and so on) are asked for.
 #[derive(Clone, Copy, Drop)]
 pub enum Place {
-    /// The file at the path of the edited file.
+    /// Whatever file is now at the path of the edited file.
     Path,
     /// The file, of whatever origin, at the path that is chosen for the new file.
     Beside,

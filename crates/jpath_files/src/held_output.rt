@@ -17,7 +17,7 @@ pub struct HeldOutput<W> {
 }
 
 impl<W: Output> HeldOutput<W> {
-    /// An output buffer with no bytes, and this writer to which they will be written.
+    /// An empty output buffer; what is put into it later will be written to this writer.
     pub fn new(alloc: Global, writer: W) -> HeldOutput<W>
         ensures writer { result.writer ≡ writer }
         ensures nothing { result.bytes.items ≡ [] }

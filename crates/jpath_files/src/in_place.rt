@@ -10,8 +10,8 @@ use crate::file_to_edit::Way;
 use std::alloc::Global;
 use std::io::{self, ErrorKind};
 
-/// Replaces the content of a file that is open to be edited by these bytes, and forces them to the disk. `found` has
-/// the facts of the file when it was opened. `way` says how: a new file, with the same owner, group and mode, is
+/// Puts these bytes in place of the content of a file that is open to be edited, and forces them to the disk. `found`
+/// has the facts of the file when it was opened. `way` says how: a new file, with the same owner, group and mode, is
 /// written beside the file, forced to the disk, and then replaces the file; or the bytes are written into the file
 /// itself.
 ///

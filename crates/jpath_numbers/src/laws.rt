@@ -6,7 +6,7 @@ ghost use Rattle.jpath_numbers.specs.NumberPlaces.{KeepsTextOrder, is_alike};
 ghost use Rattle.jpath_numbers.specs.declared.numbers_in_copy.Numbers.{Numbers};
 
 /// Lemma: a number has one `NumberKey`, with whatever zeros, point and exponent it is written. So equal numbers have
-/// equal ranks.
+/// equal keys.
 pub fn one_number_one_key()
     ensures { OneKey }
 {}

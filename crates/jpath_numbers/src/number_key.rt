@@ -23,7 +23,7 @@ pub struct NumberKey {
 }
 
 impl NumberKey {
-    /// Makes the key of the number that is written in a JSON text; `None` if its exponent doesn't fit in 128 bits. The
+    /// Makes the key of a number, given as it is written in JSON; `None` if its exponent doesn't fit in 128 bits. The
     /// only error is out of memory.
     pub fn read(alloc: Global, text: &str) -> Result<Option<NumberKey>, AllocError>
         ensures { IfOk result (λ o. IfSome o (IsKeyOf text.now)) }

@@ -29,7 +29,7 @@ pub enum Numbers {
     AsRead,
     /// The copy has each number times ten to this power, which makes each an integer.
     Scaled(u32),
-    /// The copy has, in place of each number, its rank among these keys, which ascend.
+    /// The copy has, in place of each number, the index of its key in this list of keys, which ascend.
     Ranked(Vec<NumberKey>),
     /// All numbers of the document are one and the same number in the copy, since no filter compares numbers.
     Alike,

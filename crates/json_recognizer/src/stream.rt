@@ -16,7 +16,7 @@ use crate::state::{self, State, start};
 pub enum Found {
     /// The document does not end in the bytes of this call; it may continue after them.
     GoesOn,
-    /// The document ends after this number of the bytes of this call.
+    /// The document ends after this number of the bytes that were passed to the call.
     Ends(usize),
     /// The byte at this index, from 0, in the bytes of this call is wrong: no document can continue with it.
     Refused(usize),

@@ -26,8 +26,7 @@ pub enum Wanted {
     End,
     Digit,
     DigitOrSign,
-    /// In the byte's place the rest of `true`, `false` or `null` was expected; so `nan` is wrong at its second letter,
-    /// and `NaN` at its first.
+    /// In the byte's place the rest of `true`, `false` or `null` was expected; so it is at the second letter of `nan`.
     Word,
     HexDigit,
     Escape,

@@ -61,8 +61,8 @@ pub fn equal_locations_are_same()
     ensures { (l m : Location) → location_cmp l m ≡ Equal → l ≡ m }
 {}
 
-/// Lemma: if each node of a list is at the location with the same index in a list of locations of equal length, then
-/// the nodes' own locations are that list.
+/// Lemma: if a contract says that the nodes of a list are at the locations of another list, one by one, then the
+/// locations that the nodes themselves have are that list.
 ///
 /// ```text
 /// laws::spots_show_their_locations();
@@ -182,7 +182,7 @@ pub fn candidates_of_disjoint_in_descents()
 /// Lemma: locations are disjoint if no two are equal and none is below another. Distinct locations of equal depth are
 /// disjoint. No location is at or below two disjoint ones. Disjoint locations are apart: no two are equal, and no index
 /// steps lead from one to another. From disjoint locations, a step that selects no child of a value twice leads to
-/// disjoint ones; `*` does if each object to which it is applied has its names in ascending order. A filter's
+/// disjoint ones, and so does `*` if each object to which it is applied has its names in ascending order. A filter's
 /// candidates from disjoint locations are disjoint, and so are those of them that meet its condition.
 ///
 /// ```text
@@ -197,9 +197,9 @@ pub fn steps_keep_locations_disjoint()
     ensures candidates { CandidatesStayDisjoint }
 {}
 
-/// Lemma: locations are apart if no two are equal and no index steps lead from one to another. From locations that are
-/// apart, flattening nested arrays finds no candidate of a filter twice. A single location counts as apart. The
-/// candidates that are found from any locations, each listed once, are apart.
+/// Lemma: locations are apart if no two are equal and no index steps lead from one to another; a single location is. A
+/// filter's candidates are found by flattening nested arrays: from locations that are apart, none is found twice, and
+/// the candidates that are found from any locations are apart if each is listed once.
 ///
 /// ```text
 /// laws::apart_locations_meet_candidates_once();
@@ -230,8 +230,8 @@ pub fn steps_keep_locations_apart()
 {}
 
 /// Lemma: all locations at or below one location of a document are distinct. From distinct locations, a step that
-/// selects no child of a value twice leads to distinct ones; `*` does if each object to which it is applied has its
-/// names in ascending order. If locations are distinct, those of them that meet a filter's condition are, too.
+/// selects no child of a value twice leads to distinct ones, and so does `*` if each object to which it is applied has
+/// its names in ascending order. If locations are distinct, those that meet a filter's condition are, too.
 ///
 /// ```text
 /// laws::steps_lead_without_repeats();

@@ -155,8 +155,9 @@ pub fn stride_from_each<'a, M: Mark<'a>>(
     }
 }
 
-/// The non-array values left after flattening the nested arrays of each node, node by node; a value at which two nodes
-/// arrive occurs twice. Without such values, they are the candidates of a filter whose `@` is followed by a segment.
+/// The non-array values left after flattening the nested arrays of each node, node by node; a value that is found from
+/// two nodes is listed twice. If there is none such, the list has the candidates of a filter whose `@` is followed by
+/// a segment.
 ///
 /// ```text
 /// let found = steps_on_marks::flattened_from_each(alloc, &[&document])?;
@@ -173,8 +174,8 @@ pub fn flattened_from_each<'a, M: Mark<'a>>(alloc: Global, marks: &[M]) -> Resul
     Ok(found)
 }
 
-/// The candidates, from one node, of a filter that uses a relative query with at least one segment: the non-array
-/// values left after flattening nested arrays, each once.
+/// The candidates, from one node, of a filter that uses a relative query with at least one segment: the node itself if
+/// it is no array, else the non-array values left after flattening nested arrays.
 ///
 /// ```text
 /// let found = steps_on_marks::flattened_from_mark(alloc, &&document)?;
@@ -190,8 +191,8 @@ pub fn flattened_from_mark<'a, M: Mark<'a>>(alloc: Global, mark: &M) -> Result<V
 }
 
 /// The candidates, from one node, of a filter that comes after `..` and uses a relative query with at least one
-/// segment: the non-array values left after flattening nested arrays among the descendants. Each is returned once, at
-/// its first occurrence.
+/// segment: the node's descendants that are not arrays, each once, in the order in which flattening the children of
+/// the node and of each descendant in turn first finds them.
 ///
 /// ```text
 /// let found = steps_on_marks::candidates_below_mark(alloc, &&document)?;

@@ -6,7 +6,7 @@ use std::alloc::{AllocError, Global};
 use std::fmt;
 
 /// A test of the program `jsonpath_run`: the words and the input of a run, and the exit status, the output and the
-/// error text that it must have. If `error` is `None`, the error has to be one of `serde_json`, whatever its words.
+/// error text that it must have (empty for a run that succeeds). `None` wants any error text of `serde_json`.
 #[derive(Drop, Deserialize)]
 pub struct Row {
     pub words: Vec<String>,

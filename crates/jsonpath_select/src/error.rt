@@ -90,9 +90,9 @@ impl JsonPathError {
         }
     }
 
-    /// Shows a syntax error in this path text. Returns the text, a line end and a row of `^` that ends below the last
-    /// byte of the wrong token, or below the last byte of the text if the text ends too early. For an error of `Parser`
-    /// this is its message. `None` if this error is no syntax error.
+    /// Shows a syntax error in this path text. Returns the text, a line end, and a `^` for each byte of the text up to
+    /// the end of the wrong token, or for all its bytes if it ends too early. The message of an error of `Parser` is
+    /// this already, and is returned. `None` if this error is no syntax error.
     ///
     /// ```text
     /// let refused = compile_path(alloc, "$.a[b]")

@@ -155,10 +155,9 @@ pub fn extremes_and_sets_decide_pairs()
     ensures { EndsDecidePairs }
 {}
 
-/// Lemma: duplicates may be dropped after each step of a path, also inside conditions, and each `..` may start from
-/// other nodes with the same set of nodes at or below them, such as those with no ancestor in the list: the path still
-/// selects the same set, and each condition holds at the same candidates. So a condition depends on the location and
-/// the document alone, and can be decided once for each location.
+/// Lemma: a path selects the same set of nodes, and each condition holds at the same candidates, if duplicates are
+/// dropped after each step, also inside conditions, and if nodes that have an ancestor in the list are dropped before
+/// each `..`. So a condition depends on the location and the document alone, and can be decided once for each location.
 ///
 /// ```text
 /// laws::dropping_repeats_keeps_the_set();

@@ -13,8 +13,8 @@ use jsonpath_lib::{
 use serde_json::Value;
 use std::alloc::Global;
 
-/// Masks two equal values by two paths: `one` by `first` and `second`, `other` by `second` and `first`. Returns the two
-/// results, which are equal, or `None` if a text is no path or memory runs out.
+/// Puts null at what two paths select, in two equal values: in `one` by `first` and `second`, in `other` by `second`
+/// and `first`. Returns the two results, which are equal, or `None` if a text is no path or memory runs out.
 pub fn mask_in_either_order(
     alloc: Global,
     one: Value,

@@ -75,7 +75,7 @@ pub fn select_in_two_documents<'a>(
 }
 
 /// The document with null in place of what the path selects below the root, made by calls on a `JsonSelectorMut` that
-/// are not chained. `None` would mean that the selector has no document.
+/// are not chained. `None` only if the selector had no document, which can't happen here.
 pub fn delete_in_statements(
     alloc: Global,
     json: Value,

@@ -34,9 +34,9 @@ pub struct ExactOutcome {
     pub has_fraction: bool,
 }
 
-/// Whether a path may be evaluated on the exact tree of a document, without an image (a copy with `serde_json`'s
+/// Whether a path can be evaluated on the exact tree of most documents, without an image (a copy with `serde_json`'s
 /// numbers): it begins at the root, and has only single names, `[*]`, and filters whose conditions use only literals
-/// and members of the candidate, such as `@.a`. For some documents even such a path needs an image.
+/// and members of the candidate, such as `@.a`. Some documents need an image all the same; other paths always do.
 pub fn may_answer_by_exact_tree(query: &Query<'_>) -> bool {
     let path = query.path().tree();
     for step in &path.steps {

@@ -26,8 +26,8 @@ use jsonpath_paths::laws::one_tree_per_text;
 use std::alloc::{AllocError, Global};
 use std::mem;
 
-/// Appends a line to `out` for each value that one path selects in a document, in the path's order, and returns the
-/// number of lines. After an error `out` may end with a part of these lines.
+/// Appends a line to `out` for each value that one path selects in a document, in the order in which the path's steps
+/// find them, and returns the number of lines. After an error `out` may end with a part of these lines.
 pub fn add_lines_for_path(
     alloc: Global,
     document: &Document<'_>,

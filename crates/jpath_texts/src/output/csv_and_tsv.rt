@@ -12,13 +12,13 @@ use std::mem;
 pub enum Separated {
     /// CSV: fields are separated by commas; a field with a comma, a quote or a line end is quoted.
     ByCommas,
-    /// TSV: fields are separated by tabs; a tab, a line end, a carriage return or a backslash in a field is escaped by
-    /// a backslash.
+    /// TSV: fields are separated by tabs; in a field, a tab, a line end, a carriage return and a backslash are written
+    /// `\t`, `\n`, `\r` and `\\`.
     ByTabs,
 }
 
-/// Appends the header of a table to `out`: a row of CSV or TSV with these column names. After an error the contents of
-/// `out` are of no use: a part of the row may follow them, and all may be gone.
+/// Appends the header of a table to `out`: a row of CSV or TSV with these column names. After an error what `out` has
+/// is unspecified: what it had before, with or without a part of the row, or nothing.
 pub fn add_header(
     alloc: Global,
     names: &[&str],
@@ -34,8 +34,8 @@ pub fn add_header(
     add_row(alloc, fields.as_slice(), separated, out)
 }
 
-/// Appends a row of CSV or TSV with these fields to `out`. The only error is out of memory; the contents of `out` are
-/// then of no use: a part of the row may follow them, and all may be gone.
+/// Appends a row of CSV or TSV with these fields to `out`. The only error is out of memory; what `out` has is then
+/// unspecified: what it had before, with or without a part of the row, or nothing.
 pub fn add_row(
     alloc: Global,
     fields: &[Vec<u8>],

@@ -21,7 +21,7 @@ pub enum Shown {
 /// How a line for a selected value is printed: after which file name, whether value, location or both, in which layout.
 #[derive(Clone, Copy, Debug, Drop)]
 pub struct Line<'n> {
-    /// How the selected value is laid out: raw, over lines, in colours.
+    /// How the selected value is written: whether texts are raw, whether it is indented over lines, and in colours.
     pub look: Look,
     /// Whether the line shows the selected value, its location, or both.
     pub shown: Shown,

@@ -40,8 +40,8 @@ pub fn add_compact_value(
     written
 }
 
-/// Appends the text of a value to `out`, raw, over lines or in colours as `look` says, with each name of an object
-/// once: where it occurs first, with its last value. After an error `out` may end with a part of the text.
+/// Appends the text of a value to `out`: raw, indented over lines, in colours, as `look` says. Each name of an object
+/// is written once: where it occurs first, with its last value. After an error `out` may end with a part of the text.
 pub fn add_value_in_look(
     alloc: Global,
     out: &mut Vec<u8>,

@@ -39,7 +39,8 @@ pub trait Visitor {
         ensures stay { StayGiven (gives self.old) (gives self.new) };
 
     /// Writes the output for the next piece of a stream (a document, wrong bytes in place of one, or blanks), and
-    /// returns how many matches it has and whether to stop. After an error nothing is written for the piece.
+    /// returns how many matches it has and whether to stop. If it returns an error, it has written nothing of the
+    /// piece.
     fn visit_piece(&mut self, piece: &Piece<'_>) -> Result<Taken, Self::Stop>
         ensures gives { IfOk result (λ taken. (text : List ℕ) × (written self.new ≡ written self.old ++ text)
             × gives self.new piece.now.kind piece.now.bytes.now taken text) }

@@ -32,7 +32,7 @@ use std::alloc::Global;
 pub struct ValueWalker;
 
 impl ValueWalker {
-    /// `*`: the children of each of the nodes that is an array or object, in document order.
+    /// `*`: the children of each node that is an array or object, node after node: items by index, members by name.
     ///
     /// ```text
     /// let document = Value::from_str(alloc, r#"[{"a": 1, "b": 2}, [3, 4, 5]]"#)?;

@@ -55,7 +55,7 @@ impl<'a> TokenReader<'a> {
     }
 
     /// Returns the next token without taking it; `next_token` then returns the same. If no token begins at the reader's
-    /// position, returns the error of `next_token`; the position that `to_error` reports is then the reader's.
+    /// position, returns the error of `next_token`; after such an error `to_error` reports the reader's position.
     ///
     /// ```text
     /// let mut reader = TokenReader::new("==1");

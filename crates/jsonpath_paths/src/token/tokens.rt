@@ -24,7 +24,7 @@ use std::fmt;
 /// ```
 #[derive(Clone, Copy, Debug, PartialEq, Eq)]
 pub enum TokenError {
-    /// The path text ends too early, or the error is at its very end.
+    /// The path text ends too early, or its last token or character is the wrong one.
     Eof,
     /// A byte position in the text: from `Tokenizer`, where the wrong character begins; from `PathParser`, where the
     /// wrong token or character ends; from `TokenReader::to_error`, how far the text was read or peeked.

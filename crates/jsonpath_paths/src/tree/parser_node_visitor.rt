@@ -13,7 +13,7 @@ use crate::tree::parser_node::{Condition, Inner, ParserNode, ParserStep, Term};
 use crate::tree::parser_token_handler::ParserTokenHandler;
 use crate::tree::token_list::root_token;
 
-/// A syntax tree that can pass its token list to a receiver.
+/// A walk over a syntax tree that passes the tree's token list, token by token, to a receiver.
 ///
 /// ```text
 /// struct Walker;

@@ -41,8 +41,8 @@ pub fn select_path<'a>(
     spots_by_parts(alloc, json, path.parts())
 }
 
-/// The nodes that the path with this token list selects in the value, in the path's order, with duplicates. They borrow
-/// only the value. The only error is `OutOfMemory`.
+/// The nodes that the path with this token list selects in the value, in the order in which its steps find them, with
+/// duplicates. They borrow only the value. The only error is `OutOfMemory`.
 ///
 /// Precondition, which holds if `tokens_fit` returned true: the tokens are the token list of some path, however deeply
 /// nested, and the text has an unquoted or a quoted name at the span of each name in them. The text itself need not be

@@ -21,8 +21,8 @@ use std::fmt;
 /// ```
 #[derive(Drop)]
 pub enum ParseFault {
-    /// The text that was to be compiled is no path. The message is the text, a line end and a row of `^` that ends
-    /// below the last byte of the wrong token, or below the last byte of the text if the text ends too early.
+    /// The text that was to be compiled is no path. The message is the text, a line end, and a `^` for each byte of
+    /// the text up to the end of the wrong token, or for all its bytes if it ends too early.
     Text(String),
     /// Memory ran out. It prints `out of memory`.
     OutOfMemory,
