@@ -75,7 +75,6 @@ fn add_flattened_items<M: Descends>(
 
 // Adds what is no array and is reached through arrays alone from each member of the object where the descent is: the
 // member itself, where it is no array. It answers whether a member is an array or an object.
-#[inline(never)]
 pub(crate) fn add_flattened_members<M: Descends>(
     members: <M::Tree as Tree>::Object,
     way: &mut M::Way,

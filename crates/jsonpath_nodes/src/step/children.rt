@@ -80,21 +80,6 @@ pub(crate) fn add_selected_items<M: Descends>(
     }
 }
 
-// Whether a step may select something among the items of an array. It says no only where the step selects nothing.
-#[inline]
-pub(crate) fn may_select_item<T: Tree>(items: T::Array, plain: &PlainStep<'_>) -> bool
-    ensures { result ≡ false → single_steps (plain_step_of plain.now) (array (T.items items)) ≡ [] }
-{
-    match plain {
-        PlainStep::Named(_) => false,
-        PlainStep::Listed(_) => false,
-        PlainStep::Every => true,
-        PlainStep::Nth(_) => true,
-        PlainStep::Union(_) => true,
-        PlainStep::Range(_, _, _) => true,
-    }
-}
-
 // Adds to a list all items of an array, in their order.
 #[inline(always)]
 fn add_every_item<M: Descends>(

@@ -13,7 +13,7 @@ ghost use Rattle.jsonpath_nodes.specs.step.Steps.{deep, named, single_steps};
 use crate::memory::NoMemory;
 use crate::step::candidates::add_flattened_members;
 use crate::step::child_lookup::is_container;
-use crate::step::children::{add_selected_items, add_selected_members, may_select_item};
+use crate::step::children::{add_selected_items, add_selected_members};
 use crate::step::descends::{Descends, DownStep};
 use crate::step::plain_step::PlainStep;
 use crate::tree::Tree;
@@ -63,11 +63,14 @@ impl<'p> Gathers for Selected<'p> {
         way: &mut M::Way,
         out: &mut Vec<M>,
     ) -> Result<(), NoMemory> {
-        if may_select_item::<M::Tree>(items, &self.step) {
-            let here = M::items_here(way)?;
-            add_selected_items(items, &here, &self.step, out)?;
+        match &self.step {
+            PlainStep::Named(_) => Ok(()),
+            PlainStep::Listed(_) => Ok(()),
+            step => {
+                let here = M::items_here(way)?;
+                add_selected_items(items, &here, step, out)
+            }
         }
-        Ok(())
     }
 
     #[inline(always)]

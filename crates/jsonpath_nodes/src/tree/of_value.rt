@@ -61,7 +61,7 @@ impl<'a> Tree for &'a Value {
         }
     }
 
-    #[inline(always)]
+    #[inline]
     fn member_named(object: &'a Map<String, Value>, name: &str) -> Option<(&'a String, &'a Value)> {
         match object.get_key_value(name) {
             Some((key, member)) => Some((key, member)),
