@@ -25,11 +25,11 @@ use std::alloc::Global;
 /// How the copy of a document on which paths are run represents the document's numbers.
 #[derive(Drop)]
 pub enum Numbers {
-    /// The copy has the numbers unchanged, as `serde_json` read them.
+    /// The copy of the document has its numbers unchanged, as `serde_json` read them.
     AsRead,
-    /// The copy has each number times ten to this power, which makes each an integer.
+    /// The copy of the document has each number times ten to this power, which makes each an integer.
     Scaled(u32),
-    /// The copy has, in place of each number, the index of its key in this list of keys, which ascend.
+    /// The copy of the document has, in place of each number, the index of its key in this list of keys, which ascend.
     Ranked(Vec<NumberKey>),
     /// All numbers of the document are one and the same number in the copy, since no filter compares numbers.
     Alike,

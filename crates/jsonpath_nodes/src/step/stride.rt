@@ -36,7 +36,7 @@ pub enum Selection<'t> {
     Range(Option<i64>, Option<i64>, Option<u64>),
 }
 
-/// A step of a path that has no condition, with or without `..` before it. It can own the names that it selects.
+/// A path's step that has no condition, with or without `..` before the step. It can own the names that it selects.
 ///
 /// ```text
 /// let every = Stride {
