@@ -87,7 +87,8 @@ impl Numbers {
     }
 
     /// The token list of a path, with each number that a filter compares replaced as the numbers of the document's copy
-    /// are: `Scaled` multiplies it by the power of ten, `Ranked` replaces it by its rank, the other modes keep it.
+    /// are: `Scaled` multiplies it by the variant's power of ten, `Ranked` replaces it by its index among the variant's
+    /// keys, the other modes keep it.
     pub fn tokens_with_literals_placed(
         &self,
         alloc: Global,

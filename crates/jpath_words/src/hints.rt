@@ -48,8 +48,9 @@ const REPLACEMENTS: [(&str, &str, &str); 11] = [
     ("$", "$.", "a dot stands between $ and a name"),
 ];
 
-/// A sentence on what to write instead of a path text that has a syntax error at byte `at`, or an empty text if no hint
-/// is known. A path that it proposes is a text of the grammar. The only error is that memory runs out.
+/// A sentence on what to write instead of a path text with a syntax error whose position is `at` (the number of bytes
+/// up to the end of the wrong token), or an empty text if no hint is known. A path that it proposes is a text of the
+/// grammar. The only error is that memory runs out.
 pub fn hint_for_refused_path(alloc: Global, path: &str, at: usize) -> Result<String, AllocError>
     ensures { IfOk result (λ hint. slice_index path.now 0 ≢ 36 → BeginsWithRoot (string_bytes hint)) }
 {

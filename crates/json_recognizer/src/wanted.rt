@@ -26,7 +26,7 @@ pub enum Wanted {
     End,
     Digit,
     DigitOrSign,
-    /// In the byte's place the rest of `true`, `false` or `null` was expected; so it is at the second letter of `nan`.
+    /// In the byte's place the rest of `true`, `false` or `null` was expected, as at the second letter of `nan`.
     Word,
     HexDigit,
     Escape,

@@ -61,8 +61,8 @@ pub fn equal_locations_are_same()
     ensures { (l m : Location) → location_cmp l m ≡ Equal → l ≡ m }
 {}
 
-/// Lemma: if a contract says that the nodes of a list are at the locations of another list, one by one, then the
-/// locations that the nodes themselves have are that list.
+/// Lemma: a contract may say that the nodes of a list are at the locations of another list, one by one; then the
+/// locations that the nodes have in their own fields are that list.
 ///
 /// ```text
 /// laws::spots_show_their_locations();
@@ -180,10 +180,10 @@ pub fn candidates_of_disjoint_in_descents()
 {}
 
 /// Lemma: locations are disjoint if no two are equal and none is below another. Distinct locations of equal depth are
-/// disjoint. No location is at or below two disjoint ones. Disjoint locations are apart: no two are equal, and no index
-/// steps lead from one to another. From disjoint locations, a step that selects no child of a value twice leads to
-/// disjoint ones, and so does `*` if each object to which it is applied has its names in ascending order. A filter's
-/// candidates from disjoint locations are disjoint, and so are those of them that meet its condition.
+/// disjoint. No location is at or below two disjoint ones. Disjoint locations are apart: no two are equal, and none can
+/// be reached from another by indexes alone. From disjoint locations, a step that selects no child of a value twice
+/// leads to disjoint ones, and so does `*` if each object to which it is applied has its names in ascending order. A
+/// filter's candidates from disjoint locations are disjoint, and so are those of them that meet its condition.
 ///
 /// ```text
 /// laws::steps_keep_locations_disjoint();
@@ -197,9 +197,9 @@ pub fn steps_keep_locations_disjoint()
     ensures candidates { CandidatesStayDisjoint }
 {}
 
-/// Lemma: locations are apart if no two are equal and no index steps lead from one to another; a single location is. A
-/// filter's candidates are found by flattening nested arrays: from locations that are apart, none is found twice, and
-/// the candidates that are found from any locations are apart if each is listed once.
+/// Lemma: let locations be called apart if no two are equal and none can be reached from another by indexes alone; a
+/// single location is. A filter's candidates are found by flattening nested arrays: from locations that are apart, none
+/// is found twice, and the candidates that are found from any locations are apart if each is listed once.
 ///
 /// ```text
 /// laws::apart_locations_meet_candidates_once();
@@ -211,10 +211,10 @@ pub fn apart_locations_meet_candidates_once()
     ensures no_repeat { ApartHasNoRepeat }
 {}
 
-/// Lemma: locations are apart if no two are equal and no index steps lead from one to another. These steps lead to
-/// locations that are apart: from any distinct locations, a name or a list of different names; from a single location,
-/// `..` before a name; from locations that are apart, an index, a slice, or a list of different indexes none of which
-/// is negative. If locations are apart, those of them that meet a filter's condition are, too.
+/// Lemma: locations are apart if no two are equal and none can be reached from another by indexes alone. These steps
+/// lead to locations that are apart: from any distinct locations, a name or a list of different names; from a single
+/// location, `..` before a name; from locations that are apart, an index, a slice, or a list of different indexes none
+/// of which is negative. If locations are apart, those of them that meet a filter's condition are, too.
 ///
 /// ```text
 /// laws::steps_keep_locations_apart();

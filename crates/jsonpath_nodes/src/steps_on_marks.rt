@@ -156,8 +156,8 @@ pub fn stride_from_each<'a, M: Mark<'a>>(
 }
 
 /// The non-array values left after flattening the nested arrays of each node, node by node; a value that is found from
-/// two nodes is listed twice. If there is none such, the list has the candidates of a filter whose `@` is followed by
-/// a segment.
+/// two nodes is listed twice. If no value is, the list has the candidates of a filter whose `@` is followed by a
+/// segment.
 ///
 /// ```text
 /// let found = steps_on_marks::flattened_from_each(alloc, &[&document])?;
@@ -191,8 +191,7 @@ pub fn flattened_from_mark<'a, M: Mark<'a>>(alloc: Global, mark: &M) -> Result<V
 }
 
 /// The candidates, from one node, of a filter that comes after `..` and uses a relative query with at least one
-/// segment: the node's descendants that are not arrays, each once, in the order in which flattening the children of
-/// the node and of each descendant in turn first finds them.
+/// segment: the node's descendants that are not arrays, each once.
 ///
 /// ```text
 /// let found = steps_on_marks::candidates_below_mark(alloc, &&document)?;

@@ -236,7 +236,7 @@ impl<'b, 'a> Steps<'b, 'a> {
         }
     }
 
-    /// The number of steps from the root to the node, at most `usize::MAX`.
+    /// The number of steps from the root to the node, or `usize::MAX` if there are more.
     ///
     /// ```text
     /// assert_eq!(rt; root.steps().len(), 0);

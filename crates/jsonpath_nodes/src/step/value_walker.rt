@@ -62,7 +62,7 @@ impl ValueWalker {
         plain_step_from_each(alloc, spots, &PlainStep::Named(name))
     }
 
-    /// A list of names: from each node that is an object, its members of these names, in the list's order. It selects
+    /// Selects, from each node that is an object, its members with these names, in the order of the names. It selects
     /// only children, no deeper descendants. Named as in the Rust crate `jsonpath_lib`.
     ///
     /// ```text
@@ -79,7 +79,7 @@ impl ValueWalker {
         plain_step_from_each(alloc, spots, &PlainStep::Listed(names))
     }
 
-    /// An index: from each node that is an array, the item at this index, if there is one. A negative index counts from
+    /// Selects, from each node that is an array, the item at this index, if there is one. A negative index counts from
     /// the end; one before the first item selects the first item.
     ///
     /// ```text
@@ -211,8 +211,7 @@ impl ValueWalker {
     }
 
     /// The candidates of a filter that comes after `..` and uses a relative query with at least one segment: the
-    /// non-array values left after flattening nested arrays, from each node's descendants. Each is returned once, where
-    /// it first occurs.
+    /// descendants of the nodes that are not arrays, each once in the whole list.
     ///
     /// ```text
     /// let candidates = ValueWalker::candidates_below(alloc, &root)?;

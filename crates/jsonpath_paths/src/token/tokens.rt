@@ -13,7 +13,7 @@ use std::error::Error;
 use std::fmt;
 
 /// The error of reading a path text: a syntax error with its position, the end of the text, or out of memory. `Display`
-/// prints `Eof`, `Position:` with the byte position, or `out of memory`.
+/// prints `Eof`, `out of memory`, or `Position:` with the byte position that the variant has.
 ///
 /// ```text
 /// let error = PathParser::compile(alloc, "$[a]")

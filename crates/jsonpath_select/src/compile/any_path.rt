@@ -265,9 +265,9 @@ pub trait AnyPath {
     }
 
     /// Calls the closure once for each selected location, in document order, with the value that the earlier updates
-    /// left there: `Some` replaces the value, `None` removes it. The locations are found beforehand and stay fixed: a
-    /// removed item's is then the next item's, and one that no longer exists is skipped, and so is the root. The only
-    /// error is `OutOfMemory`; then the document is unchanged and the closure was not called.
+    /// left there: `Some` replaces the value, `None` removes it. The locations are found beforehand and stay fixed:
+    /// where an item was removed, the next item has its location; a location that no longer exists is skipped, and so
+    /// is the root. The only error is `OutOfMemory`; then the document is unchanged and the closure was not called.
     ///
     /// ```text
     /// let mut document = read_document(alloc, b"[1, 2, 3]")?;
@@ -295,9 +295,9 @@ pub trait AnyPath {
 
     /// Calls the closure once for each selected location, in document order, with a reference to the value that the
     /// earlier updates left there: `Some` replaces the value, `None` removes it. The locations are found beforehand and
-    /// stay fixed: a removed item's is then the next item's, and one that no longer exists is skipped, and so is the
-    /// root. The closure's first error ends the updates, as `Refused`; the updates before it remain. The only other
-    /// error is `Unasked` with `OutOfMemory`, before the closure is called.
+    /// stay fixed: where an item was removed, the next item has its location; a location that no longer exists is
+    /// skipped, and so is the root. The closure's first error ends the updates, as `Refused`; the updates before it
+    /// remain. The only other error is `Unasked` with `OutOfMemory`, before the closure is called.
     ///
     /// ```text
     /// let mut document = read_document(alloc, b"[1, \"x\", 3]")?;
