@@ -244,7 +244,8 @@ pub fn steps_lead_without_repeats()
     ensures kept { KeptHasNoRepeat }
 {}
 
-/// Lemma: in a `Value`, the names of each object, at any depth, ascend strictly. The call goes through the whole value.
+/// Lemma: in a `Value`, the names of each object, at any depth, ascend strictly. Unlike other lemmas, its call takes
+/// time: it goes through the whole value.
 ///
 /// ```text
 /// laws::value_is_document(json);

@@ -11,8 +11,8 @@ use jsonpath_paths::{Decimal, FilterToken};
 use serde_json::Value;
 use std::cmp::Ordering;
 
-/// One of the six comparisons, such as `<`, with a method for each kind of value. It is for users of the Rust crate
-/// `jsonpath_lib`; conditions of paths are decided by `holds_atoms` instead.
+/// One of the six comparisons, such as `<`, with a method for each kind of value. It is kept for code that was written
+/// for the Rust crate `jsonpath_lib`; conditions of paths are decided by `holds_atoms` instead.
 ///
 /// ```text
 /// assert!(rt; CmpLt.cmp_bool(false, true));
