@@ -89,8 +89,7 @@ fn add_every_item<M: Descends>(
 ) -> Result<(), NoMemory>
     ensures { OnOk result (MarksGain M.located M.stand M.content (single_steps every) (M.items_stand here.now) (array (M.Tree.items items)) out.old.items out.new.items) }
 {
-    // Also says that the indexes fit.
-    let _len = <M::Tree as Tree>::len(items);
+    out.reserve(<M::Tree as Tree>::len(items))?;
     let mut left = <M::Tree as Tree>::each_item(items);
     let mut i = 0;
     while let Some(item) = <M::Tree as Tree>::next_item(&mut left) {
