@@ -70,7 +70,7 @@ pub enum Condition {
     Lone(ParserNode),
     /// A comparison: the left side, the operator and the right side.
     Compare(Term, FilterToken, Term),
-    /// Two conditions joined by a connective. Without parentheses, connectives group to the right.
+    /// Two conditions joined by `&&` or `||`, which have the same precedence: `a && b || c` is `a && (b || c)`.
     Join(FilterToken, Box<Condition>, Box<Condition>),
 }
 
