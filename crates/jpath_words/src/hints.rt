@@ -30,7 +30,7 @@ const NOT_CLOSED: &str = "the quoted text isn't closed";
 const PARENTHESES: &str = "a filter's condition stands in parentheses: [?(@.price < 10)]";
 
 // What is written instead of a wrong text, and why.
-const REPLACEMENTS: [(&str, &str, &str); 11] = [
+const REPLACEMENTS: [(&str, &str, &str); 12] = [
     ("=>", ">=", "greater or equal is >="),
     ("=<", "<=", "less or equal is <="),
     ("=", "==", "a comparison has two equals signs"),
@@ -44,13 +44,14 @@ const REPLACEMENTS: [(&str, &str, &str); 11] = [
         "-1",
         "an index below zero counts from the end",
     ),
+    ("(", "?(", "a filter has ? before its parentheses"),
     (" ", "", "no blank may stand here"),
     ("$", "$.", "a dot stands between $ and a name"),
 ];
 
-/// A sentence on what to write instead of a path text with a syntax error whose position is `at` (the number of bytes
-/// up to the end of the wrong token), or an empty text if no hint is known. A path that it proposes is a text of the
-/// grammar. The only error is that memory runs out.
+/// A sentence on what to write instead of a path text with a syntax error, or an empty text if no hint is known; `at`
+/// is the number of bytes before the wrong token. A path that it proposes is a text of the grammar. The only error is
+/// that memory runs out.
 pub fn hint_for_refused_path(alloc: Global, path: &str, at: usize) -> Result<String, AllocError>
     ensures { IfOk result (λ hint. slice_index path.now 0 ≢ 36 → BeginsWithRoot (string_bytes hint)) }
 {
