@@ -21,7 +21,7 @@ use jsonpath_nodes::laws::spots_show_their_locations;
 use jsonpath_nodes::{Location, compute_paths};
 use std::alloc::Global;
 
-/// The result of an edit of a document: the edited text, and what the path of the edit selects.
+/// The result of an edit of a document: the edited text, and how many locations its path selects.
 #[derive(Drop)]
 pub struct Edited {
     /// The text of the edited document.

@@ -39,7 +39,7 @@ pub enum Call<'a> {
 pub enum Place {
     /// Whatever file is now at the path of the edited file.
     Path,
-    /// Whatever file is at the path chosen for the new file, the one that is to replace the edited file.
+    /// Whatever file is at the path chosen for the new file. (The new file is to replace the edited file.)
     Beside,
     /// The new file that this edit has created and opened.
     NewFile,

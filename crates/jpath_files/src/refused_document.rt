@@ -68,9 +68,9 @@ impl Display for RefusedDocument<'_> {
 }
 
 impl<'n> RefusedDocument<'n> {
-    /// Makes the error of a document, or of wrong bytes in place of one; `bytes` has these, and begins at `place` in
-    /// the file. The error's position is, for `NotADocument`, the first wrong byte, or the end of `bytes` if they cut a
-    /// document short; in any other case, the first byte that is no blank.
+    /// Makes the error of a document, or of wrong bytes in place of one; `bytes` is the document or the wrong bytes,
+    /// and begins at `place` in the file. The error's position is, for `NotADocument`, the first wrong byte, or the end
+    /// of `bytes` if they end within a document; in any other case, the first byte that is no blank.
     pub fn of_piece(
         name: &'n str,
         bytes: &[u8],

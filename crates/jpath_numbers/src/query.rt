@@ -68,8 +68,8 @@ impl<'a> Query<'a> {
 }
 
 impl Compared {
-    /// What the filters of these paths compare: whether they compare numbers, and which literal ones. The only error is
-    /// `OutOfMemory`.
+    /// What the filters of these paths compare: whether they compare numbers, and with which number literals. The only
+    /// error is `OutOfMemory`.
     pub fn of_queries(alloc: Global, queries: &[Query<'_>]) -> Result<Compared, TokenError>
         ensures any { IfOk result (λ compared. All (λ q. q.compares ≡ true → compared.is_any ≡ true) queries.now) }
         ensures added { IfOk result (λ compared. All (λ q. HasSides compared.literals.items q.tokens.items (length q.tokens.items)) queries.now) }

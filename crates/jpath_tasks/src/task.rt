@@ -58,7 +58,8 @@ pub struct Edit<'a> {
 #[derive(Drop)]
 pub struct Wanted<'a> {
     pub task: Task<'a>,
-    /// What the filters of all paths on the command line compare: whether they compare numbers, and which literal ones.
+    /// What the filters of all paths on the command line compare: whether they compare numbers, and with which number
+    /// literals.
     pub compared: Compared,
     pub look: Look,
     pub files: Vec<&'a str>,

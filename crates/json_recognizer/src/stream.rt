@@ -14,11 +14,12 @@ use crate::state::{self, State, start};
 /// The result of searching the next bytes of a stream for the end of the document that is being read.
 #[derive(Clone, Copy, Debug, Drop)]
 pub enum Found {
-    /// The document does not end in the bytes of this call; it may continue after them.
+    /// The document does not end in the bytes that were passed to the call; it may continue after them.
     GoesOn,
     /// The document ends after this number of the bytes that were passed to the call.
     Ends(usize),
-    /// The byte at this index, from 0, in the bytes of this call is wrong: no document can continue with it.
+    /// The byte at this index, from 0, in the bytes that were passed to the call is wrong: no document can continue
+    /// with it.
     Refused(usize),
 }
 

@@ -44,7 +44,7 @@ pub enum Wanted {
     NotANumber,
 }
 
-/// Prints the reason as a sentence of an error message.
+/// Prints why the byte is wrong as a sentence of an error message.
 impl Display for Wanted {
     ghost output = { λ wanted. Some (wanted_words wanted) };
 

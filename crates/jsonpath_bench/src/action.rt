@@ -13,7 +13,7 @@ pub enum Action {
     Ask(Asked),
     /// Puts null at what the compiled path selects, in a copy of the document.
     Delete,
-    /// Removes what the compiled path selects from a copy of the document.
+    /// Removes, from a copy of the document, what the compiled path selects.
     Remove,
     /// Compiles the path text.
     Compile,

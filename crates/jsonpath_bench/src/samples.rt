@@ -14,8 +14,8 @@ const PATHS: [&str; 5] = [
     "$..book[?(@.price < 1000)].title",
 ];
 
-/// Prints, for five fixed paths and documents of 3 and of 30 books, how many results each call of the library has and
-/// how long the returned texts are. No times are printed, so each run prints the same.
+/// Prints, for five fixed paths and documents of 3 and of 30 books, how many values each call of the library returns
+/// and how long the returned texts are. No times are printed, so each run prints the same.
 pub fn print_all(rt: &HostRuntime) -> Result<()> {
     for count in [3, 30] {
         let document = books_document(rt.alloc(), count)?;

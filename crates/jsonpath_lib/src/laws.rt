@@ -30,9 +30,9 @@ pub use jsonpath_select::laws::{
 };
 use serde_json::Value;
 
-/// Lemma: let a path select a single location, or nothing if the document doesn't have it. Then deleting by the path
-/// does the same as putting null at this one location, and removing by the path the same as removing the value at it.
-/// At the root, both change nothing. `putting_at_one_location` says what an update of one location leaves.
+/// Lemma: let a path select a single location, or nothing if the document has no such location. Then deleting by the
+/// path does the same as putting null at this one location, and removing by the path the same as removing the value at
+/// it. At the root, both change nothing. `putting_at_one_location` says what an update of one location leaves.
 ///
 /// ```text
 /// laws::deletes_and_removes_selected_location();
@@ -49,9 +49,10 @@ pub fn deletes_and_removes_selected_location()
     putting_at_one_location();
 }
 
-/// Lemma: let a path select a single location, or nothing if the document doesn't have it, and let a closure always
-/// return the same result. Then replacing by the path and the closure does the same as updating this one location:
-/// `Some` replaces the value, `None` removes it. At the root nothing changes. The lemma's call does not call `closure`.
+/// Lemma: let a path select a single location, or nothing if the document has no such location, and let a closure
+/// always return the same result. Then replacing by the path and the closure does the same as updating this one
+/// location: `Some` replaces the value, `None` removes it. At the root nothing changes. The lemma's call does not call
+/// `closure`.
 ///
 /// ```text
 /// laws::replaces_selected_location(on);

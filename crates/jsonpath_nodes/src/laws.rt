@@ -32,7 +32,7 @@ pub fn all_locations_stand_below_root()
     ensures { BelowIsAll }
 {}
 
-/// Lemma: the locations at or below the root of a document are in document order, each once.
+/// Lemma: the list of all locations at or below the root of a document is in document order, each once.
 ///
 /// ```text
 /// laws::locations_below_root_ascend();
@@ -61,8 +61,8 @@ pub fn equal_locations_are_same()
     ensures { (l m : Location) → location_cmp l m ≡ Equal → l ≡ m }
 {}
 
-/// Lemma: a contract may say that the nodes of a list are at the locations of another list, one by one; then the
-/// locations that the nodes have in their own fields are that list.
+/// Lemma: if each node of a list is at the location with the same index in a second list, then the locations that are
+/// stored in the nodes are that second list.
 ///
 /// ```text
 /// laws::spots_show_their_locations();
@@ -182,8 +182,9 @@ pub fn candidates_of_disjoint_in_descents()
 /// Lemma: locations are disjoint if no two are equal and none is below another. Distinct locations of equal depth are
 /// disjoint. No location is at or below two disjoint ones. Disjoint locations are apart: no two are equal, and none can
 /// be reached from another by indexes alone. From disjoint locations, a step that selects no child of a value twice
-/// leads to disjoint ones, and so does `*` if each object to which it is applied has its names in ascending order. A
-/// filter's candidates from disjoint locations are disjoint, and so are those of them that meet its condition.
+/// leads to disjoint ones, and so does `*` if the names of each object to which it is applied ascend, so that none
+/// comes twice. A filter's candidates from disjoint locations are disjoint, and so are those of them that meet its
+/// condition.
 ///
 /// ```text
 /// laws::steps_keep_locations_disjoint();
@@ -230,8 +231,8 @@ pub fn steps_keep_locations_apart()
 {}
 
 /// Lemma: all locations at or below one location of a document are distinct. From distinct locations, a step that
-/// selects no child of a value twice leads to distinct ones, and so does `*` if each object to which it is applied has
-/// its names in ascending order. If locations are distinct, those that meet a filter's condition are, too.
+/// selects no child of a value twice leads to distinct ones, and so does `*` if the names of each object to which it is
+/// applied ascend, so that none comes twice. If locations are distinct, those that meet a filter's condition are, too.
 ///
 /// ```text
 /// laws::steps_lead_without_repeats();

@@ -86,7 +86,8 @@ pub fn named_member_from_each<'a, M: Mark<'a>>(
     Ok(found)
 }
 
-/// Appends to a list of nodes the member of the given name, if the node is an object that has one. The name is literal.
+/// Appends to a list of nodes the member of the given name, if the node is an object that has one. The name is taken
+/// literally, without quotes or escapes.
 ///
 /// ```text
 /// let mut found: Vec<&Value> = Vec::new(alloc);
@@ -156,7 +157,7 @@ pub fn stride_from_each<'a, M: Mark<'a>>(
 }
 
 /// The non-array values left after flattening the nested arrays of each node, node by node; a value that is found from
-/// two nodes is listed twice. If no value is, the list has the candidates of a filter whose `@` is followed by a
+/// two nodes is listed twice. If none is found twice, these are the candidates of a filter whose `@` is followed by a
 /// segment.
 ///
 /// ```text

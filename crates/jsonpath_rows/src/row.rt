@@ -6,8 +6,8 @@ use std::alloc::{AllocError, Global};
 use std::fmt;
 
 /// A test of the program `jsonpath_run`: the words and the input of a run, and the exit status, the output and the
-/// error text that it must have (empty for a run that succeeds). If `error` is `None`, any error text that begins as
-/// those of `serde_json` do will be right.
+/// error text that it must have (empty for a run that succeeds). If `error` is `None`, any error text whose first line
+/// is `serde error: ` will be right.
 #[derive(Drop, Deserialize)]
 pub struct Row {
     pub words: Vec<String>,

@@ -156,8 +156,9 @@ pub fn extremes_and_sets_decide_pairs()
 {}
 
 /// Lemma: a path selects the same set of nodes, and each condition holds at the same candidates, if duplicates are
-/// dropped after each step, also inside conditions, and if nodes that have an ancestor in the list are dropped before
-/// each `..`. So a condition depends on the location and the document alone, and can be decided once for each location.
+/// dropped after each step, also inside conditions, and if those of its starting nodes that have an ancestor among them
+/// are dropped before each `..`. Whether a condition holds depends on the location and the document alone, so it can be
+/// decided once for each location.
 ///
 /// ```text
 /// laws::dropping_repeats_keeps_the_set();

@@ -14,7 +14,7 @@ use serde_json::Value;
 use std::alloc::Global;
 use std::rc::Rc;
 
-/// The values that the path selects in the document, by the method `select`.
+/// The values that the path selects in the document, by a compiled path's method `select`.
 pub fn select<'v>(
     alloc: Global,
     json: &'v Value,

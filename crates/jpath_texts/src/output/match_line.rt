@@ -18,7 +18,8 @@ pub enum Shown {
     PlacesAndValues,
 }
 
-/// How a line for a selected value is printed: after which file name, whether value, location or both, in which layout.
+/// How a line for a selected value is printed: which file name comes before it, if any, whether value, location or
+/// both, in which layout.
 #[derive(Clone, Copy, Debug, Drop)]
 pub struct Line<'n> {
     /// How the selected value is written: whether texts are raw, whether it is indented over lines, and in colours.

@@ -9,7 +9,7 @@ use json_recognizer::{Kind, ReadFailure, StreamBuffer};
 use jsonpath_streams::Input;
 use std::alloc::Global;
 
-/// What a visitor of documents reports after each document: how many matches it has, and whether to stop.
+/// What a visitor of documents reports after each document: how many matches the document has, and whether to stop.
 #[derive(Clone, Copy, Debug, Drop)]
 pub struct Taken {
     /// How many matches the visited document has.
@@ -39,8 +39,8 @@ pub trait Visitor {
         ensures stay { StayGiven (gives self.old) (gives self.new) };
 
     /// Writes the output for the next piece of a stream (a document, wrong bytes in place of one, or blanks), and
-    /// returns how many matches it has and whether to stop. If it returns an error, it has written nothing of the
-    /// piece.
+    /// returns how many matches the document has and whether to stop. If it returns an error, it has written nothing of
+    /// the piece.
     fn visit_piece(&mut self, piece: &Piece<'_>) -> Result<Taken, Self::Stop>
         ensures gives { IfOk result (λ taken. (text : List ℕ) × (written self.new ≡ written self.old ++ text)
             × gives self.new piece.now.kind piece.now.bytes.now taken text) }

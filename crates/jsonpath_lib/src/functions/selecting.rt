@@ -12,8 +12,8 @@ use serde::DeserializeOwned;
 use serde_json::Value;
 use std::alloc::Global;
 
-/// The values that the path selects in the document, in the path's order, with duplicates. Errors: `Path` exactly if
-/// the text is no path, or `OutOfMemory`.
+/// The values that the path selects in the document, in the order in which the path's steps find them, with duplicates.
+/// Errors: `Path` exactly if the text is no path, or `OutOfMemory`.
 ///
 /// ```text
 /// let document = read_document(alloc, b"[[1, 2], [3]]")?;

@@ -81,7 +81,7 @@ impl fmt::Debug for DocumentFault {
 
 impl Error for DocumentFault {}
 
-/// Converts the error to its field `error`; the line and column are then only in its message.
+/// Keeps only the field `error`, whose message still has the line and column.
 impl From<DocumentFault> for JsonPathError {
     ghost from_gives = { λ fault error. error ≡ fault.error };
 

@@ -21,9 +21,9 @@ use std::alloc::Global;
 /// A selected node: either `&Value` (no location) or `Spot` (value with location). Evaluation code is generic over
 /// both.
 ///
-/// The same contracts hold for both types. In them, a list of `Mark`s is at a list of locations if the first `Mark` has
-/// the value at the first location and, if it is a `Spot`, this location, and so on one by one. The only error of each
-/// call is `NoMemory`.
+/// The same contracts hold for both types. In them, a list of `Mark`s is at a list of locations if both are equally
+/// long and each `Mark` has the value at its location in the list; a `Spot` has this location, too. The only error of
+/// each call is `NoMemory`.
 ///
 /// ```text
 /// let mut found = Vec::new(alloc);
@@ -75,8 +75,8 @@ pub trait Mark<'a>: Drop + Sized {
         ensures { OnOk result (MarksGain located stand content flat (stand self.now) (content self.now) out.old.items out.new.items) };
 
     /// Appends to `out` the candidates, from this node, of a filter that comes after `..` and uses a relative query
-    /// with at least one segment: the node's descendants that are not arrays, each once. The contract also says that in
-    /// each object at or below this node the names ascend, as in every `Value`.
+    /// with at least one segment: the node's descendants that are not arrays, each once. The contract also ensures that
+    /// in each object at or below this node the names ascend, as in every `Value`.
     fn add_candidates_below(&self, alloc: Global, out: &mut Vec<Self>) -> Result<(), NoMemory>
         ensures gains { OnOk result (MarksGain located stand content candidates_below (stand self.now) (content self.now) out.old.items out.new.items) }
         ensures document { OnOk result (IsDocument (content self.now)) };

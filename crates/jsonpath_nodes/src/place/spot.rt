@@ -178,7 +178,8 @@ impl<'a> Spot<'a> {
         }
     }
 
-    /// This node itself and all its descendants, each before its children. The only error is `NoMemory`.
+    /// This node itself and all its descendants, in document order, each before its descendants. The only error is
+    /// `NoMemory`.
     ///
     /// ```text
     /// let below = Spot::root(alloc, &document).below(alloc)?;

@@ -62,8 +62,8 @@ impl ValueWalker {
         plain_step_from_each(alloc, spots, &PlainStep::Named(name))
     }
 
-    /// Selects, from each node that is an object, its members with these names, in the order of the names. It selects
-    /// only children, no deeper descendants. Named as in the Rust crate `jsonpath_lib`.
+    /// Selects, from each node that is an object, its members with these names, in the order in which the names are
+    /// given. It selects only children, no deeper descendants. Named as in the Rust crate `jsonpath_lib`.
     ///
     /// ```text
     /// let found = ValueWalker::all_with_strs(alloc, items.as_slice(), &["b", "a"])?;
@@ -80,7 +80,7 @@ impl ValueWalker {
     }
 
     /// Selects, from each node that is an array, the item at this index, if there is one. A negative index counts from
-    /// the end; one before the first item selects the first item.
+    /// the end; a negative index that reaches beyond the first item selects the first item.
     ///
     /// ```text
     /// let last = ValueWalker::next_with_num(alloc, items.as_slice(), -1)?;
@@ -210,8 +210,8 @@ impl ValueWalker {
         candidates::first_of_each_location(alloc, found)
     }
 
-    /// The candidates of a filter that comes after `..` and uses a relative query with at least one segment: the
-    /// descendants of the nodes that are not arrays, each once in the whole list.
+    /// The candidates of a filter that comes after `..` and uses a relative query with at least one segment: of the
+    /// descendants of the nodes, those that are not arrays, each once in the whole list.
     ///
     /// ```text
     /// let candidates = ValueWalker::candidates_below(alloc, &root)?;

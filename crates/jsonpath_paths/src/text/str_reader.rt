@@ -49,7 +49,7 @@ impl Error for ReaderError {}
 pub struct StrRange {
     /// Where the span begins: how many bytes of the text come before it.
     pub pos: usize,
-    /// The length of the span, in bytes.
+    /// The length of the span, in bytes; the field is named as in the Rust crate `jsonpath_lib`.
     pub offset: usize,
 }
 

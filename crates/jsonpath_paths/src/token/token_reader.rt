@@ -55,7 +55,8 @@ impl<'a> TokenReader<'a> {
     }
 
     /// Returns the next token without taking it; `next_token` then returns the same. If no token begins at the reader's
-    /// position, returns the error of `next_token`; after such an error `to_error` reports the reader's position.
+    /// position, returns the error of `next_token`; the reader's `to_error` then reports the position at which no token
+    /// begins.
     ///
     /// ```text
     /// let mut reader = TokenReader::new("==1");

@@ -12,8 +12,8 @@ use std::alloc::AllocError;
 use std::error::Error;
 use std::fmt;
 
-/// The error of reading a path text: a syntax error with its position, the end of the text, or out of memory. `Display`
-/// prints `Eof`, `out of memory`, or `Position:` with the byte position that the variant has.
+/// The error of reading a path text: a syntax error with its position, a text that ends too early, or out of memory.
+/// `Display` prints `Eof`, `out of memory`, or `Position:` with the byte position that the variant has.
 ///
 /// ```text
 /// let error = PathParser::compile(alloc, "$[a]")

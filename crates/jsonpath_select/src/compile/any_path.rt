@@ -42,9 +42,9 @@ pub struct PathParts<'p> {
     pub tokens: &'p [ParseToken],
 }
 
-/// Any compiled path: a `PathParser`, which borrows its text, a `Node`, which owns it, one of these behind an `Rc`,
-/// or a `Compiled` or `PathCompiled` of `jsonpath_lib`. Methods with a `&Value` select in that document; those with a
-/// `&mut Value` change the document at the selected values.
+/// Any compiled path: a `PathParser`, which borrows its text, a `Node`, which owns it, one of these behind an `Rc`, or
+/// a `Compiled` or `PathCompiled` of this library's crate `jsonpath_lib`. Methods with a `&Value` select in that
+/// document; those with a `&mut Value` change the document at the selected values.
 ///
 /// ```text
 /// let mut document = read_document(alloc, b"[1, 2, 3]")?;

@@ -22,8 +22,8 @@ use std::rc::Rc;
 pub type JsonSelector<'a> = HeldPair<Rc<PathParser<'a>>, &'a Value>;
 
 /// A selector with a `PathParser`, which borrows its text and may be shared, and an owned document, which its updates
-/// change. Both are optional; each is the one set last. An update changes only the document; any error but one that the
-/// closure returned leaves it unchanged.
+/// change. Both are optional; each is the one set last. An update changes only the document; any error leaves it
+/// unchanged, except one that an update's closure returned.
 ///
 /// ```text
 /// let document = read_document(alloc, b"[1, 2, 3]")?;
@@ -96,8 +96,8 @@ impl<'p, V: HeldValue> HeldPair<Rc<PathParser<'p>>, V> {
         }
     }
 
-    /// Replaces the selector's path, as `reset_parser` does, but returns no `&mut Self`, so that a caller's proof can
-    /// also use the contract after an error. The only error is `OutOfMemory`; nothing has changed then.
+    /// Replaces the selector's path, as `reset_parser` does, but returns no `&mut Self`, so that a caller's proof also
+    /// knows what the selector has after an error. The only error is `OutOfMemory`; nothing has changed then.
     ///
     /// ```text
     /// let mut held = JsonSelectorMut::new(alloc, compile_path(alloc, "$[1:]")?)?;

@@ -45,9 +45,9 @@ impl<'a, P: AnyPath> HeldPair<P, &'a Value> {
         self
     }
 
-    /// The values that the selector's path selects, in the path's order, with duplicates. They borrow only the searched
-    /// value. Errors: `EmptyPath` exactly if there is no path, `EmptyValue` exactly if there is a path and no value,
-    /// else `OutOfMemory` alone.
+    /// The values that the selector's path selects, in the order in which the path's steps find them, with duplicates.
+    /// They borrow only the searched value. Errors: `EmptyPath` exactly if there is no path, `EmptyValue` exactly if
+    /// there is a path and no value, else `OutOfMemory` alone.
     ///
     /// ```text
     /// let document = read_document(alloc, b"[1, 2, 3]")?;
@@ -64,8 +64,9 @@ impl<'a, P: AnyPath> HeldPair<P, &'a Value> {
         path.select(alloc, *value)
     }
 
-    /// The selected nodes (values with locations), in the path's order, with duplicates. They borrow only the searched
-    /// value. Errors: `EmptyPath` if there is no path, else `EmptyValue` if there is no value, else `OutOfMemory`.
+    /// The selected nodes (values with locations), in the order in which the path's steps find them, with duplicates.
+    /// They borrow only the searched value. Errors: `EmptyPath` if there is no path, else `EmptyValue` if there is no
+    /// value, else `OutOfMemory`.
     ///
     /// ```text
     /// let document = read_document(alloc, b"[1, 2, 3]")?;
@@ -83,8 +84,9 @@ impl<'a, P: AnyPath> HeldPair<P, &'a Value> {
         path.select_spots(alloc, *value)
     }
 
-    /// The first of the selected values, in the path's order, or `None`. It borrows only the searched value. Errors:
-    /// `EmptyPath` if there is no path, else `EmptyValue` if there is no value, else `OutOfMemory`.
+    /// The first of the selected values, in the order in which the path's steps find them, or `None`. It borrows only
+    /// the searched value. Errors: `EmptyPath` if there is no path, else `EmptyValue` if there is no value, else
+    /// `OutOfMemory`.
     ///
     /// ```text
     /// let document = read_document(alloc, b"[1, 2, 3]")?;

@@ -12,7 +12,8 @@ use serde_json::Value;
 use std::alloc::Global;
 
 impl<P: AnyPath> HeldPair<P, Value> {
-    /// Sets the document to change; the old one is dropped. Allocates no memory. Named as in the crate `jsonpath_lib`.
+    /// Gives the selector the document that it is to change; the old one is dropped. Allocates no memory. Named as in
+    /// the Rust crate `jsonpath_lib`.
     ///
     /// ```text
     /// let mut held = SelectorMut::new();

@@ -41,7 +41,8 @@ pub type SelectorMut = HeldPair<Node, Value>;
 
 impl<P: OfNode + Drop, V: HeldValue> HeldPair<P, V> {
     /// Compiles a path text and replaces the selector's path. Errors: `Path`, with `Parser`'s message, exactly if the
-    /// text is outside the grammar, or `OutOfMemory`; nothing has changed then. Named as in the crate `jsonpath_lib`.
+    /// text is outside the grammar, or `OutOfMemory`; nothing has changed then. Named as in the Rust crate
+    /// `jsonpath_lib`.
     ///
     /// ```text
     /// let document = read_document(alloc, b"[1, 2, 3]")?;
@@ -64,8 +65,8 @@ impl<P: OfNode + Drop, V: HeldValue> HeldPair<P, V> {
     }
 
     /// Compiles a path text and replaces the selector's path, as `str_path` does, but returns no `&mut Self`, so that a
-    /// caller's proof can also use the contract after an error. Errors: `Path` exactly if the text is outside the
-    /// grammar, or `OutOfMemory`; nothing has changed then.
+    /// caller's proof also knows what the selector has after an error. Errors: `Path` exactly if the text is outside
+    /// the grammar, or `OutOfMemory`; nothing has changed then.
     ///
     /// ```text
     /// let mut held = SelectorMut::new();
