@@ -31,7 +31,8 @@ pub enum Numbers {
     Scaled(u32),
     /// The copy of the document has, in place of each number, the index of its key in this list of keys, which ascend.
     Ranked(Vec<NumberKey>),
-    /// All numbers of the document are one and the same number in the copy, since no filter compares numbers.
+    /// All numbers of the document are one and the same number in its copy, on which only paths whose filters compare
+    /// no numbers are run.
     Alike,
 }
 
