@@ -51,9 +51,9 @@ pub fn select_as_str(alloc: Global, json: &str, path: &str) -> Result<String, Js
     compiled.select_as_str(alloc, &document)
 }
 
-/// Reads a JSON text, then a path, and deserializes each selected value to a `T`, in order. Errors: `Serde` if the JSON
-/// text is no document, or if a selected value has a number that is neither an `i64` nor a `u64`, or can't be made a
-/// `T`; `Path` if the path text is no path; or `OutOfMemory`.
+/// Reads a JSON text, then a path, and deserializes each selected value to a `T`, in the order in which the path's
+/// steps find them. Errors: `Serde` if the JSON text is no document, or if a selected value has a number that is
+/// neither an `i64` nor a `u64`, or can't be made a `T`; `Path` if the path text is no path; or `OutOfMemory`.
 ///
 /// ```text
 /// let numbers = select_as::<u8>(alloc, "[[1, 2], [3]]", "$[*][0]")?;
