@@ -32,7 +32,8 @@ use serde_json::Value;
 
 /// Lemma: let a path select a single location, or nothing if the document has no such location. Then deleting by the
 /// path does the same as putting null at this one location, and removing by the path the same as removing the value at
-/// it. At the root, both change nothing. `putting_at_one_location` says what an update of one location leaves.
+/// it. If the location is the root, all four change nothing. `putting_at_one_location` says what an update of one
+/// location leaves.
 ///
 /// ```text
 /// laws::deletes_and_removes_selected_location();
