@@ -32,9 +32,10 @@ pub struct Document<'a> {
 }
 
 impl<'a> Document<'a> {
-    /// Reads a document from its text; `compared` says what the filters of the paths to be run on it compare. The tree
-    /// borrows the text and `scratch`, which stores texts with their escapes resolved. Errors: `NotADocument` if the
-    /// text is no JSON document, `HugeExponent` if an exponent is too long to compare, or `OutOfMemory`.
+    /// Reads a document from its text; `compared` says whether the filters of the paths to be run on it compare
+    /// numbers, and with which number literals. The tree borrows the text and `scratch`, which stores texts with their
+    /// escapes resolved. Errors: `NotADocument` if the text is no JSON document, `HugeExponent` if numbers are compared
+    /// and an exponent has more than 38 digits, or `OutOfMemory`.
     pub fn read(
         alloc: Global,
         text: &'a str,
@@ -53,8 +54,9 @@ impl<'a> Document<'a> {
         Document::of_exact_tree(alloc, text, exact, compared)
     }
 
-    /// Makes a document from its exact tree, which was read from this text; `compared` says what the filters of the
-    /// paths to be run on it compare. Errors: `HugeExponent` if an exponent is too long to compare, or `OutOfMemory`.
+    /// Makes a document from its exact tree, which was read from this text; `compared` says whether the filters of the
+    /// paths to be run on it compare numbers, and with which number literals. Errors: `HugeExponent` if numbers are
+    /// compared and an exponent has more than 38 digits, or `OutOfMemory`.
     pub fn of_exact_tree(
         alloc: Global,
         text: &str,
