@@ -7,8 +7,8 @@ use Rattle.serde_json.specs.Read.{read}
 use Rattle.serde_json.specs.View.{view}
 use Rattle.jsonpath_nodes.specs.place.Location.{Location, location_cmp}
 use Rattle.jsonpath_select.specs.Targets.{AreTargets}
-use Rattle.jpath_numbers.specs.NumberPlaces.{is_as_read}
-use Rattle.jpath_numbers.specs.declared.document.Document.{Document}
+use Rattle.jpath_texts.specs.NumberPlaces.{is_as_read}
+use Rattle.jpath_texts.specs.declared.document.Document.{Document}
 use Rattle.jpath_edits.specs.Changed.{IsChangedAt, ReadsChanged}
 use Rattle.jpath_edits.specs.declared.change.Change.{Change}
 

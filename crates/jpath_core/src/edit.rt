@@ -7,7 +7,7 @@ ghost use Rattle.serde_json.specs.Read.{read};
 ghost use Rattle.serde_json.specs.View.{view};
 ghost use Rattle.jsonpath_nodes.specs.place.Location.{location_cmp};
 ghost use Rattle.jsonpath_select.specs.Targets.{AreTargets};
-ghost use Rattle.jpath_numbers.specs.NumberPlaces.{is_as_read};
+ghost use Rattle.jpath_texts.specs.NumberPlaces.{is_as_read};
 ghost use Rattle.jpath_edits.specs.Changed.{put_by, IsSpliced};
 ghost use Rattle.jpath_core.specs.Edited.{IsEdited, IsEditedAt, HasImage};
 
@@ -15,8 +15,7 @@ use crate::selection::select_in_document;
 use jpath_edits::{
     Change, are_bytes_of_changed_document, changed_text, locations_below_root, serde_value_of_text,
 };
-use jpath_numbers::{Document, Query};
-use jpath_texts::DocumentRefusal;
+use jpath_texts::{Document, DocumentRefusal, Query};
 use jsonpath_nodes::laws::spots_show_their_locations;
 use jsonpath_nodes::{Location, compute_paths};
 use std::alloc::Global;

@@ -7,7 +7,7 @@ ghost use Rattle.jpath_texts.specs.Exact.{IsImageOf};
 ghost use Rattle.jpath_core.specs.Images.{ImageStandsAt};
 ghost use Rattle.jpath_core.specs.Renumbered.{OrderOfNumbersDecides};
 
-pub use jpath_numbers::laws::{copies_keep_order, one_number_one_key};
+pub use jpath_texts::laws::{copies_keep_order, one_number_one_key};
 
 /// Lemma: the exact tree of a JSON text, which keeps numbers as written, and its image, the `serde_json` value of the
 /// text, have values at the same locations. The image of the tree's value at a location is the image's value there.

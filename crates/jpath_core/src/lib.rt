@@ -14,11 +14,10 @@ pub use exact_tree::exact_evaluator::{
     ExactOutcome, add_lines_by_exact_tree, may_answer_by_exact_tree,
 };
 pub use jpath_edits::{Change, exact_value_at_location};
-pub use jpath_numbers::{Compared, Document, NumberKey, Numbers, Query};
 pub use jpath_texts::{
-    DocumentRefusal, Ended, How, Kind, Line, LineColumn, Look, MARK, Piece, ReadFailure, Separated,
-    Shown, Taken, Visitor, add_compact_value, add_header, add_value_in_look, read_exact_tree,
-    visit_documents,
+    Compared, Document, DocumentRefusal, Ended, How, Kind, Line, LineColumn, Look, MARK, NumberKey,
+    Numbers, Piece, Query, ReadFailure, Separated, Shown, Taken, Visitor, add_compact_value,
+    add_header, add_value_in_look, read_exact_tree, visit_documents,
 };
 pub use output::matches::{add_array, add_lines_for_path, count_matches};
 pub use output::table::add_rows;

@@ -4,10 +4,9 @@
 ghost use Rattle.std.specs.Prelude.{◌≡◌, true, IfOk};
 ghost use Rattle.serde_json.specs.View.{view};
 ghost use Rattle.jsonpath_select.specs.Meaning.{SelectsSpots};
-ghost use Rattle.jpath_numbers.specs.NumberPlaces.{is_as_read};
+ghost use Rattle.jpath_texts.specs.NumberPlaces.{is_as_read};
 
-use jpath_numbers::{Document, Numbers, Query};
-use jpath_texts::DocumentRefusal;
+use jpath_texts::{Document, DocumentRefusal, Numbers, Query};
 use jsonpath_nodes::Spot;
 use jsonpath_select::{JsonPathError, select_path, select_tokens, tokens_fit};
 use serde_json::Value;

@@ -13,9 +13,9 @@ use Rattle.jpath_texts.specs.Exact.{exact_of}
 use Rattle.jpath_texts.specs.Lines.{compact}
 use Rattle.jpath_texts.specs.declared.output.match_line.Shown.{Shown}
 use Rattle.jpath_texts.specs.declared.output.match_line.Shown.TheVariants.{Values, Places, PlacesAndValues}
-use Rattle.jpath_numbers.specs.NumberPlaces.{HasSides}
-use Rattle.jpath_numbers.specs.declared.query.Query.{Query}
-use Rattle.jpath_numbers.specs.declared.query.Compared.{Compared}
+use Rattle.jpath_texts.specs.NumberPlaces.{HasSides}
+use Rattle.jpath_texts.specs.declared.query.Query.{Query}
+use Rattle.jpath_texts.specs.declared.query.Compared.{Compared}
 use Rattle.jpath_tasks.specs.declared.task.Task.{Task}
 use Rattle.jpath_tasks.specs.declared.task.Task.TheVariants.{Lines, Array, Count, Quiet, Table, Edits}
 use Rattle.jpath_tasks.specs.declared.task.Edit.{Edit}

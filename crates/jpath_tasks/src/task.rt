@@ -10,8 +10,9 @@ ghost use Rattle.jpath_texts.specs.Lines.{compact};
 ghost use Rattle.jpath_tasks.specs.Asked.{is_edit, colored_by, paths_of, files_of, shown_by, queries_of, AreOf, AreEditsOf, Covers, IsAsked, IsEditOf, IsOfMatches, IsValueText};
 
 use crate::word_faults::words_fault;
-use jpath_numbers::{Compared, Query};
-use jpath_texts::{DocumentRefusal, Look, Separated, Shown, add_compact_value, read_exact_tree};
+use jpath_texts::{
+    Compared, DocumentRefusal, Look, Query, Separated, Shown, add_compact_value, read_exact_tree,
+};
 use jpath_words::{Color, EditWords, Flags, Words, tell_refused_path, warn_of_mixed_connectives};
 use json::{Scratch, Value as Exact};
 use std::alloc::{AllocError, AllocFailed, Global};

@@ -2,5 +2,8 @@ pub mod AtDepth
 pub mod Exact
 pub mod Lines
 pub mod NamesOnce
+pub mod NumberKey
+pub mod NumberPlaces
 pub mod Rows
 pub mod Stream
+pub mod Unplaced

@@ -1,19 +1,30 @@
-//! JSON texts with all their detail: the documents of a stream, the exact tree of a text, and how its values are
-//! written.
+//! JSON texts with all their detail: the documents of a stream, the exact tree of a text, its numbers in exact order and
+//! the copies on which paths compare them, and how values are written.
 #![tactic(auto)]
 
+mod document;
+mod document_copy;
 mod exact_tree;
+pub mod laws;
+mod numbers;
 mod output;
+mod query;
 mod refusal;
 mod stream;
 
+pub use document::Document;
+pub use document_copy::copy_with_numbers;
 pub use exact_tree::read_exact_tree;
 pub use json_recognizer::{Kind, LineColumn, MARK, ReadFailure};
+pub use numbers::number_key::NumberKey;
+pub use numbers::numbers_in_copy::Numbers;
+pub use numbers::written_number::has_minus;
 pub use output::array_items::{add_array_end, add_array_item};
 pub use output::csv_and_tsv::{Separated, add_header, add_row};
 pub use output::match_line::{Line, Shown, add_file_name};
 pub use output::names_once::write_with_names_once;
 pub use output::value_text::{Look, add_compact_value, add_value_in_look};
+pub use query::{Compared, Query};
 pub use refusal::DocumentRefusal;
 pub use stream::piece::Piece;
 pub use stream::visit_documents::{Ended, How, Taken, Visitor, visit_documents};

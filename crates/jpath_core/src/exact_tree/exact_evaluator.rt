@@ -15,8 +15,7 @@ ghost use Rattle.jpath_core.specs.AlongExactTree.{after, is_plain_line, list_of,
 
 use crate::exact_tree::exact_conditions::{holds_at_value, is_on_members_alone};
 use crate::output::matches::add_value_line;
-use jpath_numbers::Query;
-use jpath_texts::Line;
+use jpath_texts::{Line, Query};
 use json::Value as Exact;
 use jsonpath_nodes::laws::{apart_locations_meet_candidates_once, steps_keep_locations_apart};
 use jsonpath_paths::laws::one_tree_per_text;

@@ -7,7 +7,7 @@ ghost use Rattle.jsonpath_nodes.specs.compare.Comparisons.{decimal};
 ghost use Rattle.jpath_core.specs.AlongExactTree.{seen_number};
 
 use fast_float::Numeral;
-use jpath_numbers::has_minus;
+use jpath_texts::has_minus;
 use jsonpath_paths::Decimal;
 
 // So many digits behind the point does a decimal hold.

@@ -9,16 +9,15 @@ ghost use Rattle.jsonpath_paths.specs.Spelling.{Spells};
 ghost use Rattle.jsonpath_nodes.specs.place.LocationText.{location_text};
 ghost use Rattle.jsonpath_nodes.specs.place.SpotPlace.{location_of};
 ghost use Rattle.jsonpath_select.specs.Meaning.{sel};
-ghost use Rattle.jpath_numbers.specs.NumberPlaces.{is_as_read};
+ghost use Rattle.jpath_texts.specs.NumberPlaces.{is_as_read};
 ghost use Rattle.jpath_core.specs.Matches.{line_text, lines_text, AddsMatches};
 ghost use Rattle.jpath_core.specs.AlongExactTree.{value_line, written};
 
 use crate::exact_at_steps::printable_value_at_steps;
 use crate::selection::select_in_document;
-use jpath_numbers::{Document, Query};
 use jpath_texts::{
-    DocumentRefusal, Line, Look, Shown, add_array_end, add_array_item, add_file_name,
-    add_value_in_look, write_with_names_once,
+    Document, DocumentRefusal, Line, Look, Query, Shown, add_array_end, add_array_item,
+    add_file_name, add_value_in_look, write_with_names_once,
 };
 use json::{Value as Exact, Writer};
 use jsonpath_nodes::{Location, Spot};

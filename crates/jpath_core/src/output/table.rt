@@ -5,8 +5,7 @@ ghost use Rattle.json.specs.Value.{value_view};
 
 use crate::exact_at_steps::printable_value_at_steps;
 use crate::selection::{select_in_document, select_in_image};
-use jpath_numbers::{Document, Query};
-use jpath_texts::{DocumentRefusal, Look, Separated, add_row, add_value_in_look};
+use jpath_texts::{Document, DocumentRefusal, Look, Query, Separated, add_row, add_value_in_look};
 use json::Value as Exact;
 use serde_json::Value;
 use std::alloc::Global;

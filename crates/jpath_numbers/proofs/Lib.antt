@@ -1,9 +1,0 @@
-pub mod CopyLemmas
-pub mod KeyLawLemmas
-pub mod KeyLemmas
-pub mod KeyOrderLemmas
-pub mod KeyRankLemmas
-pub mod LiteralLemmas
-pub mod PlaceLemmas
-pub mod TextOrderLemmas
-pub mod TokenLemmas

@@ -1,3 +1,0 @@
-pub mod NumberKey
-pub mod NumberPlaces
-pub mod Unplaced

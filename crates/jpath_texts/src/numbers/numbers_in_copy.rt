@@ -1,0 +1,154 @@
+//! How a copy of a document, which filters compare, represents its numbers: exactly, however many digits they have.
+//!
+//! A path depends on the order of numbers alone. If a document has a number that is not an integer of 64 bits, each
+//! of its numbers and each literal of a path is replaced by another in the same order: all times one power of ten
+//! that makes them integers, or else each by its rank among them.
+
+ghost use Rattle.std.specs.Prelude.{◌≡◌, false, IfOk, IfErr, IfSome, IsSome};
+ghost use Rattle.std.specs.List.{All};
+ghost use Rattle.json.specs.Value.{value_view};
+ghost use Rattle.serde_json.specs.View.{number_view};
+ghost use Rattle.jsonpath_paths.specs.Numbers.{decimal_units};
+ghost use Rattle.jpath_texts.specs.NumberPlaces.{literal_text, IsKnown, StandsAt, StandsFor, HasPlace, IsPlacedToken, ArePlaced, is_as_read, is_scaled, is_alike, texts_in};
+ghost use Rattle.jpath_texts.specs.Unplaced.{IsUnplaced};
+
+use crate::numbers::number_key::{NumberKey, literal_key, read_key_or_refuse};
+use crate::numbers::rank::{add_literal_keys, add_number_keys, rank_of_key, sorted_unique_keys};
+use crate::numbers::scale::{scale_literal, scale_number};
+use crate::query::{Compared, Query, is_comparison_side};
+use crate::refusal::DocumentRefusal;
+use json::Value as Exact;
+use jsonpath_paths::{Decimal, ParseToken};
+use serde_json::Number;
+use std::alloc::Global;
+
+/// How the copy of a document on which paths are run represents the document's numbers.
+#[derive(Drop)]
+pub enum Numbers {
+    /// The copy of the document has its numbers unchanged, as `serde_json` read them.
+    AsRead,
+    /// The copy of the document has each number times ten to this power, which makes each an integer.
+    Scaled(u32),
+    /// The copy of the document has, in place of each number, the index of its key in this list of keys, which ascend.
+    Ranked(Vec<NumberKey>),
+    /// All numbers of the document are one and the same number in its copy, on which only paths whose filters compare
+    /// no numbers are run.
+    Alike,
+}
+
+impl Numbers {
+    /// Whether the copy of a document on which paths are run has the numbers unchanged, as `serde_json` read them.
+    pub fn is_as_read(&self) -> bool
+        ensures { result ≡ is_as_read self.now }
+    {
+        matches!(self, Numbers::AsRead)
+    }
+
+    // A way to put numbers in the copy: each at its rank among all numbers of a document and the literals that paths
+    // compare with them.
+    pub(crate) fn ranked(
+        alloc: Global,
+        exact: &Exact<'_>,
+        compared: &Compared,
+    ) -> Result<Numbers, DocumentRefusal>
+        ensures known { IfOk result (λ numbers. All (IsKnown numbers) (texts_in (value_view exact.now))) }
+        ensures literals { IfOk result (λ numbers. All (HasPlace numbers) compared.now.literals.items) }
+        ensures unscaled { IfOk result (λ numbers. is_scaled numbers ≡ false) }
+        ensures moved { IfOk result (λ numbers. is_as_read numbers ≡ false) }
+        ensures apart { IfOk result (λ numbers. is_alike numbers ≡ false) }
+        ensures refused { IfErr result IsUnplaced }
+    {
+        let mut keys = Vec::new(alloc);
+        add_number_keys(alloc, exact, &mut keys)?;
+        add_literal_keys(alloc, compared.literals.as_slice(), &mut keys)?;
+        Ok(Numbers::Ranked(sorted_unique_keys(keys)?))
+    }
+
+    // The number that stands in the copy for a number of the document; None where it doesn't fit there as a whole
+    // number of 64 bits. Where nothing compares numbers it is 0. It is not to be asked of `AsRead`, where nothing is
+    // copied; it is 0 there, too.
+    pub(crate) fn number_for_text(
+        &self,
+        alloc: Global,
+        text: &str,
+    ) -> Result<Option<Number>, DocumentRefusal>
+        ensures stands { IfOk result (λ found. IfSome found (λ n. IsKnown self.now text.now → StandsFor self.now text.now (number_view n))) }
+        ensures some { is_scaled self.now ≡ false → IfOk result (λ found. IsSome found) }
+        ensures refused { IfErr result IsUnplaced }
+    {
+        match self {
+            Numbers::Scaled(places) => Ok(scale_number(text, *places)),
+            Numbers::Ranked(keys) => {
+                let key = read_key_or_refuse(alloc, text)?;
+                Ok(Some(Number::from(rank_of_key(keys.as_slice(), &key))))
+            }
+            Numbers::Alike => Ok(Some(Number::from(0u64))),
+            Numbers::AsRead => Ok(Some(Number::from(0u64))),
+        }
+    }
+
+    /// The token list of a path, with each number that a filter compares replaced as the numbers of the document's copy
+    /// are: `Scaled` multiplies it by its power of ten, `Ranked` replaces it by its index among its keys, each other
+    /// variant keeps it.
+    pub fn tokens_with_literals_placed(
+        &self,
+        alloc: Global,
+        query: &Query<'_>,
+    ) -> Result<Vec<ParseToken>, DocumentRefusal>
+        ensures ok { IfOk result (λ found. ArePlaced self.now query.now.tokens.items found.items) }
+        ensures refused { IfErr result IsUnplaced }
+    {
+        let tokens = query.tokens.as_slice();
+        let mut moved = Vec::new(alloc);
+        for (at, token) in tokens.iter().enumerate() {
+            moved.push(self.token_with_literal_placed(
+                alloc,
+                is_comparison_side(tokens, at),
+                token,
+            )?)?;
+        }
+        Ok(moved)
+    }
+
+    // A copy of a path's token; a number that is a side of a comparison is replaced as the numbers of the copy are.
+    fn token_with_literal_placed(
+        &self,
+        alloc: Global,
+        is_side: bool,
+        token: &ParseToken,
+    ) -> Result<ParseToken, DocumentRefusal>
+        ensures ok { IfOk result (IsPlacedToken self.now is_side token.now) }
+        ensures refused { IfErr result IsUnplaced }
+    {
+        match token {
+            ParseToken::Number(number) => {
+                if is_side {
+                    Ok(ParseToken::Number(self.placed_literal(alloc, *number)?))
+                } else {
+                    Ok(ParseToken::Number(*number))
+                }
+            }
+            token => Ok(token.clone()?),
+        }
+    }
+
+    // The number that stands for a number of a path, as those of the copy stand for the document's: times the power of
+    // ten, or its rank; else the number itself.
+    fn placed_literal(&self, alloc: Global, literal: Decimal) -> Result<Decimal, DocumentRefusal>
+        ensures ok { IfOk result (λ found. HasPlace self.now literal → StandsAt self.now (literal_text literal) (decimal_units found)) }
+        ensures refused { IfErr result IsUnplaced }
+    {
+        match self {
+            Numbers::Scaled(places) => match scale_literal(literal, *places) {
+                Some(found) => Ok(found),
+                None => Ok(literal),
+            },
+            Numbers::Ranked(keys) => {
+                let key = literal_key(alloc, literal)?;
+                Ok(Decimal::of_u64(rank_of_key(keys.as_slice(), &key)))
+            }
+            Numbers::Alike => Ok(literal),
+            Numbers::AsRead => Ok(literal),
+        }
+    }
+}
