@@ -3,8 +3,7 @@
 
 mod run;
 
-use jpath_tasks::{Refused, wanted_of_words, wants_color};
-use jpath_words::{ParseOutcome, Words, parse_words};
+use jpath_words::{ParseOutcome, Refused, Words, parse_words, wanted_of_words, wants_color};
 use run::run_over_files;
 use std::alloc::AllocError;
 use std::env;

@@ -9,7 +9,7 @@ use jpath_core::{Ended, How, ReadFailure, add_header, visit_documents};
 use jpath_files::{
     FaultTellingReader, FaultTellingWriter, FileToEdit, Way, open_to_edit, put_in_place,
 };
-use jpath_tasks::{Task, Wanted};
+use jpath_words::{Task, Wanted};
 use jsonpath_streams::{Checked, IoFailed, Output};
 use std::alloc::Global;
 use std::cell::Cell;

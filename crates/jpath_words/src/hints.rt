@@ -292,9 +292,9 @@ fn sentence_at_quote(before: &str, rest: &str) -> Option<&'static str> {
     None
 }
 
-/// Prints a warning on standard error if a path has `&&` and `||` in one condition without parentheses between them:
-/// here both have the same precedence and group to the right, unlike in RFC 9535.
-pub fn warn_of_mixed_connectives(rt: &(impl Eprint + Alloc<A = Global>), path: &str) {
+// Prints a warning on standard error if a path has `&&` and `||` in one condition without parentheses between them:
+// here both have the same precedence and group to the right, unlike in RFC 9535.
+pub(crate) fn warn_of_mixed_connectives(rt: &(impl Eprint + Alloc<A = Global>), path: &str) {
     if let Ok(true) = has_mixed_connectives(rt.alloc(), path) {
         let _ = eprintln!(rt;
             "jpath: warning: && and || have one rank here and group to the right: set parentheses in {path}"

@@ -1,10 +1,12 @@
-//! The command line of `jpath`, and its messages about a path with a syntax error, or one that mixes `&&` and `||`.
+//! The command line of `jpath`: its options, the task that they ask for, and the messages about a path with a syntax
+//! error, or one that mixes `&&` and `||`.
 #![tactic(auto)]
 
 mod command_line;
 mod hints;
 mod refused_path;
+mod task;
+mod word_faults;
 
-pub use command_line::{Color, EditWords, Flags, ParseOutcome, Words, parse_words};
-pub use hints::warn_of_mixed_connectives;
-pub use refused_path::tell_refused_path;
+pub use command_line::{EditWords, Flags, ParseOutcome, Words, parse_words};
+pub use task::{Edit, Refused, Table, Task, Wanted, wanted_of_words, wants_color};

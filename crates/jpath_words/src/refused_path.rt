@@ -8,9 +8,13 @@ use jsonpath_paths::{Expected, Kind, PathParser, TokenError, Tokenizer, expected
 use std::alloc::{AllocError, Global};
 use unicode_width::UnicodeWidthStr;
 
-/// Prints on standard error why a path text is no path: the text, a caret under the position of the syntax error, what
-/// could have been there, and a hint, if there is one. If memory runs out, it prints `out of memory` instead.
-pub fn tell_refused_path(rt: &(impl Eprint + Alloc<A = Global>), path: &str, error: &TokenError) {
+// Prints on standard error why a path text is no path: the text, a caret under the position of the syntax error, what
+// could have been there, and a hint, if there is one. If memory runs out, it prints `out of memory` instead.
+pub(crate) fn tell_refused_path(
+    rt: &(impl Eprint + Alloc<A = Global>),
+    path: &str,
+    error: &TokenError,
+) {
     match refused_path_text(rt.alloc(), path, error) {
         Ok(text) => {
             let text = text.as_str();

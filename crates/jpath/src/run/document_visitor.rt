@@ -6,7 +6,7 @@ ghost use Rattle.jpath.specs.Gives.{Gives, IsWhyStopped};
 use crate::run::one_document::add_output_for_document;
 use jpath_core::{DocumentRefusal, Kind, MARK, Piece, Taken, Visitor};
 use jpath_files::{HeldOutput, RefusedDocument};
-use jpath_tasks::{Task, Wanted};
+use jpath_words::{Task, Wanted};
 use json::Scratch;
 use jsonpath_streams::{IoFailed, Output};
 use std::alloc::{AllocError, Global};

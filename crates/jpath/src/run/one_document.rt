@@ -8,8 +8,7 @@ use jpath_core::{
     add_lines_by_exact_tree, add_lines_for_path, add_rows, add_value_in_look, count_matches,
     edit_text, may_answer_by_exact_tree, read_exact_tree,
 };
-use jpath_tasks::{Edit, Task, Wanted};
-use jpath_words::EditWords;
+use jpath_words::{Edit, EditWords, Task, Wanted};
 use json::{Scratch, Value as Exact};
 use std::alloc::Global;
 use std::str;

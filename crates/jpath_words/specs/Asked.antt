@@ -16,10 +16,10 @@ use Rattle.jpath_texts.specs.declared.output.match_line.Shown.TheVariants.{Value
 use Rattle.jpath_texts.specs.NumberPlaces.{HasSides}
 use Rattle.jpath_texts.specs.declared.query.Query.{Query}
 use Rattle.jpath_texts.specs.declared.query.Compared.{Compared}
-use Rattle.jpath_tasks.specs.declared.task.Task.{Task}
-use Rattle.jpath_tasks.specs.declared.task.Task.TheVariants.{Lines, Array, Count, Quiet, Table, Edits}
-use Rattle.jpath_tasks.specs.declared.task.Edit.{Edit}
-use Rattle.jpath_tasks.specs.declared.task.Table.{Table as TableOf}
+use Rattle.jpath_words.specs.declared.task.Task.{Task}
+use Rattle.jpath_words.specs.declared.task.Task.TheVariants.{Lines, Array, Count, Quiet, Table, Edits}
+use Rattle.jpath_words.specs.declared.task.Edit.{Edit}
+use Rattle.jpath_words.specs.declared.task.Table.{Table as TableOf}
 
 -- whether the document is edited
 abbrev pub is_edit : Task → Bool

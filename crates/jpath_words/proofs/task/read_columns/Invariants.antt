@@ -1,5 +1,5 @@
 use Rattle.std.proofs.Common.{◌≡◌, length}
-use Rattle.jpath_tasks.proofs.task.read_columns.Given as goal
+use Rattle.jpath_words.proofs.task.read_columns.Given as goal
 
 abbrev pub invariant-loop-text : goal.invariant-loop-text
 invariant-loop-text g l = record {

@@ -1,7 +1,7 @@
 use Rattle.std.proofs.Common.{refl, subst, ◌∙◌, [], All}
 use Rattle.std.proofs.lemmas.List.Elements.{All-head}
-use Rattle.jpath_tasks.specs.Asked.{Covers}
-use Rattle.jpath_tasks.proofs.task.read_edit.Goals as goal
+use Rattle.jpath_words.specs.Asked.{Covers}
+use Rattle.jpath_words.proofs.task.read_edit.Goals as goal
 
 pub returns : goal.returns
 returns g c = record {

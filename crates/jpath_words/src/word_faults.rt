@@ -1,7 +1,7 @@
 //! Options that contradict each other, or beside which one is missing: a sentence that says what to write. A missing
 //! path is reported in `task.rt`.
 
-use jpath_words::Words;
+use crate::command_line::Words;
 
 // A sentence for the first fault among the words, a contradiction or something missing, which says what to write, or
 // `None` where there is none.

@@ -1,6 +1,6 @@
 use Rattle.std.proofs.Common.{◌≡◌, ap, sym, subst, inl, inr, All, IfOk, ◌∙◌}
-use Rattle.jpath_tasks.specs.Asked.{Covers, queries_of}
-use Rattle.jpath_tasks.proofs.task.compared_by_task.Goals as goal
+use Rattle.jpath_words.specs.Asked.{Covers, queries_of}
+use Rattle.jpath_words.proofs.task.compared_by_task.Goals as goal
 
 pub returns-in-Lines : goal.returns-in-Lines
 returns-in-Lines c =

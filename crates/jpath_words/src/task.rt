@@ -7,13 +7,15 @@ ghost use Rattle.json.specs.Tree.{HasNumbers};
 ghost use Rattle.json.specs.Value.{value_view};
 ghost use Rattle.jpath_texts.specs.Exact.{exact_of};
 ghost use Rattle.jpath_texts.specs.Lines.{compact};
-ghost use Rattle.jpath_tasks.specs.Asked.{is_edit, colored_by, paths_of, files_of, shown_by, queries_of, AreOf, AreEditsOf, Covers, IsAsked, IsEditOf, IsOfMatches, IsValueText};
+ghost use Rattle.jpath_words.specs.Asked.{is_edit, colored_by, paths_of, files_of, shown_by, queries_of, AreOf, AreEditsOf, Covers, IsAsked, IsEditOf, IsOfMatches, IsValueText};
 
+use crate::command_line::{Color, EditWords, Flags, Words};
+use crate::hints::warn_of_mixed_connectives;
+use crate::refused_path::tell_refused_path;
 use crate::word_faults::words_fault;
 use jpath_texts::{
     Compared, DocumentRefusal, Look, Query, Separated, Shown, add_compact_value, read_exact_tree,
 };
-use jpath_words::{Color, EditWords, Flags, Words, tell_refused_path, warn_of_mixed_connectives};
 use json::{Scratch, Value as Exact};
 use std::alloc::{AllocError, AllocFailed, Global};
 use std::slice;
@@ -95,7 +97,7 @@ pub enum Refused {
 }
 
 impl From<AllocError> for Refused {
-    ghost use Rattle.jpath_tasks.specs.declared.task.Refused.TheVariants.{OutOfMemory};
+    ghost use Rattle.jpath_words.specs.declared.task.Refused.TheVariants.{OutOfMemory};
     ghost use Rattle.std.specs.Prelude.{◌≡◌};
 
     ghost from_gives = { λ _ refused. refused ≡ OutOfMemory };
@@ -106,7 +108,7 @@ impl From<AllocError> for Refused {
 }
 
 impl<T: Drop> From<AllocFailed<T>> for Refused {
-    ghost use Rattle.jpath_tasks.specs.declared.task.Refused.TheVariants.{OutOfMemory};
+    ghost use Rattle.jpath_words.specs.declared.task.Refused.TheVariants.{OutOfMemory};
     ghost use Rattle.std.specs.Prelude.{◌≡◌};
 
     ghost from_gives = { λ _ refused. refused ≡ OutOfMemory };

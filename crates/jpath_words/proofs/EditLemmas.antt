@@ -1,8 +1,8 @@
 -- Edits, read one after another.
 use Rattle.std.proofs.Common.{List, [], ◌∷◌, ◌++◌}
 use Rattle.jpath_words.specs.declared.command_line.EditWords.{EditWords}
-use Rattle.jpath_tasks.specs.declared.task.Edit.{Edit}
-use Rattle.jpath_tasks.specs.Asked.{IsEditOf, AreEditsOf}
+use Rattle.jpath_words.specs.declared.task.Edit.{Edit}
+use Rattle.jpath_words.specs.Asked.{IsEditOf, AreEditsOf}
 
 -- one edit more
 pub edits_more : (words : List EditWords) (edits : List Edit) (last : EditWords) (edit : Edit) → AreEditsOf words edits → IsEditOf last edit → AreEditsOf (words ++ last ∷ []) (edits ++ edit ∷ [])

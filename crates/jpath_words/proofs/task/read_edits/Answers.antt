@@ -1,8 +1,8 @@
 use Rattle.std.proofs.Common.{◌+◌, [], ◌∷◌, ◌++◌, sym, subst, take}
 use Rattle.std.proofs.lemmas.List.{take_more}
-use Rattle.jpath_tasks.specs.Asked.{AreEditsOf}
-use Rattle.jpath_tasks.proofs.EditLemmas.{edits_more}
-use Rattle.jpath_tasks.proofs.task.read_edits.Goals as goal
+use Rattle.jpath_words.specs.Asked.{AreEditsOf}
+use Rattle.jpath_words.proofs.EditLemmas.{edits_more}
+use Rattle.jpath_words.proofs.task.read_edits.Goals as goal
 
 pub loop-edit-preserved : goal.loop-edit-preserved
 loop-edit-preserved g c =
