@@ -1,14 +1,19 @@
--- What stands at a location of the exact tree has as its image what stands there in the tree's image.
-use Rattle.std.proofs.Common.{◌≡◌, true≢false, ℕ, zero, suc, List, [], ◌∷◌, ◌++◌, Option, Some, None, option_map, option_and_then, Bool, true, false, cond, bytes_eq, refl, sym, ap, ◌∙◌}
+-- What stands at a location of the exact tree has as its image what stands there in the document of the tree's image.
+use Rattle.std.proofs.Common.{◌≡◌, true≢false, ℕ, zero, suc, List, [], ◌∷◌, ◌++◌, Option, Some, None, option_map, option_and_then, Bool, true, false, cond, bytes_eq, Ordering, Less, Equal, Greater, nat_cmp, refl, sym, ap, ◌∙◌}
+use Rattle.std.specs.Cmp.Lexicographic.{slice_cmp}
+use Rattle.std.specs.Ordering.{match_ordering}
 use Rattle.std.proofs.lemmas.Slice.Eq.{bytes_eq-Decides}
 use Rattle.json.specs.Json as json
 use Rattle.json.specs.Json.{Json}
 use Rattle.json.specs.Find as exact
 use Rattle.json.specs.Find.{later_or}
-use Rattle.serde_json.specs.Data.{Data, number, array, object, Items, item, Members, no_members, put}
+use Rattle.serde_json.specs.Data.{Data, null, boolean, number, string, array, object, Items, no_items, item, Members, no_members, member, put}
 use Rattle.serde_json.specs.Find.{get, get_member, get_item, at as item_at}
 use Rattle.serde_json.specs.Read.{of_json, of_items, of_members, number_of}
 use Rattle.serde_json.proofs.Views.{get_member-put, get_member-put_other}
+use Rattle.jsonpath_nodes.specs.document.Document.{Document}
+use Rattle.jsonpath_nodes.specs.document.Find as document
+use Rattle.jsonpath_nodes.specs.document.OfData.{document_of, items_of, members_of}
 use Rattle.jsonpath_nodes.specs.place.Location.{Step, name, index, Location, child}
 use Rattle.jsonpath_nodes.specs.place.Location as location
 use Rattle.jpath_edits.specs.ExactAt.{exact_child, exact_at}
@@ -82,7 +87,7 @@ member_carries : (q : List ℕ) (ms : json.Members) (ds : Members) → of_member
     → option_map of_json (exact.get_member q ms) ≡ option_map Some (get_member q ds)
 member_carries q ms ds e = sym (before_none (exact.get_member q ms)) ∙ members_carry q ms no_members ds e
 
--- ---- one step, and any number of them
+-- ---- one step
 
 name_carries : (q : List ℕ) (j : Json) (d : Data) → of_json j ≡ Some d → option_map of_json (exact.get q j) ≡ option_map Some (get q d)
 name_carries q json.null d e = ap (λ x. option_map Some (get q x)) (ap (pick d) e)
@@ -104,21 +109,67 @@ index_carries i (json.array js) d e =
     item_carries i js ds.0 ds.1 ∙ ap (λ x. option_map Some (item_at i x)) (sym ds.2)
 index_carries i (json.object ms) d e = let ds = mapped_some object (of_members ms no_members) d e in ap (λ x. option_map Some (item_at i x)) (sym ds.2)
 
-pub child_carries : (s : Step) (j : Json) (d : Data) → of_json j ≡ Some d → option_map of_json (exact_child s j) ≡ option_map Some (child s d)
-child_carries (name q) j d e = name_carries q j d e
-child_carries (index i) j d e = index_carries i j d e
+-- ---- what is found in data is found in their document
 
-through : (l : Location) (o : Option Json) (p : Option Data) → option_map of_json o ≡ option_map Some p
-    → ((j : Json) (d : Data) → of_json j ≡ Some d → option_map of_json (exact_at j l) ≡ option_map Some (location.at d l))
-    → option_map of_json (option_and_then (λ c. exact_at c l) o) ≡ option_map Some (option_and_then (λ c. location.at c l) p)
+found : (o : Ordering) (rest : Option Data) (e : Data) (r : Option Document) → option_map document_of rest ≡ r → option_map document_of (match_ordering o rest (Some e) rest) ≡ match_ordering o r (Some (document_of e)) r
+found Less rest e r h = h
+found Equal rest e r h = refl
+found Greater rest e r h = h
+
+member_document : (k : List ℕ) (ms : Members) → option_map document_of (get_member k ms) ≡ document.get_member k (members_of ms)
+member_document k no_members = refl
+member_document k (member l e ms) = found (slice_cmp nat_cmp k l) (get_member k ms) e _ (member_document k ms)
+
+item_document : (n : ℕ) (ds : Items) → option_map document_of (get_item n ds) ≡ document.get_item n (items_of ds)
+item_document n no_items = refl
+item_document zero (item d ds) = refl
+item_document (suc n) (item d ds) = item_document n ds
+
+name_document : (k : List ℕ) (d : Data) → option_map document_of (get k d) ≡ document.get k (document_of d)
+name_document k null = refl
+name_document k (boolean b) = refl
+name_document k (number n) = refl
+name_document k (string s) = refl
+name_document k (array ds) = refl
+name_document k (object ms) = member_document k ms
+
+index_document : (i : ℕ) (d : Data) → option_map document_of (item_at i d) ≡ document.item_at i (document_of d)
+index_document i null = refl
+index_document i (boolean b) = refl
+index_document i (number n) = refl
+index_document i (string s) = refl
+index_document i (array ds) = item_document i ds
+index_document i (object ms) = refl
+
+-- ---- one step, and any number of them, in the document of the image
+
+-- the document of a value's image
+abbrev pub document_read : Json → Option Document
+document_read j = option_map document_of (of_json j)
+
+read_here : (o : Option Json) (p : Option Data) (q : Option Document) → option_map of_json o ≡ option_map Some p → option_map document_of p ≡ q → option_map document_read o ≡ option_map Some q
+read_here None None q e f = ap (option_map Some) f
+read_here None (Some d) q e f = absurd (cc)
+read_here (Some j) None q e f = absurd (cc)
+read_here (Some j) (Some d) q e f = ap (λ o. Some (option_map document_of o)) (ap (pick (Some d)) e) ∙ ap (option_map Some) f
+
+pub child_carries : (s : Step) (j : Json) (d : Data) → of_json j ≡ Some d → option_map document_read (exact_child s j) ≡ option_map Some (child s (document_of d))
+child_carries (name q) j d e = read_here (exact.get q j) (get q d) (document.get q (document_of d)) (name_carries q j d e) (name_document q d)
+child_carries (index i) j d e = read_here (exact.at i j) (item_at i d) (document.item_at i (document_of d)) (index_carries i j d e) (index_document i d)
+
+through : (l : Location) (o : Option Json) (p : Option Document) → option_map document_read o ≡ option_map Some p
+    → ((j : Json) (d : Data) → of_json j ≡ Some d → option_map document_read (exact_at j l) ≡ option_map Some (location.at (document_of d) l))
+    → option_map document_read (option_and_then (λ c. exact_at c l) o) ≡ option_map Some (option_and_then (λ c. location.at c l) p)
 through l None None e further = refl
 through l None (Some d) e further = absurd (cc)
 through l (Some j) None e further = absurd (cc)
-through l (Some j) (Some d) e further = further j d (ap (pick (Some d)) e)
+through l (Some j) (Some d) e further =
+    let read = mapped_some document_of (of_json j) d (ap (pick (Some d)) e) in
+    further j read.0 read.1 ∙ ap (λ c. option_map Some (location.at c l)) (sym read.2)
 
 pub location_carries : (l : Location) (j : Json) (d : Data) → of_json j ≡ Some d → ImageStandsAt j d l
-location_carries [] j d e = ap Some e
-location_carries (s ∷ l) j d e = through l (exact_child s j) (child s d) (child_carries s j d e) (location_carries l)
+location_carries [] j d e = ap (λ o. Some (option_map document_of o)) e
+location_carries (s ∷ l) j d e = through l (exact_child s j) (child s (document_of d)) (child_carries s j d e) (location_carries l)
 
 -- ---- the last step alone
 

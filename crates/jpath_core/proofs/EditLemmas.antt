@@ -4,6 +4,7 @@ use Rattle.std.specs.Prelude.{Option, Some}
 use Rattle.serde_json.specs.Data.{Data}
 use Rattle.serde_json.specs.Read.{read}
 use Rattle.serde_json.specs.View.{view}
+use Rattle.jsonpath_nodes.specs.document.OfData.{document_of}
 use Rattle.jsonpath_nodes.specs.place.Location.{Location}
 use Rattle.jsonpath_select.specs.Targets.{AreTargets}
 use Rattle.jpath_texts.specs.NumberPlaces.{is_as_read}
@@ -23,6 +24,6 @@ edited_of path change document text written edited has before is = record {
   locations = edited.locations;
   targets = λ as_read.
       let same : view document.image ≡ before = let both : (let o : Option Data = Some (view document.image) in o) ≡ Some before = sym (has as_read) ∙ is in cc in
-      subst (λ (d : Data). AreTargets path d edited.locations) same (edited.targets as_read);
+      subst (λ (d : Data). AreTargets path (document_of d) edited.locations) same (edited.targets as_read);
   reads = edited.reads has before is;
 }

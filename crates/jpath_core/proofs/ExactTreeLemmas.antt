@@ -8,14 +8,16 @@ use Rattle.std.proofs.lemmas.List.Elements.{filter-append}
 use Rattle.json.specs.Json as json
 use Rattle.json.specs.Json.{Json}
 use Rattle.json.specs.Find as exact
-use Rattle.serde_json.specs.Data.{Num, Data, null, boolean, number, string, array, object, Items, no_items, item, no_members}
-use Rattle.serde_json.specs.Events.{items_len}
-use Rattle.serde_json.specs.Find.{get as get_data}
+use Rattle.serde_json.specs.Data as kept
+use Rattle.serde_json.specs.Data.{Num, Data}
 use Rattle.serde_json.specs.Read.{of_json, of_items, of_members, number_of}
 use Rattle.jsonpath_paths.specs.tree.Tree as tree
 use Rattle.jsonpath_paths.specs.declared.text.str_reader.StrRange.{StrRange}
 use Rattle.jsonpath_paths.specs.declared.token.tokens.ParseToken.{ParseToken}
 use Rattle.jsonpath_paths.specs.declared.token.tokens.ParseToken.TheVariants as token
+use Rattle.jsonpath_nodes.specs.document.Document.{Document, array, Items, no_items, item}
+use Rattle.jsonpath_nodes.specs.document.Find.{get as get_document, items_len}
+use Rattle.jsonpath_nodes.specs.document.OfData.{document_of, items_of}
 use Rattle.jsonpath_nodes.specs.place.Location.{Step, name, index, Location, at, indexes_from, flat, flat_items}
 use Rattle.jsonpath_nodes.specs.step.Steps.{Plain, every, named, range, single_steps, from, from_each, step, flattened, count_up, is_in_range}
 use Rattle.jsonpath_nodes.specs.compare.Comparisons.{Seen, seen}
@@ -25,22 +27,22 @@ use Rattle.jsonpath_select.specs.Parts.{name_at, plain_of, has_pair, joined}
 use Rattle.jpath_edits.specs.ExactAt.{exact_child, exact_at}
 use Rattle.jpath_core.specs.AlongExactTree.{StandIn, list_of, items_in, is_no_object, is_no_array, are_no_arrays, is_shallow, spread, seen_number, seen_exact, key_of, member_key, member_of, is_member_term, is_simple_term, is_simple, values_exact, holds_exact, both, part_by, part, walk, walk_all}
 use Rattle.jpath_core.proofs.WalkLemmas.{both_empty, both_none, both_assoc}
-use Rattle.jpath_core.proofs.CarryLemmas.{pick, mapped_some, child_carries, location_carries, exact_at-last}
+use Rattle.jpath_core.proofs.CarryLemmas.{pick, mapped_some, document_read, child_carries, location_carries, exact_at-last}
 
 -- ---- one value
 
 -- what stands in the tree stands in the image
-pub carried_at : (j : Json) (d : Data) (l : Location) (x : Json) → of_json j ≡ Some d → Some x ≡ exact_at j l → (y : Data) × (at d l ≡ Some y) × (of_json x ≡ Some y)
-carried_at j d l x image here = by_value (at d l) refl (ap (option_map of_json) here ∙ location_carries l j d image)
+pub carried_at : (j : Json) (d : Data) (l : Location) (x : Json) → of_json j ≡ Some d → Some x ≡ exact_at j l → (y : Data) × (at (document_of d) l ≡ Some (document_of y)) × (of_json x ≡ Some y)
+carried_at j d l x image here = by_value (at (document_of d) l) refl (ap (option_map document_read) here ∙ location_carries l j d image)
   where
-    by_value : (o : Option Data) → at d l ≡ o → Some (of_json x) ≡ option_map Some o → (y : Data) × (at d l ≡ Some y) × (of_json x ≡ Some y)
+    by_value : (o : Option Document) → at (document_of d) l ≡ o → Some (document_read x) ≡ option_map Some o → (y : Data) × (at (document_of d) l ≡ Some (document_of y)) × (of_json x ≡ Some y)
     by_value None is e = absurd (cc)
-    by_value (Some y) is e = (y, is, ap (pick None) e)
+    by_value (Some w) is e = let read = mapped_some document_of (of_json x) w (ap (pick None) e) in (read.0, is ∙ ap Some read.2, read.1)
 
 below_here : (j : Json) (l : Location) (x : Json) (s : Step) → Some x ≡ exact_at j l → exact_at j (l ++ s ∷ []) ≡ exact_child s x
 below_here j l x s here = exact_at-last l s j ∙ ap (option_and_then (exact_child s)) (sym here)
 
-from_here : (d : Data) (f : Data → List Location) (l : Location) (y : Data) → at d l ≡ Some y → from d f l ≡ map (λ m. l ++ m) (f y)
+from_here : (d : Document) (f : Document → List Location) (l : Location) (y : Document) → at d l ≡ Some y → from d f l ≡ map (λ m. l ++ m) (f y)
 from_here d f l y is = ap (λ o. map (λ m. l ++ m) (unwrap_or (option_map f o) [])) is
 
 -- ---- lists of them
@@ -54,7 +56,7 @@ stand_append j (l ∷ ls) ms (x ∷ js) ks h i =
     let later : StandIn j ls js = cc in
     ap₂ (λ o os. o ∷ os) here (stand_append j ls ms js ks later i)
 
-module _ (j : Json) (d : Data) (f : Data → List Location) (g : Json → List Json) (ok : Json → Bool) where
+module _ (j : Json) (d : Document) (f : Document → List Location) (g : Json → List Json) (ok : Json → Bool) where
   pub each_stand : ((l : Location) (x : Json) → ok x ≡ true → Some x ≡ exact_at j l → StandIn j (from d f l) (g x))
       → (ls : List Location) (js : List Json) → list_all ok js ≡ true → StandIn j ls js → StandIn j (from_each d f ls) (flat_map g js)
   each_stand one [] [] all h = refl
@@ -76,38 +78,38 @@ all_always (x ∷ js) = all_always js
 
 -- ---- a name
 
-named_cases : (j x : Json) (l : Location) (k : List ℕ) (o : Option Json) (p : Option Data) → Some x ≡ exact_at j l → exact.get k x ≡ o → option_map of_json o ≡ option_map Some p
+named_cases : (j x : Json) (l : Location) (k : List ℕ) (o : Option Json) (p : Option Document) → Some x ≡ exact_at j l → exact.get k x ≡ o → option_map document_read o ≡ option_map Some p
     → StandIn j (map (λ m. l ++ m) (map (λ s. s ∷ []) (cond (is_some p) (name k ∷ []) []))) (option_to_list o)
 named_cases j x l k None None here is e = refl
 named_cases j x l k None (Some w) here is e = absurd (cc)
 named_cases j x l k (Some z) None here is e = absurd (cc)
 named_cases j x l k (Some z) (Some w) here is e = ap (λ o. o ∷ []) (sym is ∙ sym (below_here j l x (name k) here))
 
-pub named_from : (j : Json) (d : Data) (k : List ℕ) → of_json j ≡ Some d → (l : Location) (x : Json) → Some x ≡ exact_at j l → StandIn j (from d (single_steps (named k)) l) (option_to_list (exact.get k x))
+pub named_from : (j : Json) (d : Data) (k : List ℕ) → of_json j ≡ Some d → (l : Location) (x : Json) → Some x ≡ exact_at j l → StandIn j (from (document_of d) (single_steps (named k)) l) (option_to_list (exact.get k x))
 named_from j d k image l x here =
     let held = carried_at j d l x image here in
-    let leads = from_here d (single_steps (named k)) l held.0 held.1 in
-    named_cases j x l k (exact.get k x) (get_data k held.0) here refl (child_carries (name k) x held.0 held.2) ∙ ap (map (exact_at j)) (sym leads)
+    let leads = from_here (document_of d) (single_steps (named k)) l (document_of held.0) held.1 in
+    named_cases j x l k (exact.get k x) (get_document k (document_of held.0)) here refl (child_carries (name k) x held.0 held.2) ∙ ap (map (exact_at j)) (sym leads)
 
 pub named_stand : (j : Json) (d : Data) (k : List ℕ) → of_json j ≡ Some d → (ls : List Location) (js : List Json) → StandIn j ls js
-    → StandIn j (step d (named k) ls) (flat_map (λ x. option_to_list (exact.get k x)) js)
-named_stand j d k image ls js h = each_stand j d (single_steps (named k)) (λ x. option_to_list (exact.get k x)) always (λ l x all here. named_from j d k image l x here) ls js (all_always js) h
+    → StandIn j (step (document_of d) (named k) ls) (flat_map (λ x. option_to_list (exact.get k x)) js)
+named_stand j d k image ls js h = each_stand j (document_of d) (single_steps (named k)) (λ x. option_to_list (exact.get k x)) always (λ l x all here. named_from j d k image l x here) ls js (all_always js) h
 
 -- ---- items
 
-item_read : (x : Json) (js : json.Items) (ds : Items) → of_items (json.item x js) ≡ Some ds → (y : Data) × (es : Items) × (of_json x ≡ Some y) × (of_items js ≡ Some es) × (ds ≡ item y es)
+item_read : (x : Json) (js : json.Items) (ds : kept.Items) → of_items (json.item x js) ≡ Some ds → (y : Data) × (es : kept.Items) × (of_json x ≡ Some y) × (of_items js ≡ Some es) × (ds ≡ kept.item y es)
 item_read x js ds e = by_both (of_json x) (of_items js) refl refl e
   where
-    by_both : (o : Option Data) (p : Option Items) → of_json x ≡ o → of_items js ≡ p → option_and_then (λ d. option_map (item d) p) o ≡ Some ds
-        → (y : Data) × (es : Items) × (of_json x ≡ Some y) × (of_items js ≡ Some es) × (ds ≡ item y es)
+    by_both : (o : Option Data) (p : Option kept.Items) → of_json x ≡ o → of_items js ≡ p → option_and_then (λ d. option_map (kept.item d) p) o ≡ Some ds
+        → (y : Data) × (es : kept.Items) × (of_json x ≡ Some y) × (of_items js ≡ Some es) × (ds ≡ kept.item y es)
     by_both None p is more e = absurd (cc)
     by_both (Some y) None is more e = absurd (cc)
     by_both (Some y) (Some es) is more e = (y, es, is, more, sym (ap (pick ds) e))
 
-items_stand : (j : Json) (l : Location) (n : ℕ) (js : json.Items) (ds : Items) → of_items js ≡ Some ds → ((i : ℕ) → exact_at j (l ++ index (i + n) ∷ []) ≡ exact.get_item i js)
-    → StandIn j (map (λ m. l ++ m) (map (λ s. s ∷ []) (indexes_from n ds))) (list_of js)
+items_stand : (j : Json) (l : Location) (n : ℕ) (js : json.Items) (ds : kept.Items) → of_items js ≡ Some ds → ((i : ℕ) → exact_at j (l ++ index (i + n) ∷ []) ≡ exact.get_item i js)
+    → StandIn j (map (λ m. l ++ m) (map (λ s. s ∷ []) (indexes_from n (items_of ds)))) (list_of js)
 items_stand j l n json.no_items ds read there =
-    let none : no_items ≡ ds = ap (pick ds) read in
+    let none : kept.no_items ≡ ds = ap (pick ds) read in
     rw (← none) refl
 items_stand j l n (json.item x js) ds read there =
     let parts = item_read x js ds read in
@@ -116,8 +118,8 @@ items_stand j l n (json.item x js) ds read there =
     let first : 0 + n ≡ n = omega arith in
     rw (parts.4) (ap₂ (λ o os. o ∷ os) (sym (there 0) ∙ ap (λ k. exact_at j (l ++ index k ∷ [])) first) (items_stand j l (suc n) js parts.1 parts.3 later))
 
-array_read : (js : json.Items) (y : Data) → of_json (json.array js) ≡ Some y → (ds : Items) × (of_items js ≡ Some ds) × (y ≡ array ds)
-array_read js y e = mapped_some array (of_items js) y e
+array_read : (js : json.Items) (y : Data) → of_json (json.array js) ≡ Some y → (ds : kept.Items) × (of_items js ≡ Some ds) × (y ≡ kept.array ds)
+array_read js y e = mapped_some kept.array (of_items js) y e
 
 items_below : (j : Json) (l : Location) (js : json.Items) → Some (json.array js) ≡ exact_at j l → (i : ℕ) → exact_at j (l ++ index (i + 0) ∷ []) ≡ exact.get_item i js
 items_below j l js here i =
@@ -126,22 +128,22 @@ items_below j l js here i =
 
 -- a value that is no array and no object
 pub data IsPlain (y : Data) : Type 0 where
-  is_null : y ≡ null → IsPlain y
-  is_boolean : (b : Bool) → y ≡ boolean b → IsPlain y
-  is_number : (n : Num) → y ≡ number n → IsPlain y
-  is_string : (s : List ℕ) → y ≡ string s → IsPlain y
+  is_null : y ≡ kept.null → IsPlain y
+  is_boolean : (b : Bool) → y ≡ kept.boolean b → IsPlain y
+  is_number : (n : Num) → y ≡ kept.number n → IsPlain y
+  is_string : (s : List ℕ) → y ≡ kept.string s → IsPlain y
 
-nowhere : (j : Json) (l : Location) (y : Data) → IsPlain y → StandIn j (map (λ m. l ++ m) (single_steps every y)) []
+nowhere : (j : Json) (l : Location) (y : Data) → IsPlain y → StandIn j (map (λ m. l ++ m) (single_steps every (document_of y))) []
 nowhere j l y (is_null e) = rw e refl
 nowhere j l y (is_boolean b e) = rw e refl
 nowhere j l y (is_number n e) = rw e refl
 nowhere j l y (is_string s e) = rw e refl
 
 items_of_value : (j : Json) (l : Location) (x : Json) (y : Data) → is_no_object x ≡ true → Some x ≡ exact_at j l → of_json x ≡ Some y
-    → StandIn j (map (λ m. l ++ m) (single_steps every y)) (items_in x)
+    → StandIn j (map (λ m. l ++ m) (single_steps every (document_of y))) (items_in x)
 items_of_value j l json.null y ok here e = nowhere j l y (is_null (sym (ap (pick y) e)))
 items_of_value j l (json.boolean b) y ok here e = nowhere j l y (is_boolean b (sym (ap (pick y) e)))
-items_of_value j l (json.number s) y ok here e = let n = mapped_some number (number_of s) y e in nowhere j l y (is_number n.0 n.2)
+items_of_value j l (json.number s) y ok here e = let n = mapped_some kept.number (number_of s) y e in nowhere j l y (is_number n.0 n.2)
 items_of_value j l (json.string s) y ok here e = nowhere j l y (is_string s (sym (ap (pick y) e)))
 items_of_value j l (json.array js) y ok here e =
     let ds = array_read js y e in
@@ -149,10 +151,10 @@ items_of_value j l (json.array js) y ok here e =
 items_of_value j l (json.object ms) y ok here e = absurd (cc)
 
 pub items_stand_in : (j : Json) (d : Data) → of_json j ≡ Some d → (ls : List Location) (js : List Json) → list_all is_no_object js ≡ true → StandIn j ls js
-    → StandIn j (step d every ls) (flat_map items_in js)
+    → StandIn j (step (document_of d) every ls) (flat_map items_in js)
 items_stand_in j d image ls js all h =
-    each_stand j d (single_steps every) items_in is_no_object
-    (λ l x ok here. let held = carried_at j d l x image here in items_of_value j l x held.0 ok here held.2 ∙ ap (map (exact_at j)) (sym (from_here d (single_steps every) l held.0 held.1)))
+    each_stand j (document_of d) (single_steps every) items_in is_no_object
+    (λ l x ok here. let held = carried_at j d l x image here in items_of_value j l x held.0 ok here held.2 ∙ ap (map (exact_at j)) (sym (from_here (document_of d) (single_steps every) l (document_of held.0) held.1)))
     ls js all h
 
 -- ---- where no object stands, all items are the range over all
@@ -175,22 +177,22 @@ range_items : (ds : Items) → single_steps every (array ds) ≡ single_steps (r
 range_items ds =
     ap (map (λ s. s ∷ [])) (counted 0 ds ∙ ap (map index) (sym (all_pass (is_in_range 0 (items_len ds) 1) 0 (items_len ds) (λ i less. in_all (items_len ds) i (omega (arith, less))))))
 
-range_plain : (y : Data) → IsPlain y → single_steps every y ≡ single_steps (range None None None) y
+range_plain : (y : Data) → IsPlain y → single_steps every (document_of y) ≡ single_steps (range None None None) (document_of y)
 range_plain y (is_null e) = rw e refl
 range_plain y (is_boolean b e) = rw e refl
 range_plain y (is_number n e) = rw e refl
 range_plain y (is_string s e) = rw e refl
 
-as_range : (x : Json) (y : Data) → is_no_object x ≡ true → of_json x ≡ Some y → single_steps every y ≡ single_steps (range None None None) y
+as_range : (x : Json) (y : Data) → is_no_object x ≡ true → of_json x ≡ Some y → single_steps every (document_of y) ≡ single_steps (range None None None) (document_of y)
 as_range json.null y ok e = range_plain y (is_null (sym (ap (pick y) e)))
 as_range (json.boolean b) y ok e = range_plain y (is_boolean b (sym (ap (pick y) e)))
-as_range (json.number s) y ok e = let n = mapped_some number (number_of s) y e in range_plain y (is_number n.0 n.2)
+as_range (json.number s) y ok e = let n = mapped_some kept.number (number_of s) y e in range_plain y (is_number n.0 n.2)
 as_range (json.string s) y ok e = range_plain y (is_string s (sym (ap (pick y) e)))
-as_range (json.array js) y ok e = let ds = array_read js y e in rw ds.2 (range_items ds.0)
+as_range (json.array js) y ok e = let ds = array_read js y e in rw ds.2 (range_items (items_of ds.0))
 as_range (json.object ms) y ok e = absurd (cc)
 
 as_range_from : (j : Json) (d : Data) → of_json j ≡ Some d → (ls : List Location) (js : List Json) → list_all is_no_object js ≡ true → StandIn j ls js
-    → step d every ls ≡ step d (range None None None) ls
+    → step (document_of d) every ls ≡ step (document_of d) (range None None None) ls
 as_range_from j d image [] [] all h = refl
 as_range_from j d image [] (x ∷ js) all h = absurd (cc)
 as_range_from j d image (l ∷ ls) [] all h = absurd (cc)
@@ -200,31 +202,31 @@ as_range_from j d image (l ∷ ls) (x ∷ js) all h =
     let both = and_parts (is_no_object x) (list_all is_no_object js) all in
     let held = carried_at j d l x image here in
     ap₂ (λ (ms ns : List Location). ms ++ ns)
-    (from_here d (single_steps every) l held.0 held.1 ∙ ap (map (λ m. l ++ m)) (as_range x held.0 both.0 held.2) ∙ sym (from_here d (single_steps (range None None None)) l held.0 held.1))
+    (from_here (document_of d) (single_steps every) l (document_of held.0) held.1 ∙ ap (map (λ m. l ++ m)) (as_range x held.0 both.0 held.2) ∙ sym (from_here (document_of d) (single_steps (range None None None)) l (document_of held.0) held.1))
     (as_range_from j d image ls js both.1 later)
 
 -- ---- candidates
 
-flat_alone : (x : Json) (y : Data) → is_no_array x ≡ true → of_json x ≡ Some y → flat y ≡ [] ∷ []
+flat_alone : (x : Json) (y : Data) → is_no_array x ≡ true → of_json x ≡ Some y → flat (document_of y) ≡ [] ∷ []
 flat_alone json.null y ok e = rw (← ap (pick y) e) refl
 flat_alone (json.boolean b) y ok e = rw (← ap (pick y) e) refl
-flat_alone (json.number s) y ok e = let n = mapped_some number (number_of s) y e in rw n.2 refl
+flat_alone (json.number s) y ok e = let n = mapped_some kept.number (number_of s) y e in rw n.2 refl
 flat_alone (json.string s) y ok e = rw (← ap (pick y) e) refl
 flat_alone (json.array js) y ok e = absurd (cc)
-flat_alone (json.object ms) y ok e = let fs = mapped_some object (of_members ms no_members) y e in rw fs.2 refl
+flat_alone (json.object ms) y ok e = let fs = mapped_some kept.object (of_members ms kept.no_members) y e in rw fs.2 refl
 
-flat_items_are : (n : ℕ) (js : json.Items) (ds : Items) → are_no_arrays js ≡ true → of_items js ≡ Some ds → flat_items n ds ≡ map (λ s. s ∷ []) (indexes_from n ds)
-flat_items_are n json.no_items ds ok read = let none : no_items ≡ ds = ap (pick ds) read in rw (← none) refl
+flat_items_are : (n : ℕ) (js : json.Items) (ds : kept.Items) → are_no_arrays js ≡ true → of_items js ≡ Some ds → flat_items n (items_of ds) ≡ map (λ s. s ∷ []) (indexes_from n (items_of ds))
+flat_items_are n json.no_items ds ok read = let none : kept.no_items ≡ ds = ap (pick ds) read in rw (← none) refl
 flat_items_are n (json.item x js) ds ok read =
     let parts = item_read x js ds read in
     let both = and_parts (is_no_array x) (are_no_arrays js) ok in
     rw (parts.4) (ap₂ (λ (ms ns : List Location). ms ++ ns) (ap (map (λ l. index n ∷ l)) (flat_alone x parts.0 both.0 parts.2)) (flat_items_are (suc n) js parts.1 both.1 parts.3))
 
-itself : (j : Json) (l : Location) (x : Json) (y : Data) → flat y ≡ [] ∷ [] → Some x ≡ exact_at j l → StandIn j (map (λ m. l ++ m) (flat y)) (x ∷ [])
+itself : (j : Json) (l : Location) (x : Json) (y : Data) → flat (document_of y) ≡ [] ∷ [] → Some x ≡ exact_at j l → StandIn j (map (λ m. l ++ m) (flat (document_of y))) (x ∷ [])
 itself j l x y alone here = rw alone (ap (λ o. o ∷ []) (here ∙ ap (exact_at j) (sym (append-nil l))))
 
 spread_value : (j : Json) (l : Location) (x : Json) (y : Data) → is_shallow x ≡ true → Some x ≡ exact_at j l → of_json x ≡ Some y
-    → StandIn j (map (λ m. l ++ m) (flat y)) (spread x)
+    → StandIn j (map (λ m. l ++ m) (flat (document_of y))) (spread x)
 spread_value j l json.null y ok here e = itself j l json.null y (flat_alone json.null y refl e) here
 spread_value j l (json.boolean b) y ok here e = itself j l (json.boolean b) y (flat_alone (json.boolean b) y refl e) here
 spread_value j l (json.number s) y ok here e = itself j l (json.number s) y (flat_alone (json.number s) y refl e) here
@@ -235,10 +237,10 @@ spread_value j l (json.array js) y ok here e =
 spread_value j l (json.object ms) y ok here e = itself j l (json.object ms) y (flat_alone (json.object ms) y refl e) here
 
 spread_stand_in : (j : Json) (d : Data) → of_json j ≡ Some d → (ls : List Location) (js : List Json) → list_all is_shallow js ≡ true → StandIn j ls js
-    → StandIn j (from_each d flat ls) (flat_map spread js)
+    → StandIn j (from_each (document_of d) flat ls) (flat_map spread js)
 spread_stand_in j d image ls js all h =
-    each_stand j d flat spread is_shallow
-    (λ l x ok here. let held = carried_at j d l x image here in spread_value j l x held.0 ok here held.2 ∙ ap (map (exact_at j)) (sym (from_here d flat l held.0 held.1)))
+    each_stand j (document_of d) flat spread is_shallow
+    (λ l x ok here. let held = carried_at j d l x image here in spread_value j l x held.0 ok here held.2 ∙ ap (map (exact_at j)) (sym (from_here (document_of d) flat l (document_of held.0) held.1)))
     ls js all h
 
 -- ---- what a condition keeps
@@ -259,15 +261,15 @@ kept_stand j p q same (l ∷ ls) (x ∷ js) h =
 
 -- ---- what conditions see
 
-seen_alike : (x : Json) (y : Data) → of_json x ≡ Some y → seen_exact x ≡ seen y
+seen_alike : (x : Json) (y : Data) → of_json x ≡ Some y → seen_exact x ≡ seen (document_of y)
 seen_alike json.null y e = rw (← ap (pick y) e) refl
 seen_alike (json.boolean b) y e = rw (← ap (pick y) e) refl
-seen_alike (json.number s) y e = let n = mapped_some number (number_of s) y e in ap seen_number n.1 ∙ sym (ap seen n.2)
+seen_alike (json.number s) y e = let n = mapped_some kept.number (number_of s) y e in ap seen_number n.1 ∙ sym (ap (λ z. seen (document_of z)) n.2)
 seen_alike (json.string s) y e = rw (← ap (pick y) e) refl
 seen_alike (json.array js) y e = let ds = array_read js y e in rw ds.2 refl
-seen_alike (json.object ms) y e = let fs = mapped_some object (of_members ms no_members) y e in rw fs.2 refl
+seen_alike (json.object ms) y e = let fs = mapped_some kept.object (of_members ms kept.no_members) y e in rw fs.2 refl
 
-seen_there : (j : Json) (d : Data) → of_json j ≡ Some d → (ls : List Location) (js : List Json) → StandIn j ls js → values_at d ls ≡ map seen_exact js
+seen_there : (j : Json) (d : Data) → of_json j ≡ Some d → (ls : List Location) (js : List Json) → StandIn j ls js → values_at (document_of d) ls ≡ map seen_exact js
 seen_there j d image [] [] h = refl
 seen_there j d image [] (x ∷ js) h = absurd (cc)
 seen_there j d image (l ∷ ls) [] h = absurd (cc)
@@ -284,7 +286,7 @@ some_there j (l ∷ ls) None h = absurd (cc)
 some_there j (l ∷ ls) (Some x) h = refl
 
 -- a path of one name leads from a candidate as the name does
-one_name : (text : List ℕ) (d : Data) (p : tree.Path) (s : StrRange) → member_key p ≡ Some s → (c : Location) → reached text d p c ≡ step d (named (name_at text s)) (c ∷ [])
+one_name : (text : List ℕ) (d : Document) (p : tree.Path) (s : StrRange) → member_key p ≡ Some s → (c : Location) → reached text d p c ≡ step d (named (name_at text s)) (c ∷ [])
 one_name text d (tree.path true steps) s e c = absurd (cc)
 one_name text d (tree.path false tree.no_steps) s e c = absurd (cc)
 one_name text d (tree.path false (tree.step_then true bracket inner rest)) s e c = absurd (cc)
@@ -298,19 +300,19 @@ one_name text d (tree.path false (tree.step_then false bracket (tree.plain t) tr
 
 module _ (text : List ℕ) (j : Json) (d : Data) (image : of_json j ≡ Some d) where
   member_stands : (p : tree.Path) (o : Option StrRange) → member_key p ≡ o → is_some o ≡ true → (c : Location) (x : Json) → Some x ≡ exact_at j c
-      → StandIn j (reached text d p c) (option_to_list (member_of text p x))
+      → StandIn j (reached text (document_of d) p c) (option_to_list (member_of text p x))
   member_stands p None e some c x here = absurd (cc)
   member_stands p (Some s) e some c x here =
-      let leads = one_name text d p s e c in
-      let found : StandIn j (step d (named (name_at text s)) (c ∷ [])) (option_to_list (exact.get (name_at text s) x) ++ []) = named_stand j d (name_at text s) image (c ∷ []) (x ∷ []) (ap (λ q. q ∷ []) here) in
+      let leads = one_name text (document_of d) p s e c in
+      let found : StandIn j (step (document_of d) (named (name_at text s)) (c ∷ [])) (option_to_list (exact.get (name_at text s) x) ++ []) = named_stand j d (name_at text s) image (c ∷ []) (x ∷ []) (ap (λ q. q ∷ []) here) in
       rw (leads, e) (rw (append-nil (option_to_list (exact.get (name_at text s) x))) at found)
 
-  sides_alike : (t : tree.Term) → is_simple_term t ≡ true → (c : Location) (x : Json) → Some x ≡ exact_at j c → values text d t c ≡ values_exact text t x
-  sides_alike (tree.at_path p) ok c x here = seen_there j d image (reached text d p c) (option_to_list (member_of text p x)) (member_stands p (member_key p) refl ok c x here)
+  sides_alike : (t : tree.Term) → is_simple_term t ≡ true → (c : Location) (x : Json) → Some x ≡ exact_at j c → values text (document_of d) t c ≡ values_exact text t x
+  sides_alike (tree.at_path p) ok c x here = seen_there j d image (reached text (document_of d) p c) (option_to_list (member_of text p x)) (member_stands p (member_key p) refl ok c x here)
   sides_alike (tree.literal t) ok c x here = refl
 
-  pub decided_alike : (f : tree.Condition) → is_simple f ≡ true → (c : Location) (x : Json) → Some x ≡ exact_at j c → holds text d f c ≡ holds_exact text f x
-  decided_alike (tree.lone p) ok c x here = some_there j (reached text d p c) (member_of text p x) (member_stands p (member_key p) refl ok c x here)
+  pub decided_alike : (f : tree.Condition) → is_simple f ≡ true → (c : Location) (x : Json) → Some x ≡ exact_at j c → holds text (document_of d) f c ≡ holds_exact text f x
+  decided_alike (tree.lone p) ok c x here = some_there j (reached text (document_of d) p c) (member_of text p x) (member_stands p (member_key p) refl ok c x here)
   decided_alike (tree.compare l op r) ok c x here =
       let parts = and_parts (is_simple_term l && is_simple_term r) (is_member_term l || is_member_term r) ok in
       let both = and_parts (is_simple_term l) (is_simple_term r) parts.0 in
@@ -373,7 +375,7 @@ all_refused [] found e = (refl, sym (ap (pick found) e))
 all_refused (x ∷ js) found e = absurd (cc)
 
 -- nothing leads from nowhere
-inner_nowhere : (text : List ℕ) (d : Data) (inner : tree.Inner) (leaves : Bool) → inner_on text d inner leaves [] ≡ []
+inner_nowhere : (text : List ℕ) (d : Document) (inner : tree.Inner) (leaves : Bool) → inner_on text d inner leaves [] ≡ []
 inner_nowhere text d (tree.plain t) true = refl
 inner_nowhere text d (tree.plain t) false = refl
 inner_nowhere text d (tree.filter f) true = by_own (has_own_step f)
@@ -387,7 +389,7 @@ inner_nowhere text d (tree.filter f) false = by_own (has_own_step f)
     by_own true = refl
     by_own false = refl
 
-follow_nowhere : (text : List ℕ) (d : Data) (steps : tree.PathSteps) → follow text d steps [] ≡ []
+follow_nowhere : (text : List ℕ) (d : Document) (steps : tree.PathSteps) → follow text d steps [] ≡ []
 follow_nowhere text d tree.no_steps = refl
 follow_nowhere text d (tree.step_then leaves bracket inner rest) = ap (follow text d rest) (inner_nowhere text d inner leaves) ∙ follow_nowhere text d rest
 
@@ -434,33 +436,33 @@ shallow_all b (x ∷ js) h =
 module _ (text : List ℕ) (j : Json) (d : Data) (image : of_json j ≡ Some d) (names_stand_apart : NamesStandApart) (range_stands_apart : RangeStandsApart) (kept_stand_apart : KeptStandApart)
     (candidates_stand_apart : CandidatesStandApart) (apart_has_no_repeat : ApartHasNoRepeat) (apart_has_no_repeat_flat : ApartHasNoRepeatFlat) where
   Leads : tree.Inner → List Location → List Json → Type 0
-  Leads inner ls mid = IsApart (inner_on text d inner false ls) × StandIn j (inner_on text d inner false ls) mid
+  Leads inner ls mid = IsApart (inner_on text (document_of d) inner false ls) × StandIn j (inner_on text (document_of d) inner false ls) mid
 
   from_none : (inner : tree.Inner) (ls : List Location) (js mid : List Json) → js ≡ [] → mid ≡ [] → IsApart ls → StandIn j ls js → Leads inner ls mid
   unfolding Leads
   from_none inner ls js mid none nothing apart h =
       let empty = stand_none j ls js none h in
-      let led : inner_on text d inner false ls ≡ [] = ap (inner_on text d inner false) empty ∙ inner_nowhere text d inner false in
+      let led : inner_on text (document_of d) inner false ls ≡ [] = ap (inner_on text (document_of d) inner false) empty ∙ inner_nowhere text (document_of d) inner false in
       (subst IsApart (empty ∙ sym led) apart, rw (led, nothing) refl)
 
   plain_stands : (t : ParseToken) (ls : List Location) (js mid : List Json) → IsApart ls → StandIn j ls js → walk_all (part_by text t) js ≡ Some mid → Leads (tree.plain t) ls mid
   unfolding Leads
   plain_stands (token.Key s) ls js mid apart h e =
       let found = all_given (λ x. option_to_list (exact.get (name_at text s) x)) js mid e in
-      (names_stand_apart d (name_at text s) ls (apart_has_no_repeat ls apart), rw found (named_stand j d (name_at text s) image ls js h))
+      (names_stand_apart (document_of d) (name_at text s) ls (apart_has_no_repeat ls apart), rw found (named_stand j d (name_at text s) image ls js h))
   plain_stands token.All ls js mid apart h e =
       let found = all_passed is_no_object items_in js mid e in
-      (subst IsApart (sym (as_range_from j d image ls js found.0 h)) (range_stands_apart d None None None ls apart), rw found.1 (items_stand_in j d image ls js found.0 h))
+      (subst IsApart (sym (as_range_from j d image ls js found.0 h)) (range_stands_apart (document_of d) None None None ls apart), rw found.1 (items_stand_in j d image ls js found.0 h))
   plain_stands t ls js mid apart h e = let none = all_refused js mid e in from_none (tree.plain t) ls js mid none.0 none.1 apart h
 
   filter_stands : (f : tree.Condition) (ls : List Location) (js mid : List Json) → is_simple f ≡ true → IsApart ls → StandIn j ls js → list_all is_shallow js ≡ true
       → mid ≡ filter (holds_exact text f) (flat_map spread js) → Leads (tree.filter f) ls mid
   unfolding Leads
   filter_stands f ls js mid ok apart h shallow is =
-      let all : candidates d f ls ≡ flattened d ls = rw (own_step f ok) refl in
-      let flat_all : flattened d ls ≡ from_each d flat ls = apart_has_no_repeat_flat d ls apart in
-      let kept = kept_stand j (λ c. holds text d f c) (holds_exact text f) (λ l x here. decided_alike text j d image f ok l x here) (from_each d flat ls) (flat_map spread js) (spread_stand_in j d image ls js shallow h) in
-      (rw all (kept_stand_apart (λ c. holds text d f c) (flattened d ls) (candidates_stand_apart d ls)), rw (all, flat_all, is) kept)
+      let all : candidates (document_of d) f ls ≡ flattened (document_of d) ls = rw (own_step f ok) refl in
+      let flat_all : flattened (document_of d) ls ≡ from_each (document_of d) flat ls = apart_has_no_repeat_flat (document_of d) ls apart in
+      let passed = kept_stand j (λ c. holds text (document_of d) f c) (holds_exact text f) (λ l x here. decided_alike text j d image f ok l x here) (from_each (document_of d) flat ls) (flat_map spread js) (spread_stand_in j d image ls js shallow h) in
+      (rw all (kept_stand_apart (λ c. holds text (document_of d) f c) (flattened (document_of d) ls) (candidates_stand_apart (document_of d) ls)), rw (all, flat_all, is) passed)
 
   step_stands : (inner : tree.Inner) (ls : List Location) (js mid : List Json) → IsApart ls → StandIn j ls js → walk_all (part text inner) js ≡ Some mid → Leads inner ls mid
   step_stands (tree.plain t) ls js mid apart h e = plain_stands t ls js mid apart h e
@@ -471,7 +473,7 @@ module _ (text : List ℕ) (j : Json) (d : Data) (image : of_json j ≡ Some d) 
       let ok = (and_parts (is_simple f) (is_shallow x) first.0).0 in
       filter_stands f ls (x ∷ js) mid ok apart h (shallow_all (is_simple f) (x ∷ js) found.0) (found.1 ∙ simple_kept (holds_exact text f) (x ∷ js))
 
-  pub steps_stand : (steps : tree.PathSteps) (ls : List Location) (js found : List Json) → IsApart ls → StandIn j ls js → walk_all (walk text steps) js ≡ Some found → StandIn j (follow text d steps ls) found
+  pub steps_stand : (steps : tree.PathSteps) (ls : List Location) (js found : List Json) → IsApart ls → StandIn j ls js → walk_all (walk text steps) js ≡ Some found → StandIn j (follow text (document_of d) steps ls) found
   unfolding Leads
   steps_stand tree.no_steps ls js found apart h e = rw (all_given (λ x. x ∷ []) js found e ∙ singles js) h
     where
@@ -481,11 +483,11 @@ module _ (text : List ℕ) (j : Json) (d : Data) (image : of_json j ≡ Some d) 
   steps_stand (tree.step_then true bracket inner rest) ls js found apart h e =
       let none = all_refused js found e in
       let empty = stand_none j ls js none.0 h in
-      rw (none.1, empty, follow_nowhere text d (tree.step_then true bracket inner rest)) refl
+      rw (none.1, empty, follow_nowhere text (document_of d) (tree.step_then true bracket inner rest)) refl
   steps_stand (tree.step_then false bracket inner rest) ls js found apart h e =
       let mid = all_at_once (part text inner) (walk text rest) js found e in
       let led = step_stands inner ls js mid.0 apart h mid.1 in
-      steps_stand rest (inner_on text d inner false ls) mid.0 found led.0 led.1 mid.2
+      steps_stand rest (inner_on text (document_of d) inner false ls) mid.0 found led.0 led.1 mid.2
 
 pub stand_length : (j : Json) (ls : List Location) (js : List Json) → StandIn j ls js → length js ≡ length ls
 stand_length j [] [] h = refl

@@ -3,7 +3,7 @@ use Rattle.std.proofs.Common.{◌≡◌, List, [], ◌∷◌, map, Option, Some,
 use Rattle.json.specs.Json.{Json}
 use Rattle.json.specs.Tree.{HasNumbers}
 use Rattle.json.proofs.Numbered.{HasNumbers-at, HasNumbers-get}
-use Rattle.serde_json.specs.Data.{Data}
+use Rattle.jsonpath_nodes.specs.document.Document.{Document}
 use Rattle.jsonpath_nodes.specs.place.Location.{Step, name, index, Location}
 use Rattle.jsonpath_nodes.specs.place.SpotPlace.{look, sight_of, location_of, StandAt}
 use Rattle.jsonpath_nodes.specs.declared.place.spot.Spot.{Spot}
@@ -34,9 +34,9 @@ spots_first : (spots : List Spot) → map (λ p. p.0) (map sight_of spots) ≡ m
 spots_first [] = refl
 spots_first (s ∷ spots) = ap (λ ls. location_of s ∷ ls) (spots_first spots)
 
-looked_first : (doc : Data) (ls : List Location) → map (λ p. p.0) (map (look doc) ls) ≡ ls
+looked_first : (doc : Document) (ls : List Location) → map (λ p. p.0) (map (look doc) ls) ≡ ls
 looked_first doc [] = refl
 looked_first doc (l ∷ ls) = ap (λ ms. l ∷ ms) (looked_first doc ls)
 
-pub locations_of : (doc : Data) (ls : List Location) (spots : List Spot) → StandAt doc ls spots → map location_of spots ≡ ls
+pub locations_of : (doc : Document) (ls : List Location) (spots : List Spot) → StandAt doc ls spots → map location_of spots ≡ ls
 locations_of doc ls spots e = sym (spots_first spots) ∙ ap (map (λ p. p.0)) e ∙ looked_first doc ls

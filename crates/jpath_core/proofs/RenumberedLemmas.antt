@@ -4,15 +4,14 @@ use Rattle.std.specs.Prelude.{ℤ, filter, flat_map, option_map, option_and_then
 use Rattle.std.specs.Cmp.Lexicographic.{slice_cmp}
 use Rattle.std.specs.List.{list_any, cons_option}
 use Rattle.std.specs.Ordering.{match_ordering}
-use Rattle.serde_json.specs.Data.{Num, Data, number, array, object, Items, no_items, item, Members, no_members, member}
-use Rattle.serde_json.specs.Events.{items_len}
-use Rattle.serde_json.specs.Find.{get_item, get_member}
 use Rattle.jsonpath_paths.specs.tree.Tree.{Path, PathSteps, Inner, Condition, Term}
 use Rattle.jsonpath_paths.specs.tree.Tree as tree
 use Rattle.jsonpath_paths.specs.declared.token.tokens.FilterToken.{FilterToken}
 use Rattle.jsonpath_paths.specs.declared.token.tokens.ParseToken.{ParseToken}
+use Rattle.jsonpath_nodes.specs.document.Document.{Number, Document, number, array, object, Items, no_items, item, Members, no_members, member}
+use Rattle.jsonpath_nodes.specs.document.Find.{get_item, get_member, items_len}
 use Rattle.jsonpath_nodes.specs.place.Location.{Step, name, index, Location, at, child, indexes_from, names, children, below, below_items, below_members, flat, flat_items}
-use Rattle.jsonpath_nodes.specs.compare.Comparisons.{Comparison, Seen, null_value, truth, decimal, text, unread, list, members, pair, is_satisfied, seen, seen_units, units_of}
+use Rattle.jsonpath_nodes.specs.compare.Comparisons.{Comparison, Seen, null_value, truth, fraction, text, unread, list, members, pair, is_satisfied, seen}
 use Rattle.jsonpath_nodes.specs.compare.Atoms.{comparison_of}
 use Rattle.jsonpath_nodes.specs.step.Steps.{Plain, every, named, listed, nth, union, range, present, length_of, nth_of, abs_index, range_of, selected, single_steps, step, from, from_each, all_below, each_once, flattened}
 use Rattle.jsonpath_select.specs.Meaning.{has_steps, has_own_step_path, has_own_step_term, has_own_step, candidates, is_some_location, values_at, reached, follow, inner_on, holds, values}
@@ -21,7 +20,7 @@ use Rattle.jpath_core.specs.Renumbered.{KeepsOrder, moved, renumbered, renumbere
 
 -- ---- the same locations, and the same steps
 
-module _ (f : Num → Num) where
+module _ (f : Number → Number) where
   item_moved : (i : ℕ) (ds : Items) → get_item i (renumbered_items f ds) ≡ option_map (renumbered f) (get_item i ds)
   item_moved i no_items = refl
   item_moved zero (item d ds) = refl
@@ -37,16 +36,16 @@ module _ (f : Num → Num) where
       by Equal e = refl
       by Greater e = e
 
-  child_moved : (s : Step) (d : Data) → child s (renumbered f d) ≡ option_map (renumbered f) (child s d)
+  child_moved : (s : Step) (d : Document) → child s (renumbered f d) ≡ option_map (renumbered f) (child s d)
   child_moved (name k) (object ms) = member_moved k ms
   child_moved (index i) (array ds) = item_moved i ds
   child_moved _ _ = refl
 
-  at_moved : (l : Location) (d : Data) → at (renumbered f d) l ≡ option_map (renumbered f) (at d l)
+  at_moved : (l : Location) (d : Document) → at (renumbered f d) l ≡ option_map (renumbered f) (at d l)
   at_moved [] d = refl
   at_moved (s ∷ l) d = ap (option_and_then (λ c. at c l)) (child_moved s d) ∙ by (child s d) (at_moved l)
     where
-      by : (o : Option Data) → ((c : Data) → at (renumbered f c) l ≡ option_map (renumbered f) (at c l))
+      by : (o : Option Document) → ((c : Document) → at (renumbered f c) l ≡ option_map (renumbered f) (at c l))
           → option_and_then (λ c. at c l) (option_map (renumbered f) o) ≡ option_map (renumbered f) (option_and_then (λ c. at c l) o)
       by None go = refl
       by (Some c) go = go c
@@ -59,7 +58,7 @@ module _ (f : Num → Num) where
   names_moved no_members = refl
   names_moved (member k d ms) = ap (λ (ss : List Step). name k ∷ ss) (names_moved ms)
 
-  children_moved : (d : Data) → children (renumbered f d) ≡ children d
+  children_moved : (d : Document) → children (renumbered f d) ≡ children d
   children_moved (array ds) = indexes_moved 0 ds
   children_moved (object ms) = names_moved ms
   children_moved _ = refl
@@ -68,12 +67,12 @@ module _ (f : Num → Num) where
   len_moved no_items = refl
   len_moved (item d ds) = ap suc (len_moved ds)
 
-  length_moved : (d : Data) → length_of (renumbered f d) ≡ length_of d
+  length_moved : (d : Document) → length_of (renumbered f d) ≡ length_of d
   length_moved (array ds) = len_moved ds
   length_moved _ = refl
 
   mutual
-    below_moved : (d : Data) → below (renumbered f d) ≡ below d
+    below_moved : (d : Document) → below (renumbered f d) ≡ below d
     below_moved (array ds) = ap (λ (ls : List Location). [] ∷ ls) (below_items_moved 0 ds)
     below_moved (object ms) = ap (λ (ls : List Location). [] ∷ ls) (below_members_moved ms)
     below_moved _ = refl
@@ -87,7 +86,7 @@ module _ (f : Num → Num) where
     below_members_moved (member k d ms) = ap₂ (λ (x y : List Location). map (λ (l : Location). name k ∷ l) x ++ y) (below_moved d) (below_members_moved ms)
 
   mutual
-    flat_moved : (d : Data) → flat (renumbered f d) ≡ flat d
+    flat_moved : (d : Document) → flat (renumbered f d) ≡ flat d
     flat_moved (array ds) = flat_items_moved 0 ds
     flat_moved _ = refl
 
@@ -95,17 +94,17 @@ module _ (f : Num → Num) where
     flat_items_moved n no_items = refl
     flat_items_moved n (item d ds) = ap₂ (λ (x y : List Location). map (λ (l : Location). index n ∷ l) x ++ y) (flat_moved d) (flat_items_moved (suc n) ds)
 
-  present_moved : (d : Data) (s : Step) → present (renumbered f d) s ≡ present d s
+  present_moved : (d : Document) (s : Step) → present (renumbered f d) s ≡ present d s
   present_moved d s = ap (λ (b : Bool). cond b (s ∷ []) []) (ap is_some (child_moved s d) ∙ by (child s d))
     where
-      by : (o : Option Data) → is_some (option_map (renumbered f) o) ≡ is_some o
+      by : (o : Option Document) → is_some (option_map (renumbered f) o) ≡ is_some o
       by None = refl
       by (Some c) = refl
 
-  nth_moved : (d : Data) (n : ℤ) → nth_of (renumbered f d) n ≡ nth_of d n
+  nth_moved : (d : Document) (n : ℤ) → nth_of (renumbered f d) n ≡ nth_of d n
   nth_moved d n = ap (λ (len : ℕ). present (renumbered f d) (index (abs_index n len))) (length_moved d) ∙ present_moved d (index (abs_index n (length_of d)))
 
-  selected_moved : (p : Plain) (d : Data) → selected p (renumbered f d) ≡ selected p d
+  selected_moved : (p : Plain) (d : Document) → selected p (renumbered f d) ≡ selected p d
   selected_moved every d = children_moved d
   selected_moved (named k) d = present_moved d (name k)
   selected_moved (listed ks) d = λ i. flat_map (λ k. present_moved d (name k) i) ks
@@ -116,30 +115,30 @@ module _ (f : Num → Num) where
       length_moved_in : length_of (renumbered f d) ≡ length_of d → range_of (renumbered f d) first last by ≡ range_of d first last by
       length_moved_in e = rw e refl
 
-  from_moved : (doc : Data) (h : Data → List Location) → ((d : Data) → h (renumbered f d) ≡ h d) → (l : Location) → from (renumbered f doc) h l ≡ from doc h l
-  from_moved doc h same l = ap (λ (o : Option Data). map (λ m. l ++ m) (unwrap_or (option_map h o) [])) (at_moved l doc) ∙ by (at doc l)
+  from_moved : (doc : Document) (h : Document → List Location) → ((d : Document) → h (renumbered f d) ≡ h d) → (l : Location) → from (renumbered f doc) h l ≡ from doc h l
+  from_moved doc h same l = ap (λ (o : Option Document). map (λ m. l ++ m) (unwrap_or (option_map h o) [])) (at_moved l doc) ∙ by (at doc l)
     where
-      by : (o : Option Data) → map (λ m. l ++ m) (unwrap_or (option_map h (option_map (renumbered f) o)) []) ≡ map (λ m. l ++ m) (unwrap_or (option_map h o) [])
+      by : (o : Option Document) → map (λ m. l ++ m) (unwrap_or (option_map h (option_map (renumbered f) o)) []) ≡ map (λ m. l ++ m) (unwrap_or (option_map h o) [])
       by None = refl
       by (Some d) = ap (map (λ (m : Location). l ++ m)) (same d)
 
-  from_each_moved : (doc : Data) (h : Data → List Location) → ((d : Data) → h (renumbered f d) ≡ h d) → (ls : List Location) → from_each (renumbered f doc) h ls ≡ from_each doc h ls
+  from_each_moved : (doc : Document) (h : Document → List Location) → ((d : Document) → h (renumbered f d) ≡ h d) → (ls : List Location) → from_each (renumbered f doc) h ls ≡ from_each doc h ls
   from_each_moved doc h same [] = refl
   from_each_moved doc h same (l ∷ ls) = ap₂ (λ (x y : List Location). x ++ y) (from_moved doc h same l) (from_each_moved doc h same ls)
 
-  step_moved : (doc : Data) (p : Plain) (ls : List Location) → step (renumbered f doc) p ls ≡ step doc p ls
+  step_moved : (doc : Document) (p : Plain) (ls : List Location) → step (renumbered f doc) p ls ≡ step doc p ls
   step_moved doc p = from_each_moved doc (single_steps p) (λ d. ap (map (λ (s : Step). s ∷ [])) (selected_moved p d))
 
-  all_below_moved : (doc : Data) (ls : List Location) → all_below (renumbered f doc) ls ≡ all_below doc ls
+  all_below_moved : (doc : Document) (ls : List Location) → all_below (renumbered f doc) ls ≡ all_below doc ls
   all_below_moved doc = from_each_moved doc below below_moved
 
-  flattened_moved : (doc : Data) (ls : List Location) → flattened (renumbered f doc) ls ≡ flattened doc ls
+  flattened_moved : (doc : Document) (ls : List Location) → flattened (renumbered f doc) ls ≡ flattened doc ls
   flattened_moved doc ls = ap each_once (from_each_moved doc flat flat_moved ls)
 
 -- ---- what comparisons see
 
-pair_moved : (m : ℤ → ℤ) → KeepsOrder m → (op : Comparison) (x y : Seen) → pair op (moved m x) (moved m y) ≡ pair op x y
-pair_moved m keeps op (decimal a) (decimal b) = ap (is_satisfied op) (keeps a b)
+pair_moved : (m : ℤ × ℕ → ℤ × ℕ) → KeepsOrder m → (op : Comparison) (x y : Seen) → pair op (moved m x) (moved m y) ≡ pair op x y
+pair_moved m keeps op (fraction a i) (fraction b j) = ap (is_satisfied op) (keeps (a, i) (b, j))
 pair_moved m keeps op null_value null_value = refl
 pair_moved m keeps op (truth a) null_value = refl
 pair_moved m keeps op (text a) null_value = refl
@@ -148,38 +147,34 @@ pair_moved m keeps op list null_value = refl
 pair_moved m keeps op members null_value = refl
 pair_moved m keeps op _ _ = refl
 
-is_pair_moved : (m : ℤ → ℤ) → KeepsOrder m → (op : FilterToken) (x y : Seen) → is_pair op (moved m x) (moved m y) ≡ is_pair op x y
+is_pair_moved : (m : ℤ × ℕ → ℤ × ℕ) → KeepsOrder m → (op : FilterToken) (x y : Seen) → is_pair op (moved m x) (moved m y) ≡ is_pair op x y
 is_pair_moved m keeps op x y = by (comparison_of op)
   where
     by : (o : Option Comparison) → satisfied_by o (moved m x) (moved m y) ≡ satisfied_by o x y
     by None = refl
     by (Some c) = pair_moved m keeps c x y
 
-any_moved : (m : ℤ → ℤ) (test : Seen → Bool) (xs : List Seen) → list_any test (map (moved m) xs) ≡ list_any (λ x. test (moved m x)) xs
+any_moved : (m : ℤ × ℕ → ℤ × ℕ) (test : Seen → Bool) (xs : List Seen) → list_any test (map (moved m) xs) ≡ list_any (λ x. test (moved m x)) xs
 any_moved m test [] = refl
 any_moved m test (x ∷ xs) = ap (λ (b : Bool). test (moved m x) || b) (any_moved m test xs)
 
-has_pair_moved : (m : ℤ → ℤ) → KeepsOrder m → (op : FilterToken) (xs ys : List Seen) → has_pair op (map (moved m) xs) (map (moved m) ys) ≡ has_pair op xs ys
+has_pair_moved : (m : ℤ × ℕ → ℤ × ℕ) → KeepsOrder m → (op : FilterToken) (xs ys : List Seen) → has_pair op (map (moved m) xs) (map (moved m) ys) ≡ has_pair op xs ys
 has_pair_moved m keeps op xs ys =
     any_moved m (λ x. list_any (λ y. is_pair op x y) (map (moved m) ys)) xs
     ∙ (λ i. list_any (λ x. any_moved m (λ y. is_pair op (moved m x) y) ys i) xs)
     ∙ (λ i. list_any (λ x. list_any (λ y. is_pair_moved m keeps op x y i) ys) xs)
 
-seen_units_moved : (m : ℤ → ℤ) (o : Option ℤ) → seen_units (option_map m o) ≡ moved m (seen_units o)
-seen_units_moved m None = refl
-seen_units_moved m (Some u) = refl
-
-seen_moved : (m : ℤ → ℤ) (f : Num → Num) → MovesNumbers m f → (d : Data) → seen (renumbered f d) ≡ moved m (seen d)
-seen_moved m f moves (number n) = ap seen_units (moves n) ∙ seen_units_moved m (units_of n)
+seen_moved : (m : ℤ × ℕ → ℤ × ℕ) (f : Number → Number) → MovesNumbers m f → (d : Document) → seen (renumbered f d) ≡ moved m (seen d)
+seen_moved m f moves (number n) = moves n
 seen_moved m f moves _ = refl
 
-values_moved : (m : ℤ → ℤ) (f : Num → Num) → MovesNumbers m f → (doc : Data) (ls : List Location) → values_at (renumbered f doc) ls ≡ map (moved m) (values_at doc ls)
+values_moved : (m : ℤ × ℕ → ℤ × ℕ) (f : Number → Number) → MovesNumbers m f → (doc : Document) (ls : List Location) → values_at (renumbered f doc) ls ≡ map (moved m) (values_at doc ls)
 values_moved m f moves doc [] = refl
 values_moved m f moves doc (l ∷ ls) =
-    ap (λ (o : Option Data). cons_option (option_map seen o) (values_at (renumbered f doc) ls)) (at_moved f l doc)
+    ap (λ (o : Option Document). cons_option (option_map seen o) (values_at (renumbered f doc) ls)) (at_moved f l doc)
     ∙ by (at doc l) (values_moved m f moves doc ls)
   where
-    by : (o : Option Data) → values_at (renumbered f doc) ls ≡ map (moved m) (values_at doc ls)
+    by : (o : Option Document) → values_at (renumbered f doc) ls ≡ map (moved m) (values_at doc ls)
         → cons_option (option_map seen (option_map (renumbered f) o)) (values_at (renumbered f doc) ls) ≡ map (moved m) (cons_option (option_map seen o) (values_at doc ls))
     by None e = e
     by (Some d) e = ap₂ (λ (x : Seen) (xs : List Seen). x ∷ xs) (seen_moved m f moves d) e
@@ -203,7 +198,7 @@ module _ (g : ParseToken → ParseToken) where
   own_moved (tree.compare l op r) = ap₂ (λ (x y : Bool). x || y) (own_term_moved l) (own_term_moved r)
   own_moved (tree.join op a b) = ap₂ (λ (x y : Bool). x || y) (own_moved a) (own_moved b)
 
-module _ (m : ℤ → ℤ) (f : Num → Num) (g : ParseToken → ParseToken) (source : List ℕ) (doc : Data) (keeps : KeepsOrder m) (moves : MovesNumbers m f) (labels : MovesLiterals m source g) where
+module _ (m : ℤ × ℕ → ℤ × ℕ) (f : Number → Number) (g : ParseToken → ParseToken) (source : List ℕ) (doc : Document) (keeps : KeepsOrder m) (moves : MovesNumbers m f) (labels : MovesLiterals m source g) where
   base_moved : (leaves : Bool) (ls : List Location) → cond leaves (step (renumbered f doc) every (all_below (renumbered f doc) ls)) ls ≡ cond leaves (step doc every (all_below doc ls)) ls
   base_moved true ls = step_moved f doc every (all_below (renumbered f doc) ls) ∙ ap (step doc every) (all_below_moved f doc ls)
   base_moved false ls = refl

@@ -11,6 +11,7 @@ use Rattle.jsonpath_paths.specs.declared.text.str_reader.StrRange.{StrRange}
 use Rattle.jsonpath_paths.specs.declared.tree.parser_node.Condition.{Condition as ConditionNode}
 use Rattle.jsonpath_paths.specs.declared.token.tokens.ParseToken.{ParseToken}
 use Rattle.jsonpath_paths.specs.declared.token.tokens.ParseToken.TheVariants.{Key, All}
+use Rattle.jsonpath_nodes.specs.document.OfData.{document_of}
 use Rattle.jsonpath_nodes.specs.place.Location.{Location}
 use Rattle.jsonpath_nodes.specs.compare.Comparisons.{Seen, null_value, truth, text, unread, list, members, units_of, seen_units}
 use Rattle.jsonpath_select.specs.Meaning.{sel}
@@ -185,6 +186,6 @@ after line lines found = option_map (and_more line (written lines)) found
 -- what the path selects in the image, from the tree, went behind what was there
 pub record AddsStraight (spelled : List ℕ) (line : Option (Bor Line)) (exact : Json) (image : Data) (before after : List ℕ) (count : ℕ) (p : Path) : Type 0 where
   pub found : List Json
-  pub stand : StandIn exact (sel spelled image p) found
+  pub stand : StandIn exact (sel spelled (document_of image) p) found
   pub written : after ≡ before ++ value_lines line found
-  pub counted : count ≡ length (sel spelled image p)
+  pub counted : count ≡ length (sel spelled (document_of image) p)

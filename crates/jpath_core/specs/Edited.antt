@@ -5,6 +5,7 @@ use Rattle.json.specs.Value.{value_view}
 use Rattle.serde_json.specs.Data.{Data}
 use Rattle.serde_json.specs.Read.{read}
 use Rattle.serde_json.specs.View.{view}
+use Rattle.jsonpath_nodes.specs.document.OfData.{document_of}
 use Rattle.jsonpath_nodes.specs.place.Location.{Location, location_cmp}
 use Rattle.jsonpath_select.specs.Targets.{AreTargets}
 use Rattle.jpath_texts.specs.NumberPlaces.{is_as_read}
@@ -15,7 +16,7 @@ use Rattle.jpath_edits.specs.declared.change.Change.{Change}
 -- Read again, the text is the document changed at locations that were selected. Where numbers are compared as they are read, these are the targets of the path.
 pub record IsEdited (path : List ℕ) (change : Change) (as_read : Bool) (before : Data) (written : List ℕ) : Type 0 where
   pub locations : List Location
-  pub targets : as_read ≡ true → AreTargets path before locations
+  pub targets : as_read ≡ true → AreTargets path (document_of before) locations
   pub reads : ReadsChanged change locations before written
 
 -- Where numbers stand as they are read, the image is what `serde_json` reads of the text.
@@ -26,6 +27,6 @@ HasImage text document = is_as_read document.numbers ≡ true → read text ≡ 
 pub record IsEditedAt (path : List ℕ) (change : Change) (document : Document) (text written : List ℕ) : Type 0 where
   pub locations : List Location
   pub ordered : IsStrictlySortedBy location_cmp locations
-  pub targets : is_as_read document.numbers ≡ true → AreTargets path (view document.image) locations
+  pub targets : is_as_read document.numbers ≡ true → AreTargets path (document_of (view document.image)) locations
   pub changed : IsChangedAt change (value_view document.exact) locations text written
   pub reads : HasImage text document → (before : Data) → read text ≡ Some before → ReadsChanged change locations before written

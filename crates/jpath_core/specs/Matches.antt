@@ -3,6 +3,7 @@ use Rattle.std.specs.Prelude.{◌≡◌, ℕ, List, [], ◌∷◌, ◌++◌, fla
 use Rattle.json.specs.Json.{Json}
 use Rattle.serde_json.specs.Data.{Data}
 use Rattle.jsonpath_paths.specs.tree.Tree.{Path}
+use Rattle.jsonpath_nodes.specs.document.OfData.{document_of}
 use Rattle.jsonpath_nodes.specs.place.Location.{Location}
 use Rattle.jsonpath_nodes.specs.place.LocationText.{location_text}
 use Rattle.jsonpath_select.specs.Meaning.{sel}
@@ -32,5 +33,5 @@ lines_text line j ls = flat_map (λ l. line_text_if line l (exact_at j l)) ls
 
 -- the lines of what the path selects went behind what was there
 pub record AddsMatches (spelled : List ℕ) (line : Line) (exact : Json) (image : Data) (before after : List ℕ) (count : ℕ) (p : Path) : Type 0 where
-  pub written : after ≡ before ++ lines_text line exact (sel spelled image p)
-  pub counted : count ≡ length (sel spelled image p)
+  pub written : after ≡ before ++ lines_text line exact (sel spelled (document_of image) p)
+  pub counted : count ≡ length (sel spelled (document_of image) p)

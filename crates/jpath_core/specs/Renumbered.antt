@@ -1,23 +1,23 @@
 -- A selection goes by the order of numbers alone: with each number of the document and of the path's literals put elsewhere, in the same order, it is the same.
-use Rattle.std.specs.Prelude.{◌≡◌, ℕ, ℤ, List, map, option_map}
-use Rattle.std.specs.Ordering.{int_cmp}
-use Rattle.serde_json.specs.Data.{Num, Data, null, boolean, number, string, array, object, Items, no_items, item, Members, no_members, member}
+use Rattle.std.specs.Prelude.{◌≡◌, ℕ, ℤ, List, map}
 use Rattle.jsonpath_paths.specs.tree.Tree.{Path, PathSteps, Inner, Condition, Term}
 use Rattle.jsonpath_paths.specs.tree.Tree as tree
 use Rattle.jsonpath_paths.specs.declared.token.tokens.ParseToken.{ParseToken}
-use Rattle.jsonpath_nodes.specs.compare.Comparisons.{Seen, null_value, truth, decimal, text, unread, list, members, units_of}
+use Rattle.jsonpath_nodes.specs.document.Document.{Number, Document, null, boolean, number, string, array, object, Items, no_items, item, Members, no_members, member}
+use Rattle.jsonpath_nodes.specs.compare.Comparisons.{Seen, null_value, truth, fraction, text, unread, list, members, seen_number}
+use Rattle.jsonpath_nodes.specs.compare.Fractions.{fraction_order}
 use Rattle.jsonpath_select.specs.Meaning.{sel}
 use Rattle.jsonpath_select.specs.Parts.{literals}
 
--- the map keeps which of two numbers is less, and which are equal
-abbrev pub KeepsOrder : (ℤ → ℤ) → Type 0
-KeepsOrder m = (a b : ℤ) → int_cmp (m a) (m b) ≡ int_cmp a b
+-- The map keeps which of two numbers is less, and which are equal. A number is a whole number over a power of ten.
+abbrev pub KeepsOrder : (ℤ × ℕ → ℤ × ℕ) → Type 0
+KeepsOrder m = (p q : ℤ × ℕ) → fraction_order (m p) (m q) ≡ fraction_order p q
 
 -- what a comparison sees, with its number elsewhere
-abbrev pub moved : (ℤ → ℤ) → Seen → Seen
+abbrev pub moved : (ℤ × ℕ → ℤ × ℕ) → Seen → Seen
 moved m null_value = null_value
 moved m (truth b) = truth b
-moved m (decimal u) = decimal (m u)
+moved m (fraction a n) = let p = m (a, n) in fraction p.0 p.1
 moved m (text s) = text s
 moved m unread = unread
 moved m list = list
@@ -25,7 +25,7 @@ moved m members = members
 
 -- a document with other numbers
 abbrev mutual
-  pub renumbered : (Num → Num) → Data → Data
+  pub renumbered : (Number → Number) → Document → Document
   renumbered f null = null
   renumbered f (boolean b) = boolean b
   renumbered f (number n) = number (f n)
@@ -33,11 +33,11 @@ abbrev mutual
   renumbered f (array ds) = array (renumbered_items f ds)
   renumbered f (object ms) = object (renumbered_members f ms)
 
-  pub renumbered_items : (Num → Num) → Items → Items
+  pub renumbered_items : (Number → Number) → Items → Items
   renumbered_items f no_items = no_items
   renumbered_items f (item d ds) = item (renumbered f d) (renumbered_items f ds)
 
-  pub renumbered_members : (Num → Num) → Members → Members
+  pub renumbered_members : (Number → Number) → Members → Members
   renumbered_members f no_members = no_members
   renumbered_members f (member k d ms) = member k (renumbered f d) (renumbered_members f ms)
 
@@ -64,13 +64,13 @@ abbrev mutual
   relabelled_term g (tree.literal token) = tree.literal (g token)
 
 -- the document's numbers move by m
-abbrev pub MovesNumbers : (ℤ → ℤ) → (Num → Num) → Type 0
-MovesNumbers m f = (n : Num) → units_of (f n) ≡ option_map m (units_of n)
+abbrev pub MovesNumbers : (ℤ × ℕ → ℤ × ℕ) → (Number → Number) → Type 0
+MovesNumbers m f = (n : Number) → seen_number (f n) ≡ moved m (seen_number n)
 
 -- the literals of a path text move by m
-abbrev pub MovesLiterals : (ℤ → ℤ) → List ℕ → (ParseToken → ParseToken) → Type 0
+abbrev pub MovesLiterals : (ℤ × ℕ → ℤ × ℕ) → List ℕ → (ParseToken → ParseToken) → Type 0
 MovesLiterals m source g = (token : ParseToken) → literals source (g token) ≡ map (moved m) (literals source token)
 
 abbrev pub OrderOfNumbersDecides : Type 0
-OrderOfNumbersDecides = (m : ℤ → ℤ) (f : Num → Num) (g : ParseToken → ParseToken) (source : List ℕ) (doc : Data) (p : Path)
+OrderOfNumbersDecides = (m : ℤ × ℕ → ℤ × ℕ) (f : Number → Number) (g : ParseToken → ParseToken) (source : List ℕ) (doc : Document) (p : Path)
     → KeepsOrder m → MovesNumbers m f → MovesLiterals m source g → sel source (renumbered f doc) (relabelled g p) ≡ sel source doc p

@@ -5,6 +5,7 @@ ghost use Rattle.std.specs.List.Sorted.{IsStrictlySortedBy};
 ghost use Rattle.serde_json.specs.Data.{Data};
 ghost use Rattle.serde_json.specs.Read.{read};
 ghost use Rattle.serde_json.specs.View.{view};
+ghost use Rattle.jsonpath_nodes.specs.document.OfData.{document_of};
 ghost use Rattle.jsonpath_nodes.specs.place.Location.{location_cmp};
 ghost use Rattle.jsonpath_select.specs.Targets.{AreTargets};
 ghost use Rattle.jpath_texts.specs.NumberPlaces.{is_as_read};
@@ -76,7 +77,7 @@ fn select_locations_in_document_order(
     document: &Document<'_>,
     query: &Query<'_>,
 ) -> Result<Vec<Location>, DocumentRefusal>
-    ensures targets { is_as_read document.now.numbers ≡ true → IfOk result (λ places. AreTargets query.now.path (view document.now.image) places.items) }
+    ensures targets { is_as_read document.now.numbers ≡ true → IfOk result (λ places. AreTargets query.now.path (document_of (view document.now.image)) places.items) }
     ensures ordered { IfOk result (λ places. IsStrictlySortedBy location_cmp places.items) }
 {
     spots_show_their_locations();

@@ -3,6 +3,7 @@
 
 ghost use Rattle.std.specs.Prelude.{◌≡◌, true, IfOk};
 ghost use Rattle.serde_json.specs.View.{view};
+ghost use Rattle.jsonpath_nodes.specs.document.OfData.{document_of};
 ghost use Rattle.jsonpath_select.specs.Meaning.{SelectsSpots};
 ghost use Rattle.jpath_texts.specs.NumberPlaces.{is_as_read};
 
@@ -19,7 +20,7 @@ pub fn select_in_document<'v>(
     document: &'v Document<'_>,
     query: &Query<'_>,
 ) -> Result<Vec<Spot<'v>>, DocumentRefusal>
-    ensures { is_as_read document.now.numbers ≡ true → IfOk result (λ found. SelectsSpots query.now.path (view document.now.image) found.items) }
+    ensures { is_as_read document.now.numbers ≡ true → IfOk result (λ found. SelectsSpots query.now.path (document_of (view document.now.image)) found.items) }
 {
     select_in_image(alloc, &document.image, &document.numbers, query)
 }
@@ -32,7 +33,7 @@ pub fn select_in_image<'v>(
     numbers: &Numbers,
     query: &Query<'_>,
 ) -> Result<Vec<Spot<'v>>, DocumentRefusal>
-    ensures { is_as_read numbers.now ≡ true → IfOk result (λ found. SelectsSpots query.now.path (view image.now) found.items) }
+    ensures { is_as_read numbers.now ≡ true → IfOk result (λ found. SelectsSpots query.now.path (document_of (view image.now)) found.items) }
 {
     if numbers.is_as_read() {
         return match select_path(alloc, image, query.path()) {

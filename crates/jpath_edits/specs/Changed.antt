@@ -8,6 +8,7 @@ use Rattle.json.specs.Find.{at as item_at}
 use Rattle.json.specs.Word.{is_space}
 use Rattle.serde_json.specs.Data.{Data}
 use Rattle.serde_json.specs.Read.{read}
+use Rattle.jsonpath_nodes.specs.document.OfData.{document_of}
 use Rattle.jsonpath_nodes.specs.place.Location.{Step, name, index, Location}
 use Rattle.jsonpath_nodes.specs.step.SameMembers.{topmost}
 use Rattle.jsonpath_nodes.specs.update.Topmost.{put, taken}
@@ -159,5 +160,6 @@ pub record IsChangedAt (change : Change) (tree : Json) (locations : List Locatio
 
 -- Read again, the text is the document with the value, where it is one, at the topmost of the locations below the root, or without what stands there.
 abbrev pub ReadsChanged : Change → List Location → Data → List ℕ → Type 0
-ReadsChanged (Put text) ls before written = (value : Data) → read text.now ≡ Some value → read written ≡ Some (put value ls before)
-ReadsChanged Take ls before written = read written ≡ Some (taken ls before)
+ReadsChanged (Put text) ls before written =
+    (value : Data) → read text.now ≡ Some value → (after : Data) × (read written ≡ Some after) × (document_of after ≡ put (document_of value) ls (document_of before))
+ReadsChanged Take ls before written = (after : Data) × (read written ≡ Some after) × (document_of after ≡ taken ls (document_of before))

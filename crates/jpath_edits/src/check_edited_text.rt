@@ -4,6 +4,7 @@ ghost use Rattle.std.specs.Prelude.{◌≡◌, IfOk, IsTrue, option_map, Some};
 ghost use Rattle.std.specs.List.Sorted.{IsStrictlySortedBy};
 ghost use Rattle.serde_json.specs.Data.{Data};
 ghost use Rattle.serde_json.specs.View.{view};
+ghost use Rattle.jsonpath_nodes.specs.document.OfData.{document_of};
 ghost use Rattle.jsonpath_nodes.specs.place.Location.{location_cmp};
 ghost use Rattle.jsonpath_nodes.specs.update.Topmost.{with_answer_at_topmost};
 ghost use Rattle.jpath_edits.specs.Changed.{ReadsChanged};
@@ -27,7 +28,7 @@ fn document_with_change(
     new: Option<&Value>,
 ) -> Result<Value, DocumentRefusal>
     requires { IsStrictlySortedBy location_cmp places.now }
-    ensures { IfOk result (λ after. view after ≡ with_answer_at_topmost (option_map (λ v. view v.now) new.entry) places.now (view before)) }
+    ensures { IfOk result (λ after. document_of (view after) ≡ with_answer_at_topmost (option_map (λ v. document_of (view v.now)) new.entry) places.now (document_of (view before))) }
 {
     let mut after = before;
     let made = match new {

@@ -7,7 +7,7 @@ use Rattle.std.proofs.lemmas.List.{map-append}
 use Rattle.jsonpath_select.specs.Meaning.{sel, SelectsSet}
 use Rattle.jsonpath_lib.specs.update.Masked.{AreSelected}
 use Rattle.jsonpath_nodes.specs.place.Order.{once_in_order}
-use Rattle.serde_json.specs.Data.{Data}
+use Rattle.jsonpath_nodes.specs.document.Document.{Document}
 use Rattle.jsonpath_nodes.specs.place.Location.{Location}
 use Rattle.jsonpath_nodes.specs.DocumentLaws.{OnceInOrderKeepsMembers}
 use Rattle.jsonpath_nodes.specs.place.SpotPlace.{location_of}
@@ -15,13 +15,13 @@ use Rattle.jsonpath_nodes.specs.step.SameMembers.{SameMembers, JoinedSets, OneLi
 use Rattle.jsonpath_nodes.specs.declared.place.spot.Spot.{Spot}
 
 -- what the paths that are left select completes what was found to the set that all of them select
-abbrev pub Completes : List (List ℕ) → ℕ → Data → List Location → Type 0
+abbrev pub Completes : List (List ℕ) → ℕ → Document → List Location → Type 0
 Completes paths i doc found = (rest : List Location) → AreSelected (drop i paths) doc rest → (all : List Location) × AreSelected paths doc all × SameMembers (found ++ rest) all
 
 same-itself : (ls : List Location) → SameMembers ls ls
 same-itself ls l = (λ h. h, λ h. h)
 
-pub selected_first : (paths : List (List ℕ)) (doc : Data) (spots : List Spot) → spots ≡ [] → Completes paths 0 doc (map location_of spots)
+pub selected_first : (paths : List (List ℕ)) (doc : Document) (spots : List Spot) → spots ≡ [] → Completes paths 0 doc (map location_of spots)
 selected_first paths doc spots none rest are = (rest, are, subst (λ (ss : List Spot). SameMembers (map location_of ss ++ rest) rest) (sym none) (same-itself rest))
 
 module _ (keeps : OnceInOrderKeepsMembers) (joined : JoinedSets) (one_list : OneListOfASet) where
@@ -34,7 +34,7 @@ module _ (keeps : OnceInOrderKeepsMembers) (joined : JoinedSets) (one_list : One
   same-trans ls ms ns h k l = (λ a. (k l).0 ((h l).0 a), λ a. (h l).1 ((k l).1 a))
 
   -- no path is left
-  pub selected_done : (paths : List (List ℕ)) (i : ℕ) (doc : Data) (ls : List Location) → length paths ≤ i → Completes paths i doc ls
+  pub selected_done : (paths : List (List ℕ)) (i : ℕ) (doc : Document) (ls : List Location) → length paths ≤ i → Completes paths i doc ls
       → (all : List Location) × AreSelected paths doc all × (once_in_order ls ≡ once_in_order all)
   selected_done paths i doc ls over held =
       let P : List (List ℕ) → Type 0 = λ ps. AreSelected ps doc [] in
@@ -42,7 +42,7 @@ module _ (keeps : OnceInOrderKeepsMembers) (joined : JoinedSets) (one_list : One
       (found.0, found.1, one_list ls found.0 (subst (λ (ms : List Location). SameMembers ms found.0) (append-nil ls) found.2))
 
   -- one more path is done
-  pub selected_more : (paths : List (List ℕ)) (i : ℕ) (doc : Data) (spots before after : List Spot) (d text : List ℕ) → i < length paths → text ≡ get_or paths i d
+  pub selected_more : (paths : List (List ℕ)) (i : ℕ) (doc : Document) (spots before after : List Spot) (d text : List ℕ) → i < length paths → text ≡ get_or paths i d
       → SelectsSet text doc spots → after ≡ before ++ spots → Completes paths i doc (map location_of before) → Completes paths (i + 1) doc (map location_of after)
   selected_more paths i doc spots before after d text within is selected pushed held rest later =
       let there = sel text doc selected.path in

@@ -2,6 +2,7 @@
 use Rattle.std.proofs.Common.{ℕ, List, String, inr}
 use Rattle.std.specs.declared.alloc.Global.{Global}
 use Rattle.serde_json.specs.Data.{Data}
+use Rattle.jsonpath_nodes.specs.document.OfData.{document_of}
 use Rattle.jsonpath_select.specs.ErrorCases.{IsRefusedBy}
 use Rattle.jsonpath_select.specs.JsonPathErrors.{IsPathRefused}
 use Rattle.jsonpath_select.specs.Meaning.{Selects}
@@ -28,13 +29,13 @@ refused_in json text said serde document (Path message) read tells refused = ((d
 refused_in json text said serde document (Serde message) read tells refused = tells message refused
 refused_in json text said serde document OutOfMemory read tells refused = tt
 
-pub text_refused : (json text : List ℕ) (document : Data) (error : JsonPathError) → IsTextOf json document → IsTextRefusedOf (Selects text document) error → IsTextRefusal json text error
+pub text_refused : (json text : List ℕ) (document : Data) (error : JsonPathError) → IsTextOf json document → IsTextRefusedOf (Selects text (document_of document)) error → IsTextRefusal json text error
 text_refused json text document EmptyPath read refused = refused
 text_refused json text document EmptyValue read refused = refused
 text_refused json text document (Path message) read refused = absurd refused
 text_refused json text document (Serde message) read refused = inr (refused.0, record { document = document; read = read; selected = refused.1 }, refused.2, refused.3)
 text_refused json text document OutOfMemory read refused = tt
 
-pub typed_refused : (json text : List ℕ) (document : Data) (error : JsonPathError) → IsTextOf json document → IsTypedRefusedIn document text error → IsTypedRefusal json text error
+pub typed_refused : (json text : List ℕ) (document : Data) (error : JsonPathError) → IsTextOf json document → IsTypedRefusedIn (document_of document) text error → IsTypedRefusal json text error
 typed_refused json text document error read refused =
     refused_in json text _ _ document error read (λ message said. inr (said.0, record { document = document; read = read; selected = said.1 }, said.2)) refused

@@ -4,8 +4,8 @@
 
 ghost use Rattle.std.specs.Prelude.{◌≡◌, ℕ, List, Option, option_map};
 ghost use Rattle.std.specs.Fn.{Called};
-ghost use Rattle.serde_json.specs.Data.{Data};
-ghost use Rattle.serde_json.specs.View.{view};
+ghost use Rattle.jsonpath_nodes.specs.document.Document.{Document};
+ghost use Rattle.jsonpath_nodes.specs.document.OfData.{value_document};
 ghost use Rattle.serde_json.specs.declared.value.Value.{Value};
 ghost use Rattle.jsonpath_nodes.specs.place.Location.{Location};
 ghost use Rattle.jsonpath_nodes.specs.update.Update.{update};
@@ -19,7 +19,8 @@ use jsonpath_nodes::laws::{
     updates_put_one_answer_in_turn,
 };
 pub use jsonpath_nodes::laws::{
-    nulling_at_topmost, putting_at_one_location, replacements_stay_in_place, value_is_document,
+    documents_keep_data_apart, nulling_at_topmost, putting_at_one_location,
+    replacements_stay_in_place, value_is_document,
 };
 pub use jsonpath_paths::laws::{error_position, longest_front, one_tree_per_text, spelled_tree};
 pub use jsonpath_select::laws::{
@@ -59,9 +60,9 @@ pub fn deletes_and_removes_selected_location()
 /// laws::replaces_selected_location(on);
 /// ```
 pub fn replaces_selected_location<F: FnMut(Value) -> Option<Value>>(closure: &F)
-    ensures { (answer : Option Data)
-        → ((f g : F) (handed : Value) (said : Option Value) → Called F.FnMut f (handed, tt) said g → option_map view said ≡ answer)
-        → (text : List ℕ) (before after : Data) (l : Location) (f g : F) → SelectsAt text before (where_it_is before l)
+    ensures { (answer : Option Document)
+        → ((f g : F) (handed : Value) (said : Option Value) → Called F.FnMut f (handed, tt) said g → option_map value_document said ≡ answer)
+        → (text : List ℕ) (before after : Document) (l : Location) (f g : F) → SelectsAt text before (where_it_is before l)
         → IsReplaced F.FnMut text before f g after → after ≡ update l answer before }
 {
     deletes_and_removes_selected_location();

@@ -1,3 +1,4 @@
 -- What a comparison sees, and which pairs satisfy it.
 pub mod Comparisons
 pub mod Atoms
+pub mod Fractions

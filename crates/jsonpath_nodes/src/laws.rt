@@ -7,9 +7,10 @@
 
 ghost use Rattle.std.specs.Prelude.{◌≡◌, List, map, Option, option_map};
 ghost use Rattle.std.specs.Fn.{Called};
-ghost use Rattle.serde_json.specs.Data.{Data, object};
+ghost use Rattle.jsonpath_nodes.specs.document.Document.{Document, object};
 ghost use Rattle.serde_json.specs.declared.value.Value.{Value};
-ghost use Rattle.serde_json.specs.View.{view, items_view, members_view};
+ghost use Rattle.serde_json.specs.View.{view};
+ghost use Rattle.jsonpath_nodes.specs.document.OfData.{document_of, value_document, items_document, members_document, DocumentsKeepDataApart};
 ghost use Rattle.jsonpath_nodes.specs.step.Candidates.{DisjointInOneDescent};
 ghost use Rattle.jsonpath_nodes.specs.DocumentLaws.{BelowIsAll, BelowAscends, OnceInOrderAscends, OnceInOrderKeepsMembers, NullsTopmost, NullsNothingElse, NullsInTurn, PutsThere, PutsNothingElse, ChangesNothing, TakesFromTheBack, SetsAlone, RunsInPlace};
 ghost use Rattle.std.specs.declared.cmp.Ordering.TheVariants.{Equal};
@@ -17,11 +18,22 @@ ghost use Rattle.jsonpath_nodes.specs.place.Location.{Location, location_cmp};
 ghost use Rattle.jsonpath_nodes.specs.place.SpotPlace.{StandAt, location_of};
 ghost use Rattle.jsonpath_nodes.specs.declared.place.spot.Spot.{Spot};
 ghost use Rattle.jsonpath_nodes.specs.update.Run.{RunsWith, update_each};
-ghost use Rattle.jsonpath_nodes.specs.place.Order.{IsDocument, AreDocuments};
+ghost use Rattle.jsonpath_nodes.specs.place.Order.{IsOrderedDocument, AreOrderedDocuments};
 ghost use Rattle.jsonpath_nodes.specs.step.SameMembers.{StepOfASet, BelowOfASet, CandidatesOfASet, KeptOfASet, SomeOfASet, JoinedSets, EachOnceKeepsMembers, OneListOfASet, BelowOfTheTopmost, DescentOfTheTopmost};
 ghost use Rattle.jsonpath_nodes.specs.step.Separate.{ApartHasNoRepeatFlat, OneIsApart, ApartHasNoRepeat, NamesStandApart, ListsStandApart, IndexStandsApart, RangeStandsApart, StepStandsApart, KeptStandApart, CandidatesStandApart, HasNamesInOrder, StepHasNoRepeat, EveryHasNoRepeat, ChildHasNoRepeat, KeptHasNoRepeat, BelowHasNoRepeat, DescentStandsApart, LevelIsDisjoint, DisjointStandsApart, StepStaysDisjoint, KeptStayDisjoint, CandidatesStayDisjoint, BelowDisjointHasNoRepeat};
 
 use serde_json::{Map, Value};
+
+/// Lemma: different JSON values have different documents. So what a contract says of the document of a `Value`, it says
+/// of the `Value` itself.
+///
+/// ```text
+/// laws::documents_keep_data_apart();
+/// ```
+#[tactic(auto, using(crate::proofs::tree::DataLemmas::keeps_data_apart))]
+pub fn documents_keep_data_apart()
+    ensures { DocumentsKeepDataApart }
+{}
 
 /// Lemma: the locations at or below the root of a document are exactly those at which it has a value.
 ///
@@ -68,7 +80,7 @@ pub fn equal_locations_are_same()
 /// laws::spots_show_their_locations();
 /// ```
 pub fn spots_show_their_locations()
-    ensures { (doc : Data) (ls : List Location) (spots : List Spot) → StandAt doc ls spots → map location_of spots ≡ ls }
+    ensures { (doc : Document) (ls : List Location) (spots : List Spot) → StandAt doc ls spots → map location_of spots ≡ ls }
 {}
 
 /// Lemma: putting null at a list of locations puts it at each location that exists, is below the root, and has no
@@ -104,9 +116,9 @@ pub fn putting_at_one_location()
 /// laws::updates_put_one_answer_in_turn(on);
 /// ```
 pub fn updates_put_one_answer_in_turn<F: FnMut(Value) -> Option<Value>>(_closure: &F)
-    ensures { (answer : Option Data)
-        → ((f g : F) (handed : Value) (said : Option Value) → Called F.FnMut f (handed, tt) said g → option_map view said ≡ answer)
-        → (ls : List Location) (before after : Data) (f g : F) → RunsWith F.FnMut ls before f g after → after ≡ update_each answer ls before }
+    ensures { (answer : Option Document)
+        → ((f g : F) (handed : Value) (said : Option Value) → Called F.FnMut f (handed, tt) said g → option_map value_document said ≡ answer)
+        → (ls : List Location) (before after : Document) (f g : F) → RunsWith F.FnMut ls before f g after → after ≡ update_each answer ls before }
 {}
 
 /// Lemma: for a list of locations in document order, each once, removing the values there all at once is the same as
@@ -253,7 +265,7 @@ pub fn steps_lead_without_repeats()
 /// ```
 #[cycle(document)]
 pub fn value_is_document(value: &Value)
-    ensures { IsDocument (view value.now) }
+    ensures { IsOrderedDocument (document_of (view value.now)) }
 {
     match value {
         Value::Array(items) => items_are_documents(items),
@@ -265,7 +277,7 @@ pub fn value_is_document(value: &Value)
 // The items of an array are documents: in each of their objects the names ascend strictly. It answers nothing.
 #[cycle(document)]
 fn items_are_documents(items: &Vec<Value>)
-    ensures { AreDocuments (items_view items.now.items) }
+    ensures { AreOrderedDocuments (items_document items.now.items) }
 {
     for item in items.iter() {
         value_is_document(item);
@@ -275,7 +287,7 @@ fn items_are_documents(items: &Vec<Value>)
 // An object is a document: in it and in each object below it the names ascend strictly. It answers nothing.
 #[cycle(document)]
 fn object_is_document(members: &Map<String, Value>)
-    ensures { IsDocument (object (members_view members.now.entries)) }
+    ensures { IsOrderedDocument (object (members_document members.now.entries)) }
 {
     for (_, member) in members.iter() {
         value_is_document(member);
@@ -289,7 +301,7 @@ fn object_is_document(members: &Map<String, Value>)
 /// laws::object_names_ascend(&document);
 /// ```
 pub fn object_names_ascend(value: &Value)
-    ensures { HasNamesInOrder (view value.now) }
+    ensures { HasNamesInOrder (document_of (view value.now)) }
 {
     if let Value::Object(members) = value {
         let _ = members.iter();

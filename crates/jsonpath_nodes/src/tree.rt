@@ -2,9 +2,8 @@
 //! lifetime, so functions that call themselves can be generic over it.
 
 ghost use Rattle.std.specs.Prelude.{◌≡◌, List, ℕ, None, option_map, MatchOption, IfSome, IfNone};
-ghost use Rattle.serde_json.specs.Data.{Data, Items, Members, array, object, no_items, item, no_members, member};
-ghost use Rattle.serde_json.specs.Events.{items_len};
-ghost use Rattle.serde_json.specs.Find.{as_array, as_object, get_item, get_member};
+ghost use Rattle.jsonpath_nodes.specs.document.Document.{Document, Items, Members, array, object, no_items, item, no_members, member};
+ghost use Rattle.jsonpath_nodes.specs.document.Find.{items_len, as_array, as_object, get_item, get_member};
 ghost use Rattle.jsonpath_nodes.specs.place.Order.{NamesAscend};
 
 pub(crate) mod of_value;
@@ -22,7 +21,7 @@ pub trait Tree: Copy + Drop {
     // The members of an object that are still to come.
     type MembersLeft: Drop;
 
-    ghost content: { Self → Data };
+    ghost content: { Self → Document };
 
     ghost items: { Self.Array → Items };
 

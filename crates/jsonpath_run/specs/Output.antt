@@ -1,8 +1,10 @@
 -- What the program writes, and what it refuses.
-use Rattle.std.specs.Prelude.{◌≡◌, ◌⊎◌, ℕ, List, [], ◌∷◌, ◌++◌, All, Bool, true, Some, codes, String}
+use Rattle.std.specs.Prelude.{◌≡◌, ◌⊎◌, ℕ, List, [], ◌∷◌, ◌++◌, All, map, Bool, true, Some, codes, String}
 use Rattle.std.specs.declared.alloc.Global.{Global}
 use Rattle.std.specs.List.{Contains}
 use Rattle.serde_json.specs.Data.{Data}
+use Rattle.jsonpath_nodes.specs.document.Document.{Document}
+use Rattle.jsonpath_nodes.specs.document.OfData.{document_of}
 use Rattle.jsonpath_paths.specs.Spelling.{IsInGrammar}
 use Rattle.jsonpath_select.specs.Meaning.{Selects}
 use Rattle.jsonpath_select.specs.ErrorCases.{NoMessage, IsRefusedBy}
@@ -21,11 +23,11 @@ pub record SelectsText (path input line : List ℕ) : Type 0 where
   pub document : Data
   pub values : List Data
   pub read : IsTextOf input document
-  pub selected : Selects path document values
+  pub selected : Selects path (document_of document) (map document_of values)
   pub written : list_text values ≡ Some line
 
 -- what the commands that change a document make of it
-abbrev pub IsChange : Command → List (List ℕ) → Data → Data → Type 0
+abbrev pub IsChange : Command → List (List ℕ) → Document → Document → Type 0
 IsChange Select paths before after = ⊥
 IsChange Delete paths before after = (path : List ℕ) × (paths ≡ path ∷ []) × IsDeleted path before after
 IsChange Remove paths before after = (path : List ℕ) × (paths ≡ path ∷ []) × IsRemoved path before after
@@ -37,7 +39,7 @@ pub record ChangesText (command : Command) (paths : List (List ℕ)) (input line
   pub before : Data
   pub after : Data
   pub read : IsTextOf input before
-  pub changed : IsChange command paths before after
+  pub changed : IsChange command paths (document_of before) (document_of after)
   pub written : document_text after ≡ Some line
 
 -- the line is the command's answer for its paths, to an input

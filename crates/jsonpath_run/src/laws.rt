@@ -2,6 +2,7 @@
 ghost use Rattle.std.specs.Prelude.{◌≡◌, ℕ, List};
 ghost use Rattle.jsonpath_run.specs.Output.{IsOutput};
 
+use jsonpath_nodes::laws::documents_keep_data_apart;
 use jsonpath_paths::laws::one_tree_per_text;
 
 /// Lemma: the program `jsonpath_run` has at most one output for given arguments and a given input.
@@ -14,4 +15,5 @@ pub fn one_output_per_input()
         → IsOutput words input a → IsOutput words input b → a ≡ b }
 {
     one_tree_per_text();
+    documents_keep_data_apart();
 }

@@ -1,6 +1,7 @@
 //! The program as a function: what its words ask for is done with the bytes read, and the answer is written.
 ghost use Rattle.std.specs.Prelude.{◌≡◌, ◌⊎◌, ◌↔◌, ◌≢◌, ℕ, List, [], ◌∷◌, ◌++◌, map, length, true, false, string_bytes, codes, Err, Some, IfOk, IfErr, OnOk};
 ghost use Rattle.serde_json.specs.View.{view};
+ghost use Rattle.jsonpath_nodes.specs.document.OfData.{document_of};
 ghost use Rattle.jsonpath_select.specs.selectors.Held.{IsTextFor, IsTextRefusedFor};
 ghost use Rattle.jsonpath_select.specs.answer.AnswerText.{IsTextOf, IsDocumentRefused, IsDocumentTextRefused, document_text};
 ghost use Rattle.jsonpath_select.specs.Targets.{IsDeleted};
@@ -11,6 +12,7 @@ use crate::faults::Fault;
 use crate::whole_streams::{ReadFault, read_to_end, write_all};
 use crate::words::{Command, parse_call};
 use jsonpath_lib::{PathsFault, compile_paths, mask_at_paths};
+use jsonpath_nodes::laws::documents_keep_data_apart;
 use jsonpath_nodes::{compute_paths, delete_at};
 use jsonpath_paths::PathParser;
 use jsonpath_paths::laws::one_tree_per_text;
@@ -171,6 +173,7 @@ fn selected_text(
     ensures refused { IfErr result (IsAnswerRefused Command.Select (path.entry ∷ []) input.items) }
 {
     one_tree_per_text();
+    documents_keep_data_apart();
     let document = document_of_input(alloc, input)?;
     let text = selected_text_in_document(alloc, path, &document);
     forget(document);
@@ -184,8 +187,8 @@ fn selected_text_in_document(
     document: &Value,
 ) -> Result<String, JsonPathError>
     ensures ok { IfOk result
-        (λ text. IsTextFor (Some path.entry) (Some (view document.now)) (string_bytes text)) }
-    ensures refused { IfErr result (IsTextRefusedFor (Some path.entry) (Some (view document.now))) }
+        (λ text. IsTextFor (Some path.entry) (Some (document_of (view document.now))) (string_bytes text)) }
+    ensures refused { IfErr result (IsTextRefusedFor (Some path.entry) (Some (document_of (view document.now)))) }
 {
     let mut selector = JsonSelector::new(alloc, path)?;
     selector.value(document).select_as_str(alloc)
@@ -207,6 +210,7 @@ fn changed_text(
     ensures refused { IfErr result (IsAnswerRefused command paths.now input.items) }
 {
     one_tree_per_text();
+    documents_keep_data_apart();
     let mut document = document_of_input(alloc, input)?;
     change_by_command(alloc, command, paths, &mut document)?;
     text_of_forgotten_document(alloc, document)
@@ -222,7 +226,7 @@ fn change_by_command(
     requires count { IsCount command (length paths.now) }
     requires selects { command ≢ Command.Select }
     requires checks { command ≢ Command.Check }
-    ensures ok { OnOk result (IsChange command paths.now (view document.old) (view document.new)) }
+    ensures ok { OnOk result (IsChange command paths.now (document_of (view document.old)) (document_of (view document.new))) }
     ensures refused { IfErr result (λ error. error ≡ JsonPathError.OutOfMemory) }
 {
     match command {
@@ -240,7 +244,7 @@ fn delete_at_path(
     path: &PathParser<'_>,
     document: &mut Value,
 ) -> Result<(), JsonPathError>
-    ensures ok { OnOk result (IsDeleted path.now (view document.old) (view document.new)) }
+    ensures ok { OnOk result (IsDeleted path.now (document_of (view document.old)) (document_of (view document.new))) }
     ensures refused { IfErr result (λ error. error ≡ JsonPathError.OutOfMemory) }
 {
     let spots = select_path_in_any_order(alloc, document, path)?;

@@ -14,3 +14,4 @@ pub mod UnescapedLemmas
 pub mod SliceLemmas
 pub mod TargetLemmas
 pub mod TryingLemmas
+pub mod GivenLemmas

@@ -3,7 +3,7 @@ use Rattle.std.specs.Prelude.{◌≡◌, ⊤, ◌⊎◌, ℕ, ◌<◌, ◌^◌, 
 use Rattle.std.specs.Str.{IsUtf8}
 use Rattle.std.specs.Char.{is_ascii}
 use Rattle.std.specs.List.{IsDistinct, list_all}
-use Rattle.serde_json.specs.Data.{Data}
+use Rattle.jsonpath_nodes.specs.document.Document.{Document}
 use Rattle.jsonpath_paths.specs.tree.Joined.{filter_text, joined_text}
 use Rattle.jsonpath_paths.specs.token.Kinds.{all_pass, begins_none}
 use Rattle.jsonpath_paths.specs.Spelling.{Spells, IsInGrammar}
@@ -14,7 +14,7 @@ use Rattle.jsonpath_paths.specs.declared.token.tokens.ParseToken.{ParseToken}
 use Rattle.jsonpath_paths.specs.declared.token.tokens.ParseToken.TheVariants.{Keys, Union}
 use Rattle.jsonpath_nodes.specs.place.Location.{Step, name, index, Location, at, is_same}
 use Rattle.jsonpath_nodes.specs.place.LocationText.{location_text}
-use Rattle.jsonpath_nodes.specs.place.Order.{IsDocument}
+use Rattle.jsonpath_nodes.specs.place.Order.{IsOrderedDocument}
 use Rattle.jsonpath_nodes.specs.place.SpotPlace.{sight_of}
 use Rattle.jsonpath_nodes.specs.declared.place.spot.Spot.{Spot}
 use Rattle.jsonpath_select.specs.Parts.{plain_of, literals}
@@ -27,14 +27,14 @@ use Rattle.jsonpath_select.specs.Meaning.{sel, answer, SelectsAt, Selects, Selec
 
 -- a path text selects one list of locations of a document, and one list of values
 abbrev pub OneListOfLocations : Type 0
-OneListOfLocations = (text : List ℕ) (doc : Data) (ls ms : List Location) → SelectsAt text doc ls → SelectsAt text doc ms → ls ≡ ms
+OneListOfLocations = (text : List ℕ) (doc : Document) (ls ms : List Location) → SelectsAt text doc ls → SelectsAt text doc ms → ls ≡ ms
 
 abbrev pub OneListOfValues : Type 0
-OneListOfValues = (text : List ℕ) (doc : Data) (xs ys : List Data) → Selects text doc xs → Selects text doc ys → xs ≡ ys
+OneListOfValues = (text : List ℕ) (doc : Document) (xs ys : List Document) → Selects text doc xs → Selects text doc ys → xs ≡ ys
 
 -- two answers of spots are at the same locations and have the same values
 abbrev pub OneListOfSights : Type 0
-OneListOfSights = (text : List ℕ) (doc : Data) (xs ys : List Spot) → SelectsSpots text doc xs → SelectsSpots text doc ys → map sight_of xs ≡ map sight_of ys
+OneListOfSights = (text : List ℕ) (doc : Document) (xs ys : List Spot) → SelectsSpots text doc xs → SelectsSpots text doc ys → map sight_of xs ≡ map sight_of ys
 
 -- ---- each location once
 
@@ -58,7 +58,7 @@ is_single (path absolute steps) = has_single_steps steps
 
 -- such a path selects no location of a document twice
 abbrev pub SelectsOnce : Type 0
-SelectsOnce = (text : List ℕ) (doc : Data) (p : Path) → IsDocument doc → IsTrue (is_single p) → IsDistinct is_same (sel text doc p)
+SelectsOnce = (text : List ℕ) (doc : Document) (p : Path) → IsOrderedDocument doc → IsTrue (is_single p) → IsDistinct is_same (sel text doc p)
 
 -- ---- both orders of `&&` and `||`
 
@@ -96,15 +96,15 @@ abbrev mutual
 
 -- they select the same list of locations in every document
 abbrev pub OrderIsFree : Type 0
-OrderIsFree = (s t : List ℕ) (doc : Data) (p q : Path) → IsReordered s t p q → sel s doc p ≡ sel t doc q
+OrderIsFree = (s t : List ℕ) (doc : Document) (p q : Path) → IsReordered s t p q → sel s doc p ≡ sel t doc q
 
 -- So do `$[?((a) && (b))]` and `$[?((b) && (a))]`, and those of `||`, where `$[?(a)]` and `$[?(b)]` are paths, too.
 abbrev pub LocationsInBothOrders : Type 0
-LocationsInBothOrders = (o : FilterToken) (a b : List ℕ) (doc : Data) (ls ms : List Location) → is_comparison o ≡ false → IsUtf8 a → IsUtf8 b
+LocationsInBothOrders = (o : FilterToken) (a b : List ℕ) (doc : Document) (ls ms : List Location) → is_comparison o ≡ false → IsUtf8 a → IsUtf8 b
     → IsInGrammar (filter_text a) → IsInGrammar (filter_text b) → SelectsAt (joined_text o a b) doc ls → SelectsAt (joined_text o b a) doc ms → ls ≡ ms
 
 abbrev pub ValuesInBothOrders : Type 0
-ValuesInBothOrders = (o : FilterToken) (a b : List ℕ) (doc : Data) (xs ys : List Data) → is_comparison o ≡ false → IsUtf8 a → IsUtf8 b
+ValuesInBothOrders = (o : FilterToken) (a b : List ℕ) (doc : Document) (xs ys : List Document) → is_comparison o ≡ false → IsUtf8 a → IsUtf8 b
     → IsInGrammar (filter_text a) → IsInGrammar (filter_text b) → Selects (joined_text o a b) doc xs → Selects (joined_text o b a) doc ys → xs ≡ ys
 
 -- ---- places
@@ -119,12 +119,12 @@ AllCanBeSpelled [] = ⊤
 AllCanBeSpelled (s ∷ l) = CanBeSpelled s × AllCanBeSpelled l
 
 -- the location, where something stands there
-abbrev pub where_it_is : Data → Location → List Location
+abbrev pub where_it_is : Document → Location → List Location
 where_it_is doc l = if is_some (at doc l) then l ∷ [] else []
 
 -- the text of a location is a path, and it selects just this location
 abbrev pub SelectsItself : Type 0
-SelectsItself = (doc : Data) (l : Location) → AllCanBeSpelled l → SelectsAt (location_text l) doc (where_it_is doc l)
+SelectsItself = (doc : Document) (l : Location) → AllCanBeSpelled l → SelectsAt (location_text l) doc (where_it_is doc l)
 
 -- ---- names behind dots
 
@@ -143,18 +143,18 @@ dotted ks = codes "$" ++ behind_dots ks
 
 -- it is a path, and it selects just the location where the names lead
 abbrev pub SelectsNames : Type 0
-SelectsNames = (doc : Data) (ks : List (List ℕ)) → list_all is_dot_name ks ≡ true → SelectsAt (dotted ks) doc (where_it_is doc (map name ks))
+SelectsNames = (doc : Document) (ks : List (List ℕ)) → list_all is_dot_name ks ≡ true → SelectsAt (dotted ks) doc (where_it_is doc (map name ks))
 
 -- ---- values
 
 -- a text that selects one location, where something stands there, selects the value there
 abbrev pub AnswersPlace : Type 0
-AnswersPlace = (text : List ℕ) (doc : Data) (l : Location) (values : List Data) → SelectsAt text doc (where_it_is doc l) → Selects text doc values → values ≡ option_to_list (at doc l)
+AnswersPlace = (text : List ℕ) (doc : Document) (l : Location) (values : List Document) → SelectsAt text doc (where_it_is doc l) → Selects text doc values → values ≡ option_to_list (at doc l)
 
 -- a text selects by any tree that it spells
 abbrev pub SelectsByTree : Type 0
-SelectsByTree = (text : List ℕ) (doc : Data) (p : Path) → Spells text p
-    → ((ls : List Location) → SelectsAt text doc ls → ls ≡ sel text doc p) × ((values : List Data) → Selects text doc values → values ≡ answer text doc p)
+SelectsByTree = (text : List ℕ) (doc : Document) (p : Path) → Spells text p
+    → ((ls : List Location) → SelectsAt text doc ls → ls ≡ sel text doc p) × ((values : List Document) → Selects text doc values → values ≡ answer text doc p)
 
 -- a text of the grammar is refused for want of memory alone
 abbrev pub NeverRefused : Type 0
@@ -162,4 +162,4 @@ NeverRefused = (text : List ℕ) (error : JsonPathError) → IsInGrammar text �
 
 -- each location that a path selects in a document holds a value, so there are as many values as locations
 abbrev pub AnswersEach : Type 0
-AnswersEach = (text : List ℕ) (doc : Data) (p : Path) → IsDocument doc → map (λ d. Some d) (answer text doc p) ≡ map (at doc) (sel text doc p)
+AnswersEach = (text : List ℕ) (doc : Document) (p : Path) → IsOrderedDocument doc → map (λ d. Some d) (answer text doc p) ≡ map (at doc) (sel text doc p)

@@ -1,8 +1,10 @@
 //! What a path answers, as callers state and prove it.
 ghost use Rattle.std.specs.Prelude.{◌≡◌, ◌≢◌, ◌↔◌, IfErr, IsErr, codes, map, length, List, Some, string_bytes, IfOk, IsTrue, option_to_list};
 ghost use Rattle.serde_json.specs.Data.{Data};
-ghost use Rattle.serde_json.specs.Find.{get};
+ghost use Rattle.jsonpath_nodes.specs.document.Document.{Document};
+ghost use Rattle.jsonpath_nodes.specs.document.Find.{get};
 ghost use Rattle.serde_json.specs.View.{view};
+ghost use Rattle.jsonpath_nodes.specs.document.OfData.{document_of};
 ghost use Rattle.jsonpath_nodes.specs.place.Location.{at};
 ghost use Rattle.jsonpath_paths.specs.declared.token.tokens.TokenError.TheVariants.{OutOfMemory, Position};
 ghost use Rattle.jsonpath_select.specs.SelectionLaws.{AllCanBeSpelled};
@@ -18,8 +20,8 @@ use std::alloc::Global;
 
 /// Selects by `$.price`: the value of the member `price` if `json` is an object that has one, else an empty list.
 pub fn price<'a>(alloc: Global, json: &'a Value) -> Result<Vec<&'a Value>, JsonPathError>
-    ensures { IfOk result (λ found. map (λ v. view v.now) found.items
-        ≡ option_to_list (get (codes "price") (view json.now))) }
+    ensures { IfOk result (λ found. map (λ v. document_of (view v.now)) found.items
+        ≡ option_to_list (get (codes "price") (document_of (view json.now)))) }
 {
     laws::dotted_names_select_one_location();
     laws::one_location_answers_one_value();
@@ -34,8 +36,8 @@ pub fn value_at<'a>(
     location: &Location,
 ) -> Result<Vec<&'a Value>, JsonPathError>
     requires { AllCanBeSpelled location.now }
-    ensures { IfOk result (λ found. map (λ v. view v.now) found.items
-        ≡ option_to_list (at (view json.now) location.now)) }
+    ensures { IfOk result (λ found. map (λ v. document_of (view v.now)) found.items
+        ≡ option_to_list (at (document_of (view json.now)) location.now)) }
 {
     laws::location_text_selects_itself();
     laws::one_location_answers_one_value();
@@ -47,7 +49,7 @@ pub fn value_at<'a>(
 
 /// The text of a JSON array of the values that the path selects: for `$[*].name`, say, the names in a list of records.
 pub fn column_text(alloc: Global, json: &Value, path: &str) -> Result<String, JsonPathError>
-    ensures { IfOk result (λ text. (values : List Data) × Selects path.now (view json.now) values × (list_text values ≡ Some (string_bytes text))) }
+    ensures { IfOk result (λ text. (values : List Data) × Selects path.now (document_of (view json.now)) (map document_of values) × (list_text values ≡ Some (string_bytes text))) }
 {
     let found = select(alloc, json, path)?;
     list_to_text(alloc, found.as_slice())
@@ -71,7 +73,7 @@ pub fn selects_exactly(
     path: &str,
     count: usize,
 ) -> Result<bool, JsonPathError>
-    ensures { IfOk result (λ so_many. (values : List Data) × Selects path.now (view json.now) values × (IsTrue so_many ↔ (length values ≡ count))) }
+    ensures { IfOk result (λ so_many. (values : List Document) × Selects path.now (document_of (view json.now)) values × (IsTrue so_many ↔ (length values ≡ count))) }
 {
     let found = select(alloc, json, path)?;
     Ok(found.len() == count)
@@ -83,7 +85,7 @@ pub fn select_by_both_selectors<'a>(
     json: &'a Value,
     path: &'a str,
 ) -> Result<(Vec<&'a Value>, Vec<&'a Value>), JsonPathError>
-    ensures { IfOk result (λ found. map (λ v. view v.now) found.0.items ≡ map (λ v. view v.now) found.1.items) }
+    ensures { IfOk result (λ found. map (λ v. document_of (view v.now)) found.0.items ≡ map (λ v. document_of (view v.now)) found.1.items) }
 {
     laws::one_selection_per_text();
     let mut one = JsonSelector::new(alloc, compile_path(alloc, path)?)?;
@@ -102,7 +104,7 @@ pub fn select_with_both_condition_orders<'a>(
     alloc: Global,
     books: &'a Value,
 ) -> Result<(Vec<&'a Value>, Vec<&'a Value>), JsonPathError>
-    ensures { IfOk result (λ found. map (λ v. view v.now) found.0.items ≡ map (λ v. view v.now) found.1.items) }
+    ensures { IfOk result (λ found. map (λ v. document_of (view v.now)) found.0.items ≡ map (λ v. document_of (view v.now)) found.1.items) }
 {
     laws::swapped_condition_texts_select_alike();
     compile_path(alloc, "$[?(@.isbn)]")?;

@@ -1,7 +1,8 @@
 //! What updates leave, as callers state and prove it.
 ghost use Rattle.std.specs.Prelude.{◌≡◌, [], ◌∷◌, codes, map, true, Some, None, IfOk, IfSome, IsSome, OnOk};
-ghost use Rattle.serde_json.specs.Data.{boolean};
+ghost use Rattle.jsonpath_nodes.specs.document.Document.{boolean};
 ghost use Rattle.serde_json.specs.View.{view};
+ghost use Rattle.jsonpath_nodes.specs.document.OfData.{document_of};
 ghost use Rattle.jsonpath_nodes.specs.update.Apart.{apart_below_root};
 ghost use Rattle.jsonpath_nodes.specs.place.Location.{Location, name, at};
 ghost use Rattle.jsonpath_nodes.specs.update.Update.{update};
@@ -26,6 +27,7 @@ pub fn mask_in_either_order(
     ensures { IfSome result (λ masked. view masked.0 ≡ view masked.1) }
 {
     laws::masks_in_any_order();
+    laws::documents_keep_data_apart();
     let Ok(one) = mask(alloc, one, &[first, second]) else {
         return None;
     };
@@ -37,10 +39,10 @@ pub fn mask_in_either_order(
 
 /// The document `config` with true in place of the value at `$.log.on`, if it has one there. All else stays.
 pub fn with_log_switched_on(alloc: Global, config: Value) -> Result<Value, JsonPathError>
-    ensures on { IfOk result (λ changed. IsSome (at (view config) (name (codes "log") ∷ name (codes "on") ∷ []))
-        → at (view changed) (name (codes "log") ∷ name (codes "on") ∷ []) ≡ Some (boolean true)) }
+    ensures on { IfOk result (λ changed. IsSome (at (document_of (view config)) (name (codes "log") ∷ name (codes "on") ∷ []))
+        → at (document_of (view changed)) (name (codes "log") ∷ name (codes "on") ∷ []) ≡ Some (boolean true)) }
     ensures rest { IfOk result (λ changed. (m : Location) → apart_below_root m (name (codes "log") ∷ name (codes "on") ∷ []) ≡ true
-        → at (view changed) m ≡ at (view config) m) }
+        → at (document_of (view changed)) m ≡ at (document_of (view config)) m) }
 {
     laws::dotted_names_select_one_location();
     laws::putting_at_one_location();
@@ -51,7 +53,7 @@ pub fn with_log_switched_on(alloc: Global, config: Value) -> Result<Value, JsonP
 
 /// Removes by `$.price`, twice: the first call removes the member `price`, if there is one, the second changes nothing.
 pub fn remove_price_twice(alloc: Global, json: &mut Value) -> Result<(), JsonPathError>
-    ensures { OnOk result (view json.new ≡ update (name (codes "price") ∷ []) None (view json.old)) }
+    ensures { OnOk result (document_of (view json.new) ≡ update (name (codes "price") ∷ []) None (document_of (view json.old))) }
 {
     laws::dotted_names_select_one_location();
     laws::deletes_and_removes_selected_location();
@@ -66,7 +68,7 @@ pub fn remove_price_twice(alloc: Global, json: &mut Value) -> Result<(), JsonPat
 /// The document without the values that any of these paths selects. All paths select before anything is removed. The
 /// error is that of a text that is no path, or `OutOfMemory`; the document is then dropped.
 pub fn without_secrets(alloc: Global, json: Value, secrets: &[&str]) -> Result<Value, JsonPathError>
-    ensures { IfOk result (λ left. AreRemoved (map (λ p. p.now) secrets.now) (view json) (view left)) }
+    ensures { IfOk result (λ left. AreRemoved (map (λ p. p.now) secrets.now) (document_of (view json)) (document_of (view left))) }
 {
     let left = remove_by_path_texts(alloc, json, secrets)?;
     Ok(left)

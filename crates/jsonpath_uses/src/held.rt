@@ -1,6 +1,7 @@
 //! What selectors and update types store, call after call, as callers state and prove it.
 ghost use Rattle.std.specs.Prelude.{◌≡◌, Some, map, true, false, IfOk, IfSome, OnOk, OnErr};
 ghost use Rattle.serde_json.specs.View.{view};
+ghost use Rattle.jsonpath_nodes.specs.document.OfData.{document_of};
 ghost use Rattle.jsonpath_select.specs.Targets.{IsDeleted};
 ghost use Rattle.jsonpath_select.specs.selectors.HeldChanges.{RemovesHeld};
 ghost use Rattle.jsonpath_select.specs.selectors.Held.{document};
@@ -46,7 +47,7 @@ pub fn select_by_second_path<'a>(
     first: &str,
     second: &str,
 ) -> Result<Vec<&'a Value>, JsonPathError>
-    ensures { IfOk result (λ found. Selects second.now (view json.now) (map (λ v. view v.now) found.items)) }
+    ensures { IfOk result (λ found. Selects second.now (document_of (view json.now)) (map (λ v. document_of (view v.now)) found.items)) }
 {
     let mut held = Selector::new();
     held.value(json);
@@ -62,8 +63,8 @@ pub fn select_in_two_documents<'a>(
     one: &'a Value,
     other: &'a Value,
 ) -> Result<(Vec<&'a Value>, Vec<&'a Value>), JsonPathError>
-    ensures one { IfOk result (λ found. Selects path.now (view one.now) (map (λ v. view v.now) found.0.items)) }
-    ensures other { IfOk result (λ found. Selects path.now (view other.now) (map (λ v. view v.now) found.1.items)) }
+    ensures one { IfOk result (λ found. Selects path.now (document_of (view one.now)) (map (λ v. document_of (view v.now)) found.0.items)) }
+    ensures other { IfOk result (λ found. Selects path.now (document_of (view other.now)) (map (λ v. document_of (view v.now)) found.1.items)) }
 {
     let mut held = Selector::new();
     held.set_path(alloc, path)?;
@@ -81,7 +82,7 @@ pub fn delete_in_statements(
     json: Value,
     path: PathParser<'_>,
 ) -> Result<Option<Value>, JsonPathError>
-    ensures { IfOk result (λ left. IfSome left (λ changed. IsDeleted path.entry (view json) (view changed))) }
+    ensures { IfOk result (λ left. IfSome left (λ changed. IsDeleted path.entry (document_of (view json)) (document_of (view changed)))) }
 {
     let mut held = JsonSelectorMut::new(alloc, path)?;
     held.value(json);

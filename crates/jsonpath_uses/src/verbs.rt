@@ -2,6 +2,7 @@
 //! For every other compiled path, its spelling is its own text, so the same holds of it.
 ghost use Rattle.std.specs.Prelude.{◌≡◌, Ok, map, option_map, string_bytes, vec_len, IfOk, IfErr, OnOk, OnErr};
 ghost use Rattle.serde_json.specs.View.{view};
+ghost use Rattle.jsonpath_nodes.specs.document.OfData.{document_of};
 ghost use Rattle.jsonpath_select.specs.answer.Counted.{IsCountOf, IsFirstOf, TellsIfAny};
 ghost use Rattle.jsonpath_select.specs.answer.Given.{IsTextOfAnswer, IsTypedCountOf, IsTextRefusedOf, IsTypedRefusedOf};
 ghost use Rattle.jsonpath_select.specs.Meaning.{Selects, SelectsAt, SelectsSpots};
@@ -20,7 +21,7 @@ pub fn select<'v>(
     json: &'v Value,
     path: &PathParser<'_>,
 ) -> Result<Vec<&'v Value>, JsonPathError>
-    ensures ok { IfOk result (λ found. Selects path.now (view json.now) (map (λ v. view v.now) found.items)) }
+    ensures ok { IfOk result (λ found. Selects path.now (document_of (view json.now)) (map (λ v. document_of (view v.now)) found.items)) }
     ensures refused { IfErr result (λ e. e ≡ JsonPathError.OutOfMemory) }
 {
     path.select(alloc, json)
@@ -32,7 +33,7 @@ pub fn select_spots<'v>(
     json: &'v Value,
     path: &PathParser<'_>,
 ) -> Result<Vec<Spot<'v>>, JsonPathError>
-    ensures ok { IfOk result (λ found. SelectsSpots path.now (view json.now) found.items) }
+    ensures ok { IfOk result (λ found. SelectsSpots path.now (document_of (view json.now)) found.items) }
     ensures refused { IfErr result (λ e. e ≡ JsonPathError.OutOfMemory) }
 {
     path.select_spots(alloc, json)
@@ -44,7 +45,7 @@ pub fn select_locations(
     json: &Value,
     path: &PathParser<'_>,
 ) -> Result<Vec<Location>, JsonPathError>
-    ensures ok { IfOk result (λ found. SelectsAt path.now (view json.now) found.items) }
+    ensures ok { IfOk result (λ found. SelectsAt path.now (document_of (view json.now)) found.items) }
     ensures refused { IfErr result (λ e. e ≡ JsonPathError.OutOfMemory) }
 {
     path.select_locations(alloc, json)
@@ -56,8 +57,8 @@ pub fn select_as_str(
     json: &Value,
     path: &PathParser<'_>,
 ) -> Result<String, JsonPathError>
-    ensures ok { IfOk result (λ text. IsTextOfAnswer (Selects path.now (view json.now)) (string_bytes text)) }
-    ensures refused { IfErr result (IsTextRefusedOf (Selects path.now (view json.now))) }
+    ensures ok { IfOk result (λ text. IsTextOfAnswer (Selects path.now (document_of (view json.now))) (string_bytes text)) }
+    ensures refused { IfErr result (IsTextRefusedOf (Selects path.now (document_of (view json.now)))) }
 {
     path.select_as_str(alloc, json)
 }
@@ -68,15 +69,15 @@ pub fn select_as<T: DeserializeOwned>(
     json: &Value,
     path: &PathParser<'_>,
 ) -> Result<Vec<T>, JsonPathError>
-    ensures ok { IfOk result (λ found. IsTypedCountOf (Selects path.now (view json.now)) (vec_len found)) }
-    ensures refused { IfErr result (IsTypedRefusedOf (Selects path.now (view json.now))) }
+    ensures ok { IfOk result (λ found. IsTypedCountOf (Selects path.now (document_of (view json.now))) (vec_len found)) }
+    ensures refused { IfErr result (IsTypedRefusedOf (Selects path.now (document_of (view json.now)))) }
 {
     path.select_as(alloc, json)
 }
 
 /// How many values the path selects in the document.
 pub fn count(alloc: Global, json: &Value, path: &PathParser<'_>) -> Result<usize, JsonPathError>
-    ensures ok { IfOk result (IsCountOf (Selects path.now (view json.now))) }
+    ensures ok { IfOk result (IsCountOf (Selects path.now (document_of (view json.now)))) }
     ensures refused { IfErr result (λ e. e ≡ JsonPathError.OutOfMemory) }
 {
     path.count(alloc, json)
@@ -88,7 +89,7 @@ pub fn first<'v>(
     json: &'v Value,
     path: &PathParser<'_>,
 ) -> Result<Option<&'v Value>, JsonPathError>
-    ensures ok { IfOk result (λ first. IsFirstOf (Selects path.now (view json.now)) (option_map (λ v. view v.now) first)) }
+    ensures ok { IfOk result (λ first. IsFirstOf (Selects path.now (document_of (view json.now))) (option_map (λ v. document_of (view v.now)) first)) }
     ensures refused { IfErr result (λ e. e ≡ JsonPathError.OutOfMemory) }
 {
     path.first(alloc, json)
@@ -96,7 +97,7 @@ pub fn first<'v>(
 
 /// Whether the path selects any value in the document.
 pub fn exists(alloc: Global, json: &Value, path: &PathParser<'_>) -> Result<bool, JsonPathError>
-    ensures ok { IfOk result (TellsIfAny (Selects path.now (view json.now))) }
+    ensures ok { IfOk result (TellsIfAny (Selects path.now (document_of (view json.now)))) }
     ensures refused { IfErr result (λ e. e ≡ JsonPathError.OutOfMemory) }
 {
     path.exists(alloc, json)
@@ -108,7 +109,7 @@ pub fn delete_in(
     value: &mut Value,
     path: &PathParser<'_>,
 ) -> Result<(), JsonPathError>
-    ensures ok { OnOk result (IsDeleted path.now (view value.old) (view value.new)) }
+    ensures ok { OnOk result (IsDeleted path.now (document_of (view value.old)) (document_of (view value.new))) }
     ensures refused { IfErr result (λ e. e ≡ JsonPathError.OutOfMemory) }
     ensures kept { OnErr result (value.new ≡ value.old) }
 {
@@ -121,7 +122,7 @@ pub fn remove_in(
     value: &mut Value,
     path: &PathParser<'_>,
 ) -> Result<(), JsonPathError>
-    ensures ok { OnOk result (IsRemoved path.now (view value.old) (view value.new)) }
+    ensures ok { OnOk result (IsRemoved path.now (document_of (view value.old)) (document_of (view value.new))) }
     ensures refused { IfErr result (λ e. e ≡ JsonPathError.OutOfMemory) }
     ensures kept { OnErr result (value.new ≡ value.old) }
 {
@@ -135,7 +136,7 @@ pub fn set_in(
     path: &PathParser<'_>,
     new: &Value,
 ) -> Result<(), JsonPathError>
-    ensures ok { OnOk result (IsSet path.now (view new.now) (view value.old) (view value.new)) }
+    ensures ok { OnOk result (IsSet path.now (document_of (view new.now)) (document_of (view value.old)) (document_of (view value.new))) }
     ensures refused { IfErr result (λ e. e ≡ JsonPathError.OutOfMemory) }
     ensures kept { OnErr result (value.new ≡ value.old) }
 {
@@ -150,7 +151,7 @@ pub fn replace_in<F: FnMut(Value) -> Option<Value>>(
     fun: &mut F,
 ) -> Result<(), JsonPathError>
     requires { F.IsAlwaysCallable fun.old }
-    ensures ok { OnOk result (IsReplaced F.FnMut path.now (view value.old) fun.old fun.new (view value.new)) }
+    ensures ok { OnOk result (IsReplaced F.FnMut path.now (document_of (view value.old)) fun.old fun.new (document_of (view value.new))) }
     ensures refused { IfErr result (λ e. e ≡ JsonPathError.OutOfMemory) }
     ensures kept { OnErr result (value.new ≡ value.old) }
     ensures unasked { OnErr result (fun.new ≡ fun.old) }
@@ -168,8 +169,8 @@ pub fn try_replace_in<E, F: FnMut(&Value) -> Result<Option<Value>, E>>(
     fun: &mut F,
 ) -> Result<(), TryFault<E>>
     requires { F.IsAlwaysCallable fun.old }
-    ensures ok { OnOk result (IsTried F.FnMut path.now (view value.old) fun.old (Ok tt) fun.new (view value.new)) }
-    ensures refused { IfErr result (IsEnded F.FnMut (λ e. e ≡ JsonPathError.OutOfMemory) path.now (view value.old) fun.old fun.new (view value.new)) }
+    ensures ok { OnOk result (IsTried F.FnMut path.now (document_of (view value.old)) fun.old (Ok tt) fun.new (document_of (view value.new))) }
+    ensures refused { IfErr result (IsEnded F.FnMut (λ e. e ≡ JsonPathError.OutOfMemory) path.now (document_of (view value.old)) fun.old fun.new (document_of (view value.new))) }
     ensures callable { F.IsAlwaysCallable fun.new }
 {
     path.try_replace_in(alloc, value, fun)

@@ -2,7 +2,7 @@
 use Rattle.std.proofs.Common.{◌≡◌, ℕ, zero, suc, ◌<◌, List, [], ◌∷◌, length, get_or, refl, sym, ap, subst, ◌∙◌, inl, inr, arith}
 use Rattle.std.specs.Prelude.{Contains, ◌↔◌}
 use Rattle.std.proofs.lemmas.List.Elements.{Contains-append_left, Contains-append_right, Contains-append_cases}
-use Rattle.serde_json.specs.Data.{Data}
+use Rattle.jsonpath_nodes.specs.document.Document.{Document}
 use Rattle.jsonpath_paths.specs.Spelling.{Spells}
 use Rattle.jsonpath_paths.specs.tree.Tree.{Path}
 use Rattle.jsonpath_nodes.specs.DocumentLaws.{OnceInOrderKeepsMembers, SetsAlone}
@@ -12,7 +12,7 @@ use Rattle.jsonpath_lib.specs.update.UpdateLaws.{AreSamePaths, MasksInAnyOrder, 
 use Rattle.jsonpath_lib.specs.update.Masked.{AreSelected, AreTargetsOfAll}
 
 -- each location that a list of paths selects is selected by one of them
-selected_by_one : (ss : List (List ℕ)) (doc : Data) (ls : List Location) (l : Location) → AreSelected ss doc ls → Contains ls l
+selected_by_one : (ss : List (List ℕ)) (doc : Document) (ls : List Location) (l : Location) → AreSelected ss doc ls → Contains ls l
     → (s : List ℕ) × (p : Path) × Contains ss s × Spells s p × Contains (sel s doc p) l
 selected_by_one [] doc ls l h there = let few = ap length h in let lt = there.1 in absurd (omega arith)
 selected_by_one (s ∷ ss) doc ls l h there =
@@ -25,7 +25,7 @@ selected_by_one (s ∷ ss) doc ls l h there =
 
 module _ (one_tree_per_text : (text : List ℕ) (p q : Path) → Spells text p → Spells text q → p ≡ q) where
   -- what one of the paths selects is selected by them all
-  selected_among_all : (ts : List (List ℕ)) (doc : Data) (ms : List Location) (s : List ℕ) (p : Path) (l : Location) (k : ℕ) → AreSelected ts doc ms
+  selected_among_all : (ts : List (List ℕ)) (doc : Document) (ms : List Location) (s : List ℕ) (p : Path) (l : Location) (k : ℕ) → AreSelected ts doc ms
       → k < length ts → get_or ts k s ≡ s → Spells s p → Contains (sel s doc p) l → Contains ms l
   selected_among_all [] doc ms s p l k h lt e spelled there = absurd (omega arith)
   selected_among_all (t ∷ ts) doc ms s p l zero h lt e spelled there =
@@ -36,7 +36,7 @@ module _ (one_tree_per_text : (text : List ℕ) (p q : Path) → Spells text p �
       subst (λ ns. Contains ns l) (sym h.4) (Contains-append_right (sel t doc h.0) h.1 l (selected_among_all ts doc h.1 s p l k h.3 (omega arith) e spelled there))
 
   -- what a list of paths selects is selected by any list that has all of them
-  selected_by_more : (ss ts : List (List ℕ)) (doc : Data) (ls ms : List Location) → ((s : List ℕ) → Contains ss s → Contains ts s)
+  selected_by_more : (ss ts : List (List ℕ)) (doc : Document) (ls ms : List Location) → ((s : List ℕ) → Contains ss s → Contains ts s)
       → AreSelected ss doc ls → AreSelected ts doc ms → (l : Location) → Contains ls l → Contains ms l
   selected_by_more ss ts doc ls ms among first second l there =
       let one = selected_by_one ss doc ls l first there in
@@ -44,7 +44,7 @@ module _ (one_tree_per_text : (text : List ℕ) (p q : Path) → Spells text p �
       selected_among_all ts doc ms one.0 one.1 l place.0 second place.1 place.2 one.3 one.4
 
   -- what two lists of the same paths select is one set
-  same_targets : OnceInOrderKeepsMembers → (ss ts : List (List ℕ)) (doc : Data) (ls ms : List Location) → AreSamePaths ss ts
+  same_targets : OnceInOrderKeepsMembers → (ss ts : List (List ℕ)) (doc : Document) (ls ms : List Location) → AreSamePaths ss ts
       → AreTargetsOfAll ss doc ls → AreTargetsOfAll ts doc ms → (l : Location) → Contains ls l ↔ Contains ms l
   same_targets keeps ss ts doc ls ms same first second l =
       rw (first.are, second.are) (

@@ -1,7 +1,7 @@
 -- Updates by a path that selects one location alone.
 use Rattle.std.proofs.Common.{◌≡◌, ℕ, List, [], ◌∷◌, Option, Some, None, Bool, true, false, cond, is_some, refl, sym, ap, subst, ◌∙◌}
 use Rattle.std.specs.List.Sorted.{IsStrictlySortedBy}
-use Rattle.serde_json.specs.Data.{Data, null}
+use Rattle.jsonpath_nodes.specs.document.Document.{Document, null}
 use Rattle.jsonpath_paths.specs.Spelling.{Spells}
 use Rattle.jsonpath_paths.specs.tree.Tree.{Path}
 use Rattle.jsonpath_nodes.specs.DocumentLaws.{OnceInOrderAscends, NullsInTurn, TakesFromTheBack, ChangesNothing}
@@ -19,7 +19,7 @@ one_in_order : (b : Bool) (l : Location) → once_in_order (cond b (l ∷ []) []
 one_in_order true l = refl
 one_in_order false l = refl
 
-no_target : (doc : Data) (l : Location) → at doc l ≡ None → target l doc ≡ None
+no_target : (doc : Document) (l : Location) → at doc l ≡ None → target l doc ≡ None
 no_target doc [] none = refl
 no_target doc (s ∷ l) none = none
 
@@ -30,17 +30,17 @@ module _ (one_tree_per_text : (text : List ℕ) (p q : Path) → Spells text p �
 
 module _ (nowhere : ChangesNothing) where
   -- the run of updates at the location, if something stands there, is the single update
-  pub each_there : (answer : Option Data) (doc : Data) (l : Location) → update_each answer (where_it_is doc l) doc ≡ update l answer doc
+  pub each_there : (answer : Option Document) (doc : Document) (l : Location) → update_each answer (where_it_is doc l) doc ≡ update l answer doc
   each_there answer doc l = by_value (at doc l) refl
     where
-      by_value : (o : Option Data) → at doc l ≡ o → update_each answer (cond (is_some o) (l ∷ []) []) doc ≡ update l answer doc
+      by_value : (o : Option Document) → at doc l ≡ o → update_each answer (cond (is_some o) (l ∷ []) []) doc ≡ update l answer doc
       by_value None e = sym (nowhere answer l doc (no_target doc l e))
       by_value (Some d) e = refl
 
-  back_there : (answer : Option Data) (doc : Data) (l : Location) → update_each_back answer (where_it_is doc l) doc ≡ update l answer doc
+  back_there : (answer : Option Document) (doc : Document) (l : Location) → update_each_back answer (where_it_is doc l) doc ≡ update l answer doc
   back_there answer doc l = by_value (at doc l) refl
     where
-      by_value : (o : Option Data) → at doc l ≡ o → update_each_back answer (cond (is_some o) (l ∷ []) []) doc ≡ update l answer doc
+      by_value : (o : Option Document) → at doc l ≡ o → update_each_back answer (cond (is_some o) (l ∷ []) []) doc ≡ update l answer doc
       by_value None e = sym (nowhere answer l doc (no_target doc l e))
       by_value (Some d) e = refl
 

@@ -1,7 +1,9 @@
 -- What is kept for later calls: a compiled path for many documents, or a document for many path texts.
-use Rattle.std.specs.Prelude.{◌≡◌, ℕ, List, true, MatchResult}
+use Rattle.std.specs.Prelude.{◌≡◌, ℕ, List, map, true, MatchResult}
 use Rattle.serde_json.specs.Data.{Data}
 use Rattle.serde_json.specs.View.{view}
+use Rattle.jsonpath_nodes.specs.document.Document.{Document}
+use Rattle.jsonpath_nodes.specs.document.OfData.{document_of}
 use Rattle.jsonpath_select.specs.ErrorCases.{IsRefusedBy}
 use Rattle.jsonpath_select.specs.JsonPathErrors.{IsPathRefused, IsFaultError}
 use Rattle.jsonpath_select.specs.compile.Faults.{IsParseRefused}
@@ -20,7 +22,7 @@ abbrev pub KeepsPath : List ℕ → CompiledPath → Type 0
 KeepsPath text kept = MatchResult kept.outcome (λ path. (path ≡ text) × IsInGrammar text) (IsParseRefused text)
 
 -- the kept path selects these values
-abbrev pub AnswersKept : CompiledPath → Data → List Data → Type 0
+abbrev pub AnswersKept : CompiledPath → Document → List Document → Type 0
 AnswersKept kept document values = MatchResult kept.outcome (λ path. Selects path document values) (λ fault. ⊥)
 
 -- the kept fault is answered, or memory ran out
@@ -28,17 +30,17 @@ abbrev pub RefusesKept : CompiledPath → JsonPathError → Type 0
 RefusesKept kept error = MatchResult kept.outcome (λ path. error ≡ OutOfMemory) (λ fault. IsFaultError fault error)
 
 -- the document
-abbrev pub document_of : PathSelector → Data
-document_of selector = view selector.json.now
+abbrev pub held_document : PathSelector → Document
+held_document selector = document_of (view selector.json.now)
 
-abbrev pub typed_document_of : {T : Type 0} → PathSelectorAs T → Data
-typed_document_of selector = view selector.json.now
+abbrev pub typed_held_document : {T : Type 0} → PathSelectorAs T → Document
+typed_held_document selector = document_of (view selector.json.now)
 
 -- the path selects so many values in the document, and no unread number stands in them
-abbrev pub IsCountIn : Data → List ℕ → ℕ → Type 0
+abbrev pub IsCountIn : Document → List ℕ → ℕ → Type 0
 IsCountIn document text count = IsTypedCountOf (Selects text document) count
 
 -- The text is no path, or a selected value is no value of the type; an unread number in one is named by the message.
-abbrev pub IsTypedRefusedIn : Data → List ℕ → JsonPathError → Type 0
+abbrev pub IsTypedRefusedIn : Document → List ℕ → JsonPathError → Type 0
 IsTypedRefusedIn document text error =
-    IsRefusedBy (λ message. IsPathRefused text (Path message)) (λ message. (values : List Data) × Selects text document values × (holds_unread values ≡ true → IsUnreadError (Serde message))) error
+    IsRefusedBy (λ message. IsPathRefused text (Path message)) (λ message. (values : List Data) × Selects text document (map document_of values) × (holds_unread values ≡ true → IsUnreadError (Serde message))) error

@@ -1,7 +1,7 @@
 -- What several paths select together, and what masking and removing by them leave.
 use Rattle.std.specs.Prelude.{◌≡◌, ℕ, List, [], ◌∷◌, ◌++◌, length, All, Option, Some, None, String, codes, decimal}
 use Rattle.std.specs.declared.alloc.Global.{Global}
-use Rattle.serde_json.specs.Data.{Data}
+use Rattle.jsonpath_nodes.specs.document.Document.{Document}
 use Rattle.jsonpath_paths.specs.Spelling.{Spells, IsInGrammar}
 use Rattle.jsonpath_paths.specs.tree.Tree.{Path}
 use Rattle.jsonpath_nodes.specs.place.Location.{Location}
@@ -13,25 +13,25 @@ use Rattle.jsonpath_select.specs.declared.error.JsonPathError.TheVariants.{Empty
 use Rattle.jsonpath_select.specs.Meaning.{sel}
 
 -- the locations that the paths select in the same document, path after path
-abbrev pub AreSelected : List (List ℕ) → Data → List Location → Type 0
+abbrev pub AreSelected : List (List ℕ) → Document → List Location → Type 0
 AreSelected [] doc ls = ls ≡ []
 AreSelected (text ∷ texts) doc ls =
     (p : Path) × (rest : List Location) × Spells text p × AreSelected texts doc rest × (ls ≡ sel text doc p ++ rest)
 
 -- the locations that the paths select in the same document, each once, in document order
-pub record AreTargetsOfAll (texts : List (List ℕ)) (doc : Data) (locations : List Location) : Type 0 where
+pub record AreTargetsOfAll (texts : List (List ℕ)) (doc : Document) (locations : List Location) : Type 0 where
   pub all : List Location
   pub selected : AreSelected texts doc all
   pub are : locations ≡ once_in_order all
 
 -- null stands at the topmost locations below the root that any of the paths selects in the document as it was
-pub record IsMasked (texts : List (List ℕ)) (before after : Data) : Type 0 where
+pub record IsMasked (texts : List (List ℕ)) (before after : Document) : Type 0 where
   pub locations : List Location
   pub targets : AreTargetsOfAll texts before locations
   pub changed : after ≡ nulled locations before
 
 -- what stood at these locations is gone, all of it at once
-pub record AreRemoved (texts : List (List ℕ)) (before after : Data) : Type 0 where
+pub record AreRemoved (texts : List (List ℕ)) (before after : Document) : Type 0 where
   pub locations : List Location
   pub targets : AreTargetsOfAll texts before locations
   pub changed : after ≡ taken locations before

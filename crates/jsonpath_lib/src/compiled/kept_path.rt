@@ -1,6 +1,7 @@
 //! A compiled path that is kept for many documents: what it selects in them, and updates at what it selects.
 ghost use Rattle.std.specs.Prelude.{◌≡◌, map, IfOk, IfErr, OnErr};
 ghost use Rattle.serde_json.specs.View.{view};
+ghost use Rattle.jsonpath_nodes.specs.document.OfData.{document_of};
 ghost use Rattle.jsonpath_select.specs.Meaning.{Selects};
 ghost use Rattle.jsonpath_select.specs.Targets.{IsDeleted, IsReplaced};
 
@@ -54,7 +55,7 @@ impl<P: AnyPath> KeptPath<P> {
         alloc: Global,
         value: &'v Value,
     ) -> Result<Vec<&'v Value>, JsonPathError>
-        ensures ok { IfOk result (λ found. Selects self.now (view value.now) (map (λ v. view v.now) found.items)) }
+        ensures ok { IfOk result (λ found. Selects self.now (document_of (view value.now)) (map (λ v. document_of (view v.now)) found.items)) }
         ensures refused { IfErr result (λ e. e ≡ JsonPathError.OutOfMemory) }
     {
         self.path.select(alloc, value)
@@ -70,7 +71,7 @@ impl<P: AnyPath> KeptPath<P> {
     /// assert!(rt; document_to_text(alloc, &deleted)?.as_str() == "[1,null,null]");
     /// ```
     pub fn delete(&self, alloc: Global, value: Value) -> Result<Value, JsonPathError>
-        ensures ok { IfOk result (λ changed. IsDeleted self.now (view value) (view changed)) }
+        ensures ok { IfOk result (λ changed. IsDeleted self.now (document_of (view value)) (document_of (view changed))) }
         ensures refused { IfErr result (λ e. e ≡ JsonPathError.OutOfMemory) }
     {
         let mut changed = value;
@@ -98,7 +99,7 @@ impl<P: AnyPath> KeptPath<P> {
         fun: &mut F,
     ) -> Result<Value, JsonPathError>
         requires { F.IsAlwaysCallable fun.old }
-        ensures ok { IfOk result (λ changed. IsReplaced F.FnMut self.now (view value) fun.old fun.new (view changed)) }
+        ensures ok { IfOk result (λ changed. IsReplaced F.FnMut self.now (document_of (view value)) fun.old fun.new (document_of (view changed))) }
         ensures refused { IfErr result (λ e. e ≡ JsonPathError.OutOfMemory) }
         ensures unasked { OnErr result (fun.new ≡ fun.old) }
         ensures callable { F.IsAlwaysCallable fun.new }

@@ -2,6 +2,7 @@
 //! returns.
 ghost use Rattle.std.specs.Prelude.{◌≡◌, Ok, MatchResult, map, IfOk, IfErr};
 ghost use Rattle.serde_json.specs.View.{view};
+ghost use Rattle.jsonpath_nodes.specs.document.OfData.{document_of};
 ghost use Rattle.jsonpath_select.specs.JsonPathErrors.{IsFaultError};
 ghost use Rattle.jsonpath_lib.specs.compiled.Kept.{KeepsPath, AnswersKept, RefusesKept};
 
@@ -72,7 +73,7 @@ impl CompiledPath {
         alloc: Global,
         value: &'v Value,
     ) -> Result<Vec<&'v Value>, JsonPathError>
-        ensures ok { IfOk result (λ found. AnswersKept self.now (view value.now) (map (λ v. view v.now) found.items)) }
+        ensures ok { IfOk result (λ found. AnswersKept self.now (document_of (view value.now)) (map (λ v. document_of (view v.now)) found.items)) }
         ensures refused { IfErr result (RefusesKept self.now) }
     {
         self.path_or_error(alloc)?.select(alloc, value)

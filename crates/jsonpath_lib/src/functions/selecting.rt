@@ -1,6 +1,7 @@
 //! What a path text selects: values in a document, or their text or typed values from a JSON text.
 ghost use Rattle.std.specs.Prelude.{map, string_bytes, vec_len, IfOk, IfErr};
 ghost use Rattle.serde_json.specs.View.{view};
+ghost use Rattle.jsonpath_nodes.specs.document.OfData.{document_of};
 ghost use Rattle.jsonpath_select.specs.JsonPathErrors.{IsPathRefused};
 ghost use Rattle.jsonpath_select.specs.Meaning.{Selects};
 ghost use Rattle.jsonpath_lib.specs.functions.Answers.{IsTextFromJson, IsCountFromJson, IsTextRefusal, IsTypedRefusal};
@@ -25,7 +26,7 @@ pub fn select<'a>(
     json: &'a Value,
     path: &str,
 ) -> Result<Vec<&'a Value>, JsonPathError>
-    ensures ok { IfOk result (λ found. Selects path.now (view json.now) (map (λ v. view v.now) found.items)) }
+    ensures ok { IfOk result (λ found. Selects path.now (document_of (view json.now)) (map (λ v. document_of (view v.now)) found.items)) }
     ensures refused { IfErr result (IsPathRefused path.now) }
 {
     let compiled = compile_path(alloc, path)?;
@@ -81,8 +82,8 @@ pub(crate) fn select_to_typed<T: DeserializeOwned>(
     json: &Value,
     path: &str,
 ) -> Result<Vec<T>, JsonPathError>
-    ensures ok { IfOk result (λ found. IsTypedCountOf (Selects path.now (view json.now)) (vec_len found)) }
-    ensures refused { IfErr result (IsTypedRefusedIn (view json.now) path.now) }
+    ensures ok { IfOk result (λ found. IsTypedCountOf (Selects path.now (document_of (view json.now))) (vec_len found)) }
+    ensures refused { IfErr result (IsTypedRefusedIn (document_of (view json.now)) path.now) }
 {
     let compiled = compile_path(alloc, path)?;
     compiled.select_as(alloc, json)

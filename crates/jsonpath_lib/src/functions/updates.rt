@@ -1,6 +1,7 @@
 //! Updates of a document at what a path text selects, in one call.
 ghost use Rattle.std.specs.Prelude.{◌≡◌, IfOk, IfErr, OnErr};
 ghost use Rattle.serde_json.specs.View.{view};
+ghost use Rattle.jsonpath_nodes.specs.document.OfData.{document_of};
 ghost use Rattle.jsonpath_select.specs.JsonPathErrors.{IsPathRefused};
 ghost use Rattle.jsonpath_select.specs.Targets.{IsDeleted, IsReplaced};
 
@@ -17,7 +18,7 @@ use std::alloc::Global;
 /// assert!(rt; document_to_text(alloc, &deleted)?.as_str() == "[1,null]");
 /// ```
 pub fn delete(alloc: Global, value: Value, path: &str) -> Result<Value, JsonPathError>
-    ensures ok { IfOk result (λ changed. IsDeleted path.now (view value) (view changed)) }
+    ensures ok { IfOk result (λ changed. IsDeleted path.now (document_of (view value)) (document_of (view changed))) }
     ensures refused { IfErr result (IsPathRefused path.now) }
 {
     let compiled = compile_path(alloc, path)?;
@@ -45,7 +46,7 @@ pub fn replace_with<F: FnMut(Value) -> Option<Value>>(
     fun: &mut F,
 ) -> Result<Value, JsonPathError>
     requires { F.IsAlwaysCallable fun.old }
-    ensures ok { IfOk result (λ changed. IsReplaced F.FnMut path.now (view value) fun.old fun.new (view changed)) }
+    ensures ok { IfOk result (λ changed. IsReplaced F.FnMut path.now (document_of (view value)) fun.old fun.new (document_of (view changed))) }
     ensures refused { IfErr result (IsPathRefused path.now) }
     ensures unasked { OnErr result (fun.new ≡ fun.old) }
     ensures callable { F.IsAlwaysCallable fun.new }

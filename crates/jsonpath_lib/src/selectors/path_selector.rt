@@ -1,9 +1,10 @@
 //! One document for many path texts: what each of them selects in it.
 ghost use Rattle.std.specs.Prelude.{◌≡◌, map, vec_len, IfOk, IfErr};
 ghost use Rattle.serde_json.specs.View.{view};
+ghost use Rattle.jsonpath_nodes.specs.document.OfData.{document_of};
 ghost use Rattle.jsonpath_select.specs.JsonPathErrors.{IsPathRefused};
 ghost use Rattle.jsonpath_select.specs.Meaning.{Selects};
-ghost use Rattle.jsonpath_lib.specs.compiled.Kept.{document_of, typed_document_of, IsCountIn, IsTypedRefusedIn};
+ghost use Rattle.jsonpath_lib.specs.compiled.Kept.{held_document, typed_held_document, IsCountIn, IsTypedRefusedIn};
 
 use crate::functions::selecting::{select, select_to_typed};
 use jsonpath_select::JsonPathError;
@@ -34,7 +35,7 @@ pub struct PathSelector<'a> {
 /// assert_eq!(rt; within.select(alloc, "$[1:]")?.len(), 2);
 /// ```
 pub fn selector<'a>(json: &'a Value) -> PathSelector<'a>
-    ensures { document_of result ≡ view json.now }
+    ensures { held_document result ≡ document_of (view json.now) }
 {
     PathSelector { json }
 }
@@ -50,7 +51,7 @@ impl<'a> PathSelector<'a> {
     /// assert!(rt; list_to_text(alloc, found.as_slice())?.as_str() == "[2,3]");
     /// ```
     pub fn select(&self, alloc: Global, path: &str) -> Result<Vec<&'a Value>, JsonPathError>
-        ensures ok { IfOk result (λ found. Selects path.now (document_of self.now) (map (λ v. view v.now) found.items)) }
+        ensures ok { IfOk result (λ found. Selects path.now (held_document self.now) (map (λ v. document_of (view v.now)) found.items)) }
         ensures refused { IfErr result (IsPathRefused path.now) }
     {
         select(alloc, self.json, path)
@@ -80,7 +81,7 @@ pub struct PathSelectorAs<'a, T> {
 /// assert_eq!(rt; last[0], 3);
 /// ```
 pub fn selector_as<'a, T: DeserializeOwned>(json: &'a Value) -> PathSelectorAs<'a, T>
-    ensures { typed_document_of result ≡ view json.now }
+    ensures { typed_held_document result ≡ document_of (view json.now) }
 {
     PathSelectorAs {
         json,
@@ -101,8 +102,8 @@ impl<'a, T: DeserializeOwned> PathSelectorAs<'a, T> {
     /// assert_eq!(rt; numbers[0], 2);
     /// ```
     pub fn select(&self, alloc: Global, path: &str) -> Result<Vec<T>, JsonPathError>
-        ensures ok { IfOk result (λ found. IsCountIn (typed_document_of self.now) path.now (vec_len found)) }
-        ensures refused { IfErr result (IsTypedRefusedIn (typed_document_of self.now) path.now) }
+        ensures ok { IfOk result (λ found. IsCountIn (typed_held_document self.now) path.now (vec_len found)) }
+        ensures refused { IfErr result (IsTypedRefusedIn (typed_held_document self.now) path.now) }
     {
         select_to_typed(alloc, self.json, path)
     }

@@ -1,6 +1,7 @@
 //! Masking: null at what several paths select.
 ghost use Rattle.std.specs.Prelude.{◌≡◌, map, IfErr, OnOk, OnErr, IfOk};
 ghost use Rattle.serde_json.specs.View.{view};
+ghost use Rattle.jsonpath_nodes.specs.document.OfData.{document_of};
 ghost use Rattle.jsonpath_lib.specs.update.Masked.{IsMasked, ArePathsRefused};
 
 use crate::update::several_paths::{MaskFault, compile_or_give_back, targets_of_all};
@@ -25,7 +26,7 @@ use std::alloc::Global;
 /// assert!(rt; document_to_text(alloc, &masked)?.as_str() == "[null,[null,3]]");
 /// ```
 pub fn mask(alloc: Global, value: Value, paths: &[&str]) -> Result<Value, MaskFault>
-    ensures ok { IfOk result (λ masked. IsMasked (map (λ p. p.now) paths.now) (view value) (view masked)) }
+    ensures ok { IfOk result (λ masked. IsMasked (map (λ p. p.now) paths.now) (document_of (view value)) (document_of (view masked))) }
     ensures refused { IfErr result (λ fault. ArePathsRefused (map (λ p. p.now) paths.now) fault.index fault.fault) }
     ensures kept { IfErr result (λ fault. fault.value ≡ value) }
 {
@@ -54,7 +55,7 @@ pub fn mask_at_paths(
     value: &mut Value,
     paths: &[PathParser<'_>],
 ) -> Result<(), JsonPathError>
-    ensures ok { OnOk result (IsMasked paths.now (view value.old) (view value.new)) }
+    ensures ok { OnOk result (IsMasked paths.now (document_of (view value.old)) (document_of (view value.new))) }
     ensures refused { IfErr result (λ e. e ≡ JsonPathError.OutOfMemory) }
     ensures kept { OnErr result (value.new ≡ value.old) }
 {

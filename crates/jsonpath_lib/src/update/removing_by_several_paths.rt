@@ -1,6 +1,7 @@
 //! Removing: what any of several paths selects is taken away.
 ghost use Rattle.std.specs.Prelude.{◌≡◌, map, IfErr, OnOk, OnErr, IfOk};
 ghost use Rattle.serde_json.specs.View.{view};
+ghost use Rattle.jsonpath_nodes.specs.document.OfData.{document_of};
 ghost use Rattle.jsonpath_lib.specs.update.Masked.{AreRemoved, ArePathsRefused};
 
 use crate::update::several_paths::{MaskFault, compile_or_give_back, targets_of_all};
@@ -26,7 +27,7 @@ use std::alloc::Global;
 /// assert!(rt; document_to_text(alloc, &left)?.as_str() == "[[3],4]");
 /// ```
 pub fn remove_by_path_texts(alloc: Global, value: Value, paths: &[&str]) -> Result<Value, MaskFault>
-    ensures ok { IfOk result (λ left. AreRemoved (map (λ p. p.now) paths.now) (view value) (view left)) }
+    ensures ok { IfOk result (λ left. AreRemoved (map (λ p. p.now) paths.now) (document_of (view value)) (document_of (view left))) }
     ensures refused { IfErr result (λ fault. ArePathsRefused (map (λ p. p.now) paths.now) fault.index fault.fault) }
     ensures kept { IfErr result (λ fault. fault.value ≡ value) }
 {
@@ -56,7 +57,7 @@ pub fn remove_at_paths(
     value: &mut Value,
     paths: &[PathParser<'_>],
 ) -> Result<(), JsonPathError>
-    ensures ok { OnOk result (AreRemoved paths.now (view value.old) (view value.new)) }
+    ensures ok { OnOk result (AreRemoved paths.now (document_of (view value.old)) (document_of (view value.new))) }
     ensures refused { IfErr result (λ e. e ≡ JsonPathError.OutOfMemory) }
     ensures kept { OnErr result (value.new ≡ value.old) }
 {

@@ -3,6 +3,7 @@
 ghost use Rattle.std.specs.Prelude.{◌≡◌, Some, List, map, IfErr, IfOk};
 ghost use Rattle.std.specs.List.Sorted.{IsStrictlySortedBy};
 ghost use Rattle.serde_json.specs.View.{view};
+ghost use Rattle.jsonpath_nodes.specs.document.OfData.{document_of};
 ghost use Rattle.jsonpath_nodes.specs.place.Location.{Location, location_cmp};
 ghost use Rattle.jsonpath_nodes.specs.place.Order.{once_in_order};
 ghost use Rattle.jsonpath_nodes.specs.place.SpotPlace.{location_of};
@@ -96,7 +97,7 @@ pub(crate) fn targets_of_all(
     value: &Value,
     paths: &[PathParser<'_>],
 ) -> Result<Vec<Location>, JsonPathError>
-    ensures ok { IfOk result (λ found. AreTargetsOfAll paths.now (view value.now) found.items) }
+    ensures ok { IfOk result (λ found. AreTargetsOfAll paths.now (document_of (view value.now)) found.items) }
     ensures ordered { IfOk result (λ found. IsStrictlySortedBy location_cmp found.items) }
     ensures refused { IfErr result (λ e. e ≡ JsonPathError.OutOfMemory) }
 {
@@ -111,7 +112,7 @@ fn select_paths_in_any_order<'a>(
     value: &'a Value,
     paths: &[PathParser<'_>],
 ) -> Result<Vec<Spot<'a>>, JsonPathError>
-    ensures ok { IfOk result (λ spots. (all : List Location) × AreSelected paths.now (view value.now) all × (once_in_order (map location_of spots.items) ≡ once_in_order all)) }
+    ensures ok { IfOk result (λ spots. (all : List Location) × AreSelected paths.now (document_of (view value.now)) all × (once_in_order (map location_of spots.items) ≡ once_in_order all)) }
     ensures refused { IfErr result (λ e. e ≡ JsonPathError.OutOfMemory) }
 {
     locations_once_in_order_ascend();

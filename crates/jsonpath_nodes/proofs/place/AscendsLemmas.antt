@@ -5,9 +5,9 @@ use Rattle.std.specs.List.{AllByRecursion}
 use Rattle.std.specs.List.Sorted.{IsStrictlySortedBy}
 use Rattle.std.specs.Ordering.{ordering_then}
 use Rattle.std.proofs.lemmas.Cmp.{nat_cmp_total, nat_list_cmp_total, tied_itself}
-use Rattle.serde_json.specs.Data.{Data, array, object, Items, no_items, item, Members, no_members, member}
+use Rattle.jsonpath_nodes.specs.document.Document.{Document, array, object, Items, no_items, item, Members, no_members, member}
 use Rattle.jsonpath_nodes.specs.place.Location.{Step, name, index, Location, names, below, below_items, below_members, flat, flat_items, step_cmp, location_cmp}
-use Rattle.jsonpath_nodes.specs.place.Order.{IsDocument, AreDocuments, HoldDocuments}
+use Rattle.jsonpath_nodes.specs.place.Order.{IsOrderedDocument, AreOrderedDocuments, HoldOrderedDocuments}
 use Rattle.jsonpath_nodes.proofs.step.DistinctLemmas.{all_of, all_then, all_append, all_map}
 
 -- the location begins with a step that P holds of
@@ -77,18 +77,18 @@ some_step (member k d ms) = (tt, some_step ms)
 mutual
   unfolding IsStrictlySortedBy
 
-  pub locations_below_root_ascend : (d : Data) → IsDocument d → IsStrictlySortedBy location_cmp (below d)
+  pub locations_below_root_ascend : (d : Document) → IsOrderedDocument d → IsStrictlySortedBy location_cmp (below d)
   locations_below_root_ascend (array ds) h = sorted_after_root (below_items 0 ds) (begin_items (λ s. Unit {0}) 0 ds (λ j le. tt)) (items_ascend 0 ds h)
   locations_below_root_ascend (object ms) h = sorted_after_root (below_members ms) (begin_members (λ s. Unit {0}) ms (some_step ms)) (members_ascend ms h.0 h.1)
   locations_below_root_ascend _ h = (tt, tt)
 
-  items_ascend : (n : ℕ) (ds : Items) → AreDocuments ds → IsStrictlySortedBy location_cmp (below_items n ds)
+  items_ascend : (n : ℕ) (ds : Items) → AreOrderedDocuments ds → IsStrictlySortedBy location_cmp (below_items n ds)
   items_ascend n no_items h = tt
   items_ascend n (item d ds) h =
       sorted_children (index n) (below d) (below_items (suc n) ds) (locations_below_root_ascend d h.0) (items_ascend (suc n) ds h.1)
       (begin_items (Precedes (index n)) (suc n) ds (λ j le. let below_j : n < j = omega arith in sym (nat_cmp_is n j Less below_j)))
 
-  members_ascend : (ms : Members) → IsStrictlySortedBy step_cmp (names ms) → HoldDocuments ms → IsStrictlySortedBy location_cmp (below_members ms)
+  members_ascend : (ms : Members) → IsStrictlySortedBy step_cmp (names ms) → HoldOrderedDocuments ms → IsStrictlySortedBy location_cmp (below_members ms)
   members_ascend no_members h k = tt
   members_ascend (member j d ms) h k =
       sorted_children (name j) (below d) (below_members ms) (locations_below_root_ascend d k.0) (members_ascend ms h.1 k.1) (begin_members (Precedes (name j)) ms h.0)
@@ -118,7 +118,7 @@ begin_flat P n (item d ds) h =
 mutual
   unfolding IsStrictlySortedBy
 
-  pub flat_ascends : (d : Data) → IsStrictlySortedBy location_cmp (flat d)
+  pub flat_ascends : (d : Document) → IsStrictlySortedBy location_cmp (flat d)
   flat_ascends (array ds) = flat_items_ascend 0 ds
   flat_ascends _ = (tt, tt)
 

@@ -3,10 +3,10 @@ use Rattle.std.proofs.Common.{◌≡◌, ℕ, zero, suc, ◌+◌, ◌<◌, lengt
 use Rattle.std.specs.Prelude.{option_and_then, Contains, IsSome}
 use Rattle.std.specs.Ordering.{match_ordering}
 use Rattle.std.specs.Cmp.Lexicographic.{slice_cmp}
-use Rattle.serde_json.specs.Data.{Data, array, object, Items, no_items, item, Members, no_members, member}
-use Rattle.serde_json.specs.Find.{get_item, get_member}
+use Rattle.jsonpath_nodes.specs.document.Document.{Document, array, object, Items, no_items, item, Members, no_members, member}
+use Rattle.jsonpath_nodes.specs.document.Find.{get_item, get_member}
 use Rattle.jsonpath_nodes.specs.place.Location.{Step, name, index, Location, at, child, below}
-use Rattle.jsonpath_nodes.specs.place.Order.{IsDocument}
+use Rattle.jsonpath_nodes.specs.place.Order.{IsOrderedDocument}
 use Rattle.jsonpath_nodes.specs.DocumentLaws.{BelowIsAll}
 use Rattle.jsonpath_nodes.proofs.step.ChildLemmas.{Kid, item_kids, member_kids, through, below_items-kids, below_members-kids, AreAt, all_items_at, members_at, document_child}
 use Rattle.jsonpath_nodes.proofs.step.OnceLemmas.{names_same}
@@ -45,31 +45,31 @@ among_mapped to l (x ∷ xs) (inr h) = let rest = among_mapped to l xs h in (res
 
 -- ---- below the children
 
-abbrev kids : Data → List Kid
+abbrev kids : Document → List Kid
 kids (array ds) = item_kids 0 ds
 kids (object ms) = member_kids ms
 kids _ = []
 
-below-kids : (d : Data) → below d ≡ [] ∷ through below (kids d)
+below-kids : (d : Document) → below d ≡ [] ∷ through below (kids d)
 below-kids (array ds) = ap (λ (ls : List Location). [] ∷ ls) (below_items-kids 0 ds)
 below-kids (object ms) = ap (λ (ls : List Location). [] ∷ ls) (below_members-kids ms)
 below-kids _ = refl
 
 -- a step leads to c among the children
-abbrev IsKid : Step → Data → List Kid → Type 0
+abbrev IsKid : Step → Document → List Kid → Type 0
 IsKid s c [] = ⊥
 IsKid s c (k ∷ ks) = ((k.0 ≡ s) × (k.1 ≡ c)) ⊎ IsKid s c ks
 
 -- ---- each location that leads somewhere is among them
 
-item_kid : (i n : ℕ) (ds : Items) (c : Data) → get_item i ds ≡ Some c → IsKid (index (n + i)) c (item_kids n ds)
+item_kid : (i n : ℕ) (ds : Items) (c : Document) → get_item i ds ≡ Some c → IsKid (index (n + i)) c (item_kids n ds)
 item_kid i n no_items c e = cc
 item_kid zero n (item d ds) c e = let same : d ≡ c = cc in inl (ap index (sym (add-zero n)), same)
 item_kid (suc i) n (item d ds) c e =
     let same : suc n + i ≡ n + suc i = omega arith in
     inr (subst (λ (j : ℕ). IsKid (index j) c (item_kids (suc n) ds)) same (item_kid i (suc n) ds c e))
 
-member_kid : (k : List ℕ) (ms : Members) (c : Data) → get_member k ms ≡ Some c → IsKid (name k) c (member_kids ms)
+member_kid : (k : List ℕ) (ms : Members) (c : Document) → get_member k ms ≡ Some c → IsKid (name k) c (member_kids ms)
 member_kid k no_members c e = cc
 member_kid k (member j d ms) c e = by (slice_cmp nat_cmp k j) refl (member_kid k ms c) e
   where
@@ -79,41 +79,41 @@ member_kid k (member j d ms) c e = by (slice_cmp nat_cmp k j) refl (member_kid k
     by Equal is go e = let same : d ≡ c = cc in inl (ap name (sym (names_same k j is)), same)
     by Greater is go e = inr (go e)
 
-child_kid : (s : Step) (d c : Data) → child s d ≡ Some c → IsKid s c (kids d)
+child_kid : (s : Step) (d c : Document) → child s d ≡ Some c → IsKid s c (kids d)
 child_kid (name k) (object ms) c e = member_kid k ms c e
 child_kid (index i) (array ds) c e = let at_front : 0 + i ≡ i = omega arith in subst (λ (j : ℕ). IsKid (index j) c (item_kids 0 ds)) at_front (item_kid i 0 ds c e)
 child_kid _ _ c e = cc
 
-among_through : (s : Step) (c : Data) (l : Location) (ks : List Kid) → IsKid s c ks → IsAmong l (below c) → IsAmong (s ∷ l) (through below ks)
+among_through : (s : Step) (c : Document) (l : Location) (ks : List Kid) → IsKid s c ks → IsAmong l (below c) → IsAmong (s ∷ l) (through below ks)
 among_through s c l [] k h = elim k [ ]
 among_through s c l (j ∷ ks) (inl e) h =
     let own = map (λ m. j.0 ∷ m) (below j.1) in
-    among_front (s ∷ l) own (through below ks) (subst (λ (t : Step). IsAmong (t ∷ l) own) e.0 (among_map (λ (m : Location). j.0 ∷ m) l (below j.1) (subst (λ (x : Data). IsAmong l (below x)) (sym e.1) h)))
+    among_front (s ∷ l) own (through below ks) (subst (λ (t : Step). IsAmong (t ∷ l) own) e.0 (among_map (λ (m : Location). j.0 ∷ m) l (below j.1) (subst (λ (x : Document). IsAmong l (below x)) (sym e.1) h)))
 among_through s c l (j ∷ ks) (inr k) h = among_back (s ∷ l) (map (λ m. j.0 ∷ m) (below j.1)) (through below ks) (among_through s c l ks k h)
 
-pub below_complete : (l : Location) (d c : Data) → at d l ≡ Some c → IsAmong l (below d)
+pub below_complete : (l : Location) (d c : Document) → at d l ≡ Some c → IsAmong l (below d)
 below_complete [] d c e = subst (IsAmong []) (sym (below-kids d)) (inl refl)
 below_complete (s ∷ l) d c e = by (child s d) refl (λ x there. below_complete l x c there) e
   where
-    by : (o : Option Data) → child s d ≡ o → ((x : Data) → at x l ≡ Some c → IsAmong l (below x)) → option_and_then (λ x. at x l) o ≡ Some c → IsAmong (s ∷ l) (below d)
+    by : (o : Option Document) → child s d ≡ o → ((x : Document) → at x l ≡ Some c → IsAmong l (below x)) → option_and_then (λ x. at x l) o ≡ Some c → IsAmong (s ∷ l) (below d)
     by None is go e = cc
     by (Some x) is go e = subst (IsAmong (s ∷ l)) (sym (below-kids d)) (inr (among_through s x l (kids d) (child_kid s d x is) (go x e)))
 
 -- ---- and each of them is there, in a document
 
-kids_at : (d : Data) → IsDocument d → AreAt d (kids d)
+kids_at : (d : Document) → IsOrderedDocument d → AreAt d (kids d)
 kids_at (array ds) h = all_items_at ds
 kids_at (object ms) h = members_at ms h.0
 kids_at _ h = tt
 
-kid_at : (s : Step) (d c : Data) (ks : List Kid) → AreAt d ks → IsKid s c ks → child s d ≡ Some c
+kid_at : (s : Step) (d c : Document) (ks : List Kid) → AreAt d ks → IsKid s c ks → child s d ≡ Some c
 kid_at s d c [] h k = elim k [ ]
 kid_at s d c (j ∷ ks) h (inl e) = ap (λ (t : Step). child t d) (sym e.0) ∙ h.0 ∙ ap Some e.1
 kid_at s d c (j ∷ ks) h (inr k) = kid_at s d c ks h.1 k
 
 -- a location below some child begins with the step to it
 abbrev Through : Location → List Kid → Type 0
-Through l ks = (s : Step) × (c : Data) × (m : Location) × (l ≡ s ∷ m) × IsKid s c ks × IsAmong m (below c)
+Through l ks = (s : Step) × (c : Document) × (m : Location) × (l ≡ s ∷ m) × IsKid s c ks × IsAmong m (below c)
 
 through_back : (l : Location) (ks : List Kid) → IsAmong l (through below ks) → Through l ks
 through_back l [] h = elim h [ ]
@@ -123,11 +123,11 @@ through_back l (k ∷ ks) h = by (among_split l (map (λ (m : Location). k.0 ∷
     by (inl here) go = let found = among_mapped (λ (m : Location). k.0 ∷ m) l (below k.1) here in (k.0, k.1, found.0, found.1, inl (refl, refl), found.2)
     by (inr later) go = let found = go later in (found.0, found.1, found.2, found.3, inr found.4, found.5)
 
-pub below_sound : (l : Location) (d : Data) → IsDocument d → IsAmong l (below d) → (c : Data) × (at d l ≡ Some c)
+pub below_sound : (l : Location) (d : Document) → IsOrderedDocument d → IsAmong l (below d) → (c : Document) × (at d l ≡ Some c)
 below_sound [] d docs h = (d, refl)
 below_sound (s ∷ l) d docs h = by (subst (IsAmong (s ∷ l)) (below-kids d) h) (below_sound l)
   where
-    by : (s ∷ l ≡ []) ⊎ IsAmong (s ∷ l) (through below (kids d)) → ((x : Data) → IsDocument x → IsAmong l (below x) → (c : Data) × (at x l ≡ Some c)) → (c : Data) × (at d (s ∷ l) ≡ Some c)
+    by : (s ∷ l ≡ []) ⊎ IsAmong (s ∷ l) (through below (kids d)) → ((x : Document) → IsOrderedDocument x → IsAmong l (below x) → (c : Document) × (at x l ≡ Some c)) → (c : Document) × (at d (s ∷ l) ≡ Some c)
     by (inl e) go = cc
     by (inr a) go =
         let found = through_back (s ∷ l) (kids d) a in
@@ -156,12 +156,12 @@ among-Contains l (m ∷ ms) h = at_place h.0 h.1 h.2 (among-Contains l ms)
 pub all_locations_stand_below_root : BelowIsAll
 all_locations_stand_below_root doc l docs = (
   λ there. by (at doc l) refl there,
-  λ h. let found = below_sound l doc docs (among-Contains l (below doc) h) in subst (λ (o : Option Data). IsSome o) (sym found.1) (some found.0),
+  λ h. let found = below_sound l doc docs (among-Contains l (below doc) h) in subst (λ (o : Option Document). IsSome o) (sym found.1) (some found.0),
 )
   where
-    some : (c : Data) → IsSome (Some c)
+    some : (c : Document) → IsSome (Some c)
     some c = refl
 
-    by : (o : Option Data) → at doc l ≡ o → IsSome o → Contains (below doc) l
+    by : (o : Option Document) → at doc l ≡ o → IsSome o → Contains (below doc) l
     by None is h = cc
     by (Some c) is h = Contains-among l (below doc) (below_complete l doc c is)

@@ -9,7 +9,7 @@ use Rattle.std.specs.Cmp.{on_total}
 use Rattle.std.specs.List.{AllByRecursion, list_any}
 use Rattle.std.specs.List.Sorted.{IsStrictlySortedBy}
 use Rattle.std.specs.Ordering.{on, match_ordering}
-use Rattle.serde_json.specs.Data.{Data}
+use Rattle.jsonpath_nodes.specs.document.Document.{Document}
 use Rattle.jsonpath_nodes.specs.place.Location.{Location, location_cmp, is_same}
 use Rattle.jsonpath_nodes.specs.place.NumbersWhere.{numbers_where}
 use Rattle.jsonpath_nodes.specs.place.Order.{location_total, once_in_order}
@@ -24,7 +24,7 @@ use Rattle.jsonpath_nodes.proofs.place.SightLemmas.{Sight}
 
 -- ---- where spots stand
 
-pub spot_there : (doc : Data) (ls : List Location) (spots : List Spot) (i : ℕ) (d : Spot) → StandAt doc ls spots → i < length spots
+pub spot_there : (doc : Document) (ls : List Location) (spots : List Spot) (i : ℕ) (d : Spot) → StandAt doc ls spots → i < length spots
     → (l : Location) × StandsAt doc l (get_or spots i d) × (drop i ls ≡ l ∷ drop (suc i) ls)
 spot_there doc ls [] i d stand below = absurd (omega arith)
 spot_there doc [] (s ∷ spots) i d stand below = cc
@@ -33,11 +33,11 @@ spot_there doc (l ∷ ls) (s ∷ spots) (suc i) d stand below =
     let later : StandAt doc ls spots = cc in
     spot_there doc ls spots i d later (omega arith)
 
-pub looked : (doc : Data) (ls : List Location) → map (λ (x : Sight). x.0) (map (look doc) ls) ≡ ls
+pub looked : (doc : Document) (ls : List Location) → map (λ (x : Sight). x.0) (map (look doc) ls) ≡ ls
 looked doc [] = refl
 looked doc (l ∷ ls) = ap (λ (ms : List Location). l ∷ ms) (looked doc ls)
 
-pub locations-StandAt : (doc : Data) (ls : List Location) (spots : List Spot) → StandAt doc ls spots → map location_of spots ≡ ls
+pub locations-StandAt : (doc : Document) (ls : List Location) (spots : List Spot) → StandAt doc ls spots → map location_of spots ≡ ls
 locations-StandAt doc ls spots stand = sym (map-map (λ (x : Sight). x.0) sight_of spots) ∙ ap (map (λ (x : Sight). x.0)) stand ∙ looked doc ls
 
 -- ---- in document order
@@ -54,7 +54,7 @@ places_inserted (q ∷ ps) p =
     map_match o (p ∷ q ∷ ps) (q ∷ ps) (q ∷ insert_key (on ordered_spot_location location_cmp) ps p)
     ∙ ap (λ (ls : List Location). match_ordering o (ordered_spot_location p ∷ ordered_spot_location q ∷ map ordered_spot_location ps) (ordered_spot_location q ∷ map ordered_spot_location ps) (ordered_spot_location q ∷ ls)) (places_inserted ps p)
 
-all_shown : (doc : Data) (ps : List OrderedSpot) → AllByRecursion (IsShownIn doc) ps → map ordered_spot_sight ps ≡ map (look doc) (map ordered_spot_location ps)
+all_shown : (doc : Document) (ps : List OrderedSpot) → AllByRecursion (IsShownIn doc) ps → map ordered_spot_sight ps ≡ map (look doc) (map ordered_spot_location ps)
 all_shown doc [] h = refl
 all_shown doc (p ∷ ps) h = ap₂ (λ (x : Sight) (xs : List Sight). x ∷ xs) h.0 (all_shown doc ps h.1)
 
@@ -68,7 +68,7 @@ order_next spots i s p ps qs within is here more before =
     ∙ sym (fold-append (insert_key location_cmp) [] (map location_of (take i spots)) (location_of s ∷ []))
     ∙ ap once_in_order (sym (map-append location_of (take i spots) (s ∷ [])) ∙ ap (map location_of) (sym taken))
 
-pub shown_next : (doc : Data) (ls : List Location) (spots : List Spot) (i : ℕ) (s : Spot) (p : OrderedSpot) (ps qs : List OrderedSpot) → StandAt doc ls spots → i < length spots → s ≡ get_or spots i s
+pub shown_next : (doc : Document) (ls : List Location) (spots : List Spot) (i : ℕ) (s : Spot) (p : OrderedSpot) (ps qs : List OrderedSpot) → StandAt doc ls spots → i < length spots → s ≡ get_or spots i s
     → ordered_spot_location p ≡ location_of s → ordered_spot_sight p ≡ sight_of s → qs ≡ insert_key (on ordered_spot_location location_cmp) ps p → AllByRecursion (IsShownIn doc) ps → AllByRecursion (IsShownIn doc) qs
 shown_next doc ls spots i s p ps qs stand within is here shows more before =
     let there = spot_there doc ls spots i s stand within in
@@ -83,7 +83,7 @@ shown_next doc ls spots i s p ps qs stand within is here shows more before =
 pub order_done : (spots : List Spot) (i : ℕ) (ps : List OrderedSpot) → i ≡ length spots → map ordered_spot_location ps ≡ once_in_order (map location_of (take i spots)) → map ordered_spot_location ps ≡ once_in_order (map location_of spots)
 order_done spots i ps end order = order ∙ ap (λ n. once_in_order (map location_of (take n spots))) end ∙ ap (λ (xs : List Spot). once_in_order (map location_of xs)) (take-length spots)
 
-pub order_stands : (doc : Data) (ls : List Location) (spots : List Spot) (ps : List OrderedSpot) (found : List Spot) → StandAt doc ls spots
+pub order_stands : (doc : Document) (ls : List Location) (spots : List Spot) (ps : List OrderedSpot) (found : List Spot) → StandAt doc ls spots
     → map sight_of found ≡ map ordered_spot_sight ps → map ordered_spot_location ps ≡ once_in_order (map location_of spots) → AllByRecursion (IsShownIn doc) ps → StandAt doc (once_in_order ls) found
 order_stands doc ls spots ps found stand are order shown =
     are ∙ all_shown doc ps shown ∙ ap (map (look doc)) (order ∙ ap once_in_order (locations-StandAt doc ls spots stand))
@@ -117,7 +117,7 @@ numbers_done test spots n out over held =
 
 -- ---- the topmost
 
-pub topmost_next : (doc : Data) (ls : List Location) (spots kept kept' : List Spot) (i : ℕ) (s : Spot) (last last' : Option Location) → StandAt doc ls spots → i < length spots → s ≡ get_or spots i s
+pub topmost_next : (doc : Document) (ls : List Location) (spots kept kept' : List Spot) (i : ℕ) (s : Spot) (last last' : Option Location) → StandAt doc ls spots → i < length spots → s ≡ get_or spots i s
     → last' ≡ cond (is_at_or_below last (location_of s)) last (Some (location_of s))
     → map sight_of kept' ≡ map sight_of kept ++ cond (is_at_or_below last (location_of s)) [] (sight_of s ∷ [])
     → map sight_of kept ++ map (look doc) (topmost_after last (drop i ls)) ≡ map (look doc) (topmost_after None ls)
@@ -149,7 +149,7 @@ topmost_next doc ls spots kept kept' i s last last' stand within is goes added h
 
 -- ---- spots that stand in order as they are
 
-pub order_kept : (doc : Data) (ls : List Location) (spots found : List Spot) → StandAt doc ls spots → map sight_of found ≡ map sight_of spots
+pub order_kept : (doc : Document) (ls : List Location) (spots found : List Spot) → StandAt doc ls spots → map sight_of found ≡ map sight_of spots
     → IsStrictlySortedBy location_cmp (map location_of spots) → StandAt doc (once_in_order ls) found
 order_kept doc ls spots found stand same ordered =
     let at = locations-StandAt doc ls spots stand in

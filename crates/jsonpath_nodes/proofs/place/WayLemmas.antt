@@ -1,6 +1,6 @@
 -- Ways that go a step down and back.
 use Rattle.std.proofs.Common.{◌≡◌, ℕ, suc, ◌+◌, List, [], ◌∷◌, ◌++◌, map, Bool, true, false, Some, refl, sym, ap, ap₂, ◌∙◌, append_assoc, append-nil, arith}
-use Rattle.serde_json.specs.Data.{Data, array, object, Items, item, Members, member}
+use Rattle.jsonpath_nodes.specs.document.Document.{Document, array, object, Items, item, Members, member}
 use Rattle.jsonpath_nodes.specs.place.Location.{Step, name, index, Location, below}
 use Rattle.jsonpath_nodes.specs.plan.Containers.{descendants}
 use Rattle.jsonpath_nodes.specs.place.Mark.{kept_location, look_kept_from}
@@ -29,7 +29,7 @@ child-stays b s0 s1 t0 t1 x h = child-stand b s1 t1 x ∙ ap (λ (l : Location).
 
 -- ---- a loop over the children, one on
 
-pub item_next : (b : Bool) (f : Data → List Location) (l k : Location) (i : ℕ) (d : Data) (ds left : Items) (xs ys all : List Sight) → left ≡ item d ds → k ≡ kept_location b (l ++ index i ∷ [])
+pub item_next : (b : Bool) (f : Document → List Location) (l k : Location) (i : ℕ) (d : Document) (ds left : Items) (xs ys all : List Sight) → left ≡ item d ds → k ≡ kept_location b (l ++ index i ∷ [])
     → ys ≡ xs ++ map (look_kept_from b k d) (f d) → xs ++ seen_items b f l i left ≡ all → ys ++ seen_items b f l (i + 1) ds ≡ all
 item_next b f l k i d ds left xs ys all first here gained kept =
     let one : i + 1 ≡ suc i = omega arith in
@@ -37,7 +37,7 @@ item_next b f l k i d ds left xs ys all first here gained kept =
     ∙ append_assoc xs (map (look_kept_from b (kept_location b (l ++ index i ∷ [])) d) (f d)) (seen_items b f l (suc i) ds)
     ∙ ap (λ us. xs ++ seen_items b f l i us) (sym first) ∙ kept
 
-pub member_next : (b : Bool) (f : Data → List Location) (l j : Location) (k : List ℕ) (d : Data) (ds left : Members) (xs ys all : List Sight) → left ≡ member k d ds → j ≡ kept_location b (l ++ name k ∷ [])
+pub member_next : (b : Bool) (f : Document → List Location) (l j : Location) (k : List ℕ) (d : Document) (ds left : Members) (xs ys all : List Sight) → left ≡ member k d ds → j ≡ kept_location b (l ++ name k ∷ [])
     → ys ≡ xs ++ map (look_kept_from b j d) (f d) → xs ++ seen_members b f l left ≡ all → ys ++ seen_members b f l ds ≡ all
 member_next b f l j k d ds left xs ys all first here gained kept =
     ap (λ (us : List Sight). us ++ seen_members b f l ds) (gained ∙ ap (λ m. xs ++ map (look_kept_from b m d) (f d)) here)
@@ -46,12 +46,12 @@ member_next b f l j k d ds left xs ys all first here gained kept =
 
 -- ---- a node, and then all below it
 
-below-descendants : (d : Data) → below d ≡ [] ∷ descendants d
+below-descendants : (d : Document) → below d ≡ [] ∷ descendants d
 below-descendants (array ds) = refl
 below-descendants (object ms) = refl
 below-descendants _ = refl
 
-pub node_then_descendants : (b : Bool) (k m : Location) (d : Data) (xs ys zs : List Sight) → ys ≡ xs ++ (kept_location b m, Some d) ∷ [] → k ≡ kept_location b m
+pub node_then_descendants : (b : Bool) (k m : Location) (d : Document) (xs ys zs : List Sight) → ys ≡ xs ++ (kept_location b m, Some d) ∷ [] → k ≡ kept_location b m
     → zs ≡ ys ++ map (look_kept_from b k d) (descendants d) → zs ≡ xs ++ map (look_kept_from b k d) (below d)
 node_then_descendants b k m d xs ys zs first here later =
     let itself : kept_location b (k ++ []) ≡ kept_location b m = ap (λ (l : Location). kept_location b (l ++ [])) here ∙ kept-twice b m [] ∙ ap (kept_location b) (append-nil m) in

@@ -4,7 +4,7 @@ use Rattle.std.specs.Prelude.{filter, nat_lt, nat_le, ℤ, option_map, unwrap_or
 use Rattle.std.proofs.lemmas.Bool.{ltb-true, ltb-false, le-ltb, lt-leb, ne_eqb, le-leb, lt-ltb}
 use Rattle.std.proofs.Math.Bool.{and-false}
 use Rattle.std.proofs.Math.Nat.{add-mod_right, mod-add-mod, mod-eq_of_lt}
-use Rattle.serde_json.specs.Data.{Data}
+use Rattle.jsonpath_nodes.specs.document.Document.{Document}
 use Rattle.jsonpath_nodes.specs.place.Location.{Step, index, Location}
 use Rattle.jsonpath_nodes.specs.step.Steps.{abs_index, count_up, is_in_range, length_of, present, range, single_steps}
 use Rattle.jsonpath_nodes.proofs.step.EachLemmas.{count_up-next, present-within, singles}
@@ -107,7 +107,7 @@ shown look is = map look (singles (map index is))
 pub between_init : (look : Location → Sight) (from to step len : ℕ) → shown look (in_range_from from to step len from) ≡ shown look (filter (is_in_range from to step) (count_up 0 len))
 between_init look from to step len = ap (shown look) (sym (before_first from to step len))
 
-pub between_next : (look : Location → Sight) (d : Data) (from to step i j : ℕ) (xs ys all : List Sight) → from ≤ i → i < to → to ≤ length_of d → 0 < step → (i - from) % step ≡ 0
+pub between_next : (look : Location → Sight) (d : Document) (from to step i j : ℕ) (xs ys all : List Sight) → from ≤ i → i < to → to ≤ length_of d → 0 < step → (i - from) % step ≡ 0
     → (j ≡ i + step) ⊎ ((to ≤ j) × (to ≤ i + step)) → ys ≡ xs ++ map look (singles (present d (index i)))
     → xs ++ shown look (in_range_from from to step (length_of d) i) ≡ all → ys ++ shown look (in_range_from from to step (length_of d) j) ≡ all
 between_next look d from to step i j xs ys all low high within some on next more kept =
@@ -132,7 +132,7 @@ still_on from step i low on =
     let split : (i + step) - from ≡ (i - from) + step = omega arith in
     ap (λ (x : ℕ). x % step) split ∙ add-mod_right (i - from) step ∙ on
 
-pub range_here : (d : Data) (from to : Option ℤ) (step : Option ℕ) (len first end by : ℕ) → len ≡ length_of d
+pub range_here : (d : Document) (from to : Option ℤ) (step : Option ℕ) (len first end by : ℕ) → len ≡ length_of d
     → first ≡ unwrap_or (option_map (λ m. abs_index m len) from) 0 → end ≡ unwrap_or (option_map (λ m. abs_index m len) to) len → by ≡ unwrap_or step 1
     → singles (map index (filter (is_in_range first end by) (count_up 0 (length_of d)))) ≡ single_steps (range from to step) d
 range_here d from to step len first end by whole begins ends each = rw (begins, ends, each, whole) refl

@@ -7,17 +7,17 @@ use Rattle.std.specs.List.{AllByRecursion}
 use Rattle.std.specs.List.Sorted.{IsStrictlySortedBy}
 use Rattle.std.specs.Ordering.{match_ordering, ordering_reverse}
 use Rattle.std.proofs.lemmas.Cmp.{nat_list_cmp_total, tied_itself}
-use Rattle.serde_json.specs.Data.{Data, array, object, Items, no_items, item, Members, no_members, member}
-use Rattle.serde_json.specs.Find.{get_item, get_member}
+use Rattle.jsonpath_nodes.specs.document.Document.{Document, array, object, Items, no_items, item, Members, no_members, member}
+use Rattle.jsonpath_nodes.specs.document.Find.{get_item, get_member}
 use Rattle.jsonpath_nodes.specs.place.Location.{Step, name, index, Location, at, child, names, indexes_from, below, below_items, below_members, flat, flat_items, step_cmp}
 use Rattle.jsonpath_nodes.specs.step.Candidates.{flat_members}
-use Rattle.jsonpath_nodes.specs.place.Order.{IsDocument, AreDocuments, HoldDocuments}
+use Rattle.jsonpath_nodes.specs.place.Order.{IsOrderedDocument, AreOrderedDocuments, HoldOrderedDocuments}
 use Rattle.jsonpath_nodes.specs.update.Topmost.{same_step}
 use Rattle.jsonpath_nodes.proofs.update.SetLemmas.{step_eq}
 
 -- a child with the step to it
 abbrev pub Kid : Type 0
-Kid = Step × Data
+Kid = Step × Document
 
 abbrev pub item_kids : ℕ → Items → List Kid
 item_kids n no_items = []
@@ -28,7 +28,7 @@ member_kids no_members = []
 member_kids (member k d ms) = (name k, d) ∷ member_kids ms
 
 -- what f gives of each child, behind the step to it
-abbrev pub through : (Data → List Location) → List Kid → List Location
+abbrev pub through : (Document → List Location) → List Kid → List Location
 through f [] = []
 through f (k ∷ ks) = map (λ l. k.0 ∷ l) (f k.1) ++ through f ks
 
@@ -49,7 +49,7 @@ flat_members-kids no_members = refl
 flat_members-kids (member k d ms) = ap (λ (ls : List Location). map (λ l. name k ∷ l) (flat d) ++ ls) (flat_members-kids ms)
 
 -- a child itself
-abbrev pub itself : Data → List Location
+abbrev pub itself : Document → List Location
 itself d = [] ∷ []
 
 pub indexes-kids : (n : ℕ) (ds : Items) → map (λ (s : Step). s ∷ []) (indexes_from n ds) ≡ through itself (item_kids n ds)
@@ -61,7 +61,7 @@ names-kids no_members = refl
 names-kids (member k d ms) = ap (λ (ls : List Location). (name k ∷ []) ∷ ls) (names-kids ms)
 
 -- each of the children is what the value has at its step
-abbrev pub AreAt : Data → List Kid → Type 0
+abbrev pub AreAt : Document → List Kid → Type 0
 AreAt d ks = AllByRecursion (λ k. child k.0 d ≡ Some k.1) ks
 
 -- no two steps are the same
@@ -78,7 +78,7 @@ items_at all n (item d ds) h = (rw (add-zero n) at (h 0), items_at all (suc n) d
 pub all_items_at : (ds : Items) → AreAt (array ds) (item_kids 0 ds)
 all_items_at ds = items_at ds 0 ds (λ k. ap (λ i. get_item i ds) (omega arith))
 
-pub later_items : (P : Kid → Type 0) (n : ℕ) (ds : Items) → ((j : ℕ) (d : Data) → n ≤ j → P (index j, d)) → AllByRecursion P (item_kids n ds)
+pub later_items : (P : Kid → Type 0) (n : ℕ) (ds : Items) → ((j : ℕ) (d : Document) → n ≤ j → P (index j, d)) → AllByRecursion P (item_kids n ds)
 later_items P n no_items h = tt
 later_items P n (item d ds) h = (h n d (omega arith), later_items P (suc n) ds (λ j c le. h j c (omega arith)))
 
@@ -91,10 +91,10 @@ items_distinct n (item d ds) = (later_items (λ t. same_step (index n) t.0 ≡ f
 
 -- ---- members
 
-found_later : (k j : List ℕ) (d : Data) (ms : Members) → slice_cmp nat_cmp k j ≡ Greater → get_member k (member j d ms) ≡ get_member k ms
+found_later : (k j : List ℕ) (d : Document) (ms : Members) → slice_cmp nat_cmp k j ≡ Greater → get_member k (member j d ms) ≡ get_member k ms
 found_later k j d ms is = ap (λ r. match_ordering r (get_member k ms) (Some d) (get_member k ms)) is
 
-at_later : (j : List ℕ) (d : Data) (all ms : Members) → AllByRecursion (λ t. step_cmp (name j) t ≡ Less) (names ms) → AreAt (object all) (member_kids ms) → AreAt (object (member j d all)) (member_kids ms)
+at_later : (j : List ℕ) (d : Document) (all ms : Members) → AllByRecursion (λ t. step_cmp (name j) t ≡ Less) (names ms) → AreAt (object all) (member_kids ms) → AreAt (object (member j d all)) (member_kids ms)
 at_later j d all no_members above h = tt
 at_later j d all (member k c ms) above h =
     let other : slice_cmp nat_cmp k j ≡ Greater = nat_list_cmp_total.antisymm k j ∙ ap ordering_reverse above.0 in
@@ -118,29 +118,29 @@ members_distinct (member k d ms) h = (other_names (name k) ms h.0, members_disti
 
 -- ---- documents below documents
 
-document_item : (i : ℕ) (ds : Items) (c : Data) → AreDocuments ds → get_item i ds ≡ Some c → IsDocument c
+document_item : (i : ℕ) (ds : Items) (c : Document) → AreOrderedDocuments ds → get_item i ds ≡ Some c → IsOrderedDocument c
 document_item i no_items c h e = cc
-document_item zero (item d ds) c h e = let same : d ≡ c = cc in subst IsDocument same h.0
+document_item zero (item d ds) c h e = let same : d ≡ c = cc in subst IsOrderedDocument same h.0
 document_item (suc i) (item d ds) c h e = document_item i ds c h.1 e
 
-document_member : (k : List ℕ) (ms : Members) (c : Data) → HoldDocuments ms → get_member k ms ≡ Some c → IsDocument c
+document_member : (k : List ℕ) (ms : Members) (c : Document) → HoldOrderedDocuments ms → get_member k ms ≡ Some c → IsOrderedDocument c
 document_member k no_members c h e = cc
 document_member k (member j d ms) c h e = by (slice_cmp nat_cmp k j) (document_member k ms c h.1) e
   where
-    by : (o : Ordering) → (get_member k ms ≡ Some c → IsDocument c) → match_ordering o (get_member k ms) (Some d) (get_member k ms) ≡ Some c → IsDocument c
+    by : (o : Ordering) → (get_member k ms ≡ Some c → IsOrderedDocument c) → match_ordering o (get_member k ms) (Some d) (get_member k ms) ≡ Some c → IsOrderedDocument c
     by Less go e = go e
-    by Equal go e = let same : d ≡ c = cc in subst IsDocument same h.0
+    by Equal go e = let same : d ≡ c = cc in subst IsOrderedDocument same h.0
     by Greater go e = go e
 
-pub document_child : (s : Step) (d c : Data) → IsDocument d → child s d ≡ Some c → IsDocument c
+pub document_child : (s : Step) (d c : Document) → IsOrderedDocument d → child s d ≡ Some c → IsOrderedDocument c
 document_child (name k) (object ms) c h e = document_member k ms c h.1 e
 document_child (index i) (array ds) c h e = document_item i ds c h e
 document_child _ _ c h e = cc
 
-pub document_at : (l : Location) (d c : Data) → IsDocument d → at d l ≡ Some c → IsDocument c
-document_at [] d c h e = let same : d ≡ c = cc in subst IsDocument same h
+pub document_at : (l : Location) (d c : Document) → IsOrderedDocument d → at d l ≡ Some c → IsOrderedDocument c
+document_at [] d c h e = let same : d ≡ c = cc in subst IsOrderedDocument same h
 document_at (s ∷ l) d c h e = by (child s d) refl (λ x docs. document_at l x c docs) e
   where
-    by : (o : Option Data) → child s d ≡ o → ((x : Data) → IsDocument x → at x l ≡ Some c → IsDocument c) → option_and_then (λ x. at x l) o ≡ Some c → IsDocument c
+    by : (o : Option Document) → child s d ≡ o → ((x : Document) → IsOrderedDocument x → at x l ≡ Some c → IsOrderedDocument c) → option_and_then (λ x. at x l) o ≡ Some c → IsOrderedDocument c
     by None is go e = cc
     by (Some x) is go e = go x (document_child s d x h is) e

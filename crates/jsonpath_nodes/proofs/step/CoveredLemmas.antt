@@ -3,7 +3,7 @@ use Rattle.std.proofs.Common.{◌≡◌, ℕ, zero, suc, List, [], ◌∷◌, �
 use Rattle.std.proofs.lemmas.Bool.{and_parts}
 use Rattle.std.specs.List.{AllByRecursion}
 use Rattle.std.specs.List.Sorted.{IsStrictlySortedBy}
-use Rattle.serde_json.specs.Data.{Data}
+use Rattle.jsonpath_nodes.specs.document.Document.{Document}
 use Rattle.jsonpath_nodes.specs.place.Location.{Location, location_cmp}
 use Rattle.jsonpath_nodes.specs.update.Run.{update_each_back}
 use Rattle.jsonpath_nodes.specs.update.Update.{update}
@@ -33,7 +33,7 @@ covers_no_more [] ys l m p h = by (is_covered_by l p) (is_covered_by m p) (cover
     by false true go = absurd (let e : false ≡ true = go refl in cc)
     by false false go = refl
 
-pub covered : (a : Option Data) (xs ys : List Location) (l m : Location) → is_covered_by l m ≡ true → (d : Data) → with_answer_at_topmost a (xs ++ l ∷ m ∷ ys) d ≡ with_answer_at_topmost a (xs ++ l ∷ ys) d
+pub covered : (a : Option Document) (xs ys : List Location) (l m : Location) → is_covered_by l m ≡ true → (d : Document) → with_answer_at_topmost a (xs ++ l ∷ m ∷ ys) d ≡ with_answer_at_topmost a (xs ++ l ∷ ys) d
 covered a xs ys l m h d = topmost_same a (xs ++ l ∷ m ∷ ys) (xs ++ l ∷ ys) d (λ p. covers_no_more xs ys l m p h)
 
 -- ---- a sorted list without one of its elements
@@ -49,22 +49,22 @@ sorted_without (x ∷ xs) ys l h = (all_without (λ m. location_cmp x m ≡ Less
 
 -- ---- from the last location back to the first
 
-module _ (a : Option Data) where
-  pub back_last : (ls : List Location) (l : Location) (d : Data) → update_each_back a (ls ++ l ∷ []) d ≡ update_each_back a ls (update l a d)
+module _ (a : Option Document) where
+  pub back_last : (ls : List Location) (l : Location) (d : Document) → update_each_back a (ls ++ l ∷ []) d ≡ update_each_back a ls (update l a d)
   back_last [] l d = refl
   back_last (m ∷ ls) l d = ap (update m a) (back_last ls l d)
 
 -- ---- a list of one value so many times
 
-head_or : Data → List Data → Data
+head_or : Document → List Document → Document
 head_or d [] = d
 head_or d (x ∷ xs) = x
 
-tail_of : List Data → List Data
+tail_of : List Document → List Document
 tail_of [] = []
 tail_of (x ∷ xs) = xs
 
-pub replicate_last : (d : Data) (zs : List Data) (b : Data) (n : ℕ) → zs ++ b ∷ [] ≡ replicate (suc n) d → (zs ≡ replicate n d) × (b ≡ d)
+pub replicate_last : (d : Document) (zs : List Document) (b : Document) (n : ℕ) → zs ++ b ∷ [] ≡ replicate (suc n) d → (zs ≡ replicate n d) × (b ≡ d)
 unfolding head_or tail_of
 replicate_last d [] b zero e = (refl, ap (head_or d) e)
 replicate_last d [] b (suc n) e = absurd (cc)
@@ -72,4 +72,4 @@ replicate_last d (x ∷ []) b zero e = absurd (cc)
 replicate_last d (x ∷ y ∷ zs) b zero e = absurd (cc)
 replicate_last d (x ∷ zs) b (suc n) e =
     let later = replicate_last d zs b n (ap tail_of e) in
-    (ap₂ (λ (z : Data) (ws : List Data). z ∷ ws) (ap (head_or d) e) later.0, later.1)
+    (ap₂ (λ (z : Document) (ws : List Document). z ∷ ws) (ap (head_or d) e) later.0, later.1)

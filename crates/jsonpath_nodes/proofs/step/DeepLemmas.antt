@@ -1,7 +1,7 @@
 -- What is gathered at a value and at all below it, in one descent.
 use Rattle.std.proofs.Common.{◌≡◌, List, ◌++◌, map, sym, ap, ap₂, ◌∙◌, append_assoc}
 use Rattle.std.proofs.lemmas.List.{map-append}
-use Rattle.serde_json.specs.Data.{Data, array, object, Items, Members}
+use Rattle.jsonpath_nodes.specs.document.Document.{Document, array, object, Items, Members}
 use Rattle.jsonpath_nodes.specs.place.Location.{Location, below}
 use Rattle.jsonpath_nodes.specs.plan.Gathered.{all_gathered}
 use Rattle.jsonpath_nodes.specs.step.Steps.{from_each}
@@ -11,7 +11,7 @@ use Rattle.jsonpath_nodes.specs.place.Order.{NamesAscend}
 use Rattle.jsonpath_nodes.proofs.step.ChildLemmas.{through, item_kids, member_kids, below_items-kids, below_members-kids, all_items_at, members_at}
 use Rattle.jsonpath_nodes.proofs.step.ListLemmas.{map-nothing, from_each-through}
 
-module _ (own : Data → List Location) where
+module _ (own : Document → List Location) where
   -- what own gives at a value, and then the same through each child
   pub items_through : (ds : Items) → all_gathered own (array ds) ≡ own (array ds) ++ through (all_gathered own) (item_kids 0 ds)
   items_through ds =
@@ -23,7 +23,7 @@ module _ (own : Data → List Location) where
       ap₂ (λ (x y : List Location). x ++ y) (map-nothing (own (object ms)))
       (ap (from_each (object ms) own) (below_members-kids ms) ∙ from_each-through own below (object ms) (member_kids ms) (members_at ms h))
 
-  parts : (l : Location) (d : Data) (ls ms : List Location) (later : List Sight) → ls ≡ own d ++ ms → map (look_from l d) ms ≡ later → map (look_from l d) ls ≡ map (look_from l d) (own d) ++ later
+  parts : (l : Location) (d : Document) (ls ms : List Location) (later : List Sight) → ls ≡ own d ++ ms → map (look_from l d) ms ≡ later → map (look_from l d) ls ≡ map (look_from l d) (own d) ++ later
   parts l d ls ms later is same = ap (map (look_from l d)) is ∙ map-append (look_from l d) (own d) ms ∙ ap (λ (x : List Sight). map (look_from l d) (own d) ++ x) same
 
   pub gathered_items : (l : Location) (all : Items)

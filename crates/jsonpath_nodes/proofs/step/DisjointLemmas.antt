@@ -3,7 +3,7 @@ use Rattle.std.proofs.Common.{◌≡◌, List, [], ◌∷◌, ◌++◌, map, Boo
 use Rattle.std.specs.Prelude.{option_map, unwrap_or}
 use Rattle.std.specs.List.{AllByRecursion, IsDistinct, list_any}
 use Rattle.std.proofs.lemmas.List.Folds.{list_any-append}
-use Rattle.serde_json.specs.Data.{Data}
+use Rattle.jsonpath_nodes.specs.document.Document.{Document}
 use Rattle.jsonpath_nodes.specs.place.Location.{Step, name, index, Location, at, below, flat, is_same}
 use Rattle.jsonpath_nodes.specs.step.Candidates.{candidates_below, DisjointInOneDescent}
 use Rattle.jsonpath_nodes.specs.step.Separate.{HasNoRepeat, are_indexes, goes_on_by_indexes, in_one_array, in_one_branch, IsApart, IsDisjoint, LevelIsDisjoint, DisjointStandsApart, StepStaysDisjoint, CandidatesStayDisjoint, BelowDisjointHasNoRepeat}
@@ -120,7 +120,7 @@ step_stands_disjoint doc p ls once ordered h =
     distinct_step in_one_branch in_one_branch (λ (s : Step). Unit {0}) doc p ls (selects_distinct_at doc p ls once ordered) (λ d. anything (selected p d)) two_steps
     (λ l m s t other x y. branch_below l m (s ∷ []) (t ∷ []) other) h
 
-flat_disjoint : (d : Data) → IsDisjoint (flat d)
+flat_disjoint : (d : Document) → IsDisjoint (flat d)
 flat_disjoint d =
     distinct_other in_one_array in_one_branch (λ a. are_indexes a ≡ true) (flat d)
     (λ a b p q other. let parts = apart_parts a b other in indexes_branch a b p q parts.0 parts.1) (flat_indexes d) (subst IsApart (flat_alone d) (candidates_stand_apart d ([] ∷ [])))
@@ -133,13 +133,13 @@ pub candidates_stand_disjoint : CandidatesStayDisjoint
 candidates_stand_disjoint doc ls h =
     subst IsDisjoint (sym (apart_has_no_repeat_flat doc ls (disjoint_stands_apart ls h)))
     (distinct_from_each in_one_branch in_one_branch doc flat ls
-    (all_of (λ l. (d : Data) → at doc l ≡ Some d → IsDisjoint (map (λ (x : Location). l ++ x) (flat d))) ls (λ l d is. deeper_disjoint l (flat d) (flat_disjoint d)))
+    (all_of (λ l. (d : Document) → at doc l ≡ Some d → IsDisjoint (map (λ (x : Location). l ++ x) (flat d))) ls (λ l d is. deeper_disjoint l (flat d) (flat_disjoint d)))
     (λ l m d c other. all_apart in_one_branch l m (flat d) (flat c) (λ a b. branch_below l m a b other)) h)
 
 pub below_disjoint_has_no_repeat : BelowDisjointHasNoRepeat
 below_disjoint_has_no_repeat doc ls document h =
     distinct_from_each in_one_branch is_same doc below ls
-    (all_of (λ l. (d : Data) → at doc l ≡ Some d → HasNoRepeat (map (λ (x : Location). l ++ x) (below d))) ls (λ l d is. distinct_behind l (below d) (locations_below_root_ascend d (document_at l doc d document is))))
+    (all_of (λ l. (d : Document) → at doc l ≡ Some d → HasNoRepeat (map (λ (x : Location). l ++ x) (below d))) ls (λ l d is. distinct_behind l (below d) (locations_below_root_ascend d (document_at l doc d document is))))
     (λ l m d c. disjoint_pairs l m (below d) (below c)) h
 
 -- ---- joined lists that have nothing in common
@@ -166,7 +166,7 @@ joined_once xs ys h =
     (ap (λ (ms : List Location). each_once_after ms ys) (sym (append-nil (each_once xs)))
     ∙ disjoint_before (each_once xs) [] ys (once_keeps (λ x. AllByRecursion (λ y. is_same x y ≡ false) ys) [] xs h))
 
-each_by_one : (doc : Data) (f g : Data → List Location) (ls : List Location) → ((l : Location) → each_once (from doc f l) ≡ from doc g l) → IsDisjoint ls → each_once (from_each doc f ls) ≡ from_each doc g ls
+each_by_one : (doc : Document) (f g : Document → List Location) (ls : List Location) → ((l : Location) → each_once (from doc f l) ≡ from doc g l) → IsDisjoint ls → each_once (from_each doc f ls) ≡ from_each doc g ls
 unfolding IsDistinct
 each_by_one doc f g [] one h = refl
 each_by_one doc f g (l ∷ ls) one h =

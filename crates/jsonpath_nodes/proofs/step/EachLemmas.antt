@@ -2,9 +2,8 @@
 use Rattle.std.proofs.Common.{◌≡◌, ℕ, zero, suc, ◌+◌, ◌-◌, ◌<◌, ◌≤◌, List, [], ◌∷◌, ◌++◌, map, length, drop, true, cond, refl, sym, ap, ◌∙◌, append-nil, drop_of_length-le, arith, add-one, is_some}
 use Rattle.std.specs.Prelude.{flat_map}
 use Rattle.std.proofs.lemmas.List.{map-append}
-use Rattle.serde_json.specs.Data.{Data, array, Items, no_items, item}
-use Rattle.serde_json.specs.Events.{items_len}
-use Rattle.serde_json.specs.Find.{get_item}
+use Rattle.jsonpath_nodes.specs.document.Document.{Document, array, Items, no_items, item}
+use Rattle.jsonpath_nodes.specs.document.Find.{items_len, get_item}
 use Rattle.jsonpath_nodes.specs.place.Location.{Step, index, Location}
 use Rattle.jsonpath_nodes.specs.step.Steps.{present, length_of, count_up}
 use Rattle.jsonpath_nodes.proofs.place.SightLemmas.{Sight}
@@ -40,6 +39,6 @@ item_there no_items i below = absurd (omega arith)
 item_there (item d ds) zero below = refl
 item_there (item d ds) (suc i) below = item_there ds i (omega arith)
 
-pub present-within : (d : Data) (i : ℕ) → i < length_of d → present d (index i) ≡ index i ∷ []
+pub present-within : (d : Document) (i : ℕ) → i < length_of d → present d (index i) ≡ index i ∷ []
 present-within (array ds) i below = ap (λ b. cond b (index i ∷ []) []) (item_there ds i below)
 present-within _ i below = absurd (omega arith)

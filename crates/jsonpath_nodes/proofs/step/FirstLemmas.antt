@@ -5,7 +5,7 @@ use Rattle.std.specs.BTreeSet.{BTreeSet, contains}
 use Rattle.std.specs.Bool.{OnFalse}
 use Rattle.std.proofs.lemmas.List.{map-append}
 use Rattle.std.proofs.lemmas.List.Folds.{list_any-append}
-use Rattle.serde_json.specs.Data.{Data}
+use Rattle.jsonpath_nodes.specs.document.Document.{Document}
 use Rattle.jsonpath_nodes.specs.place.Location.{Location, location_cmp, is_same}
 use Rattle.jsonpath_nodes.specs.step.Steps.{each_once}
 use Rattle.jsonpath_nodes.specs.place.SpotPlace.{look, sight_of, location_of, StandAt, StandsAt}
@@ -21,10 +21,10 @@ use Rattle.jsonpath_nodes.proofs.step.SeparateLemmas.{same_turned}
 abbrev pub places : List Spot → List Location
 places spots = map (λ (x : Sight). x.0) (map sight_of spots)
 
-places-StandAt : (doc : Data) (ls : List Location) (spots : List Spot) → StandAt doc ls spots → places spots ≡ ls
+places-StandAt : (doc : Document) (ls : List Location) (spots : List Spot) → StandAt doc ls spots → places spots ≡ ls
 places-StandAt doc ls spots stand = ap (map (λ (x : Sight). x.0)) stand ∙ looked doc ls
 
-last_of : (doc : Data) (ls : List Location) (spots : List Spot) (s : Spot) → StandAt doc ls (spots ++ s ∷ [])
+last_of : (doc : Document) (ls : List Location) (spots : List Spot) (s : Spot) → StandAt doc ls (spots ++ s ∷ [])
     → (ms : List Location) × (l : Location) × (ls ≡ ms ++ l ∷ []) × StandAt doc ms spots × StandsAt doc l s
 last_of doc [] (x ∷ spots) s h = cc
 last_of doc (l ∷ []) [] s h = ([], l, refl, refl, cc)
@@ -37,7 +37,7 @@ last_of doc _ [] s h = cc
 
 -- ---- the loop
 
-kept_by : (doc : Data) (b added : Bool) (l : Location) (s : Spot) (ms : List Location) (kept kept' : List Spot) → StandAt doc ms kept → StandsAt doc l s → added ≡ not b
+kept_by : (doc : Document) (b added : Bool) (l : Location) (s : Spot) (ms : List Location) (kept kept' : List Spot) → StandAt doc ms kept → StandsAt doc l s → added ≡ not b
     → map sight_of kept' ≡ map sight_of kept ++ cond added (sight_of s ∷ []) [] → StandAt doc (ms ++ cond b [] (l ∷ [])) kept'
 kept_by doc true added l s ms kept kept' stand here is more =
     more ∙ ap (λ (a : Bool). map sight_of kept ++ cond a (sight_of s ∷ []) []) is ∙ append-nil (map sight_of kept) ∙ stand ∙ ap (map (look doc)) (sym (append-nil ms))
@@ -45,9 +45,9 @@ kept_by doc false added l s ms kept kept' stand here is more =
     more ∙ ap (λ (a : Bool). map sight_of kept ++ cond a (sight_of s ∷ []) []) is
     ∙ ap₂ (λ (xs : List Sight) (x : Sight). xs ++ x ∷ []) stand here ∙ sym (map-append (look doc) ms (l ∷ []))
 
-pub firsts_next : (s : Spot) (added : Bool) (given kept kept' : List Spot) → ((doc : Data) (ls : List Location) → StandAt doc ls given → StandAt doc (each_once ls) kept)
+pub firsts_next : (s : Spot) (added : Bool) (given kept kept' : List Spot) → ((doc : Document) (ls : List Location) → StandAt doc ls given → StandAt doc (each_once ls) kept)
     → added ≡ not (list_any (is_same (location_of s)) (places kept)) → map sight_of kept' ≡ map sight_of kept ++ cond added (sight_of s ∷ []) []
-    → (doc : Data) (ls : List Location) → StandAt doc ls (given ++ s ∷ []) → StandAt doc (each_once ls) kept'
+    → (doc : Document) (ls : List Location) → StandAt doc ls (given ++ s ∷ []) → StandAt doc (each_once ls) kept'
 firsts_next s added given kept kept' before is more doc ls stand =
     let end = last_of doc ls given s stand in
     let ms = end.0 in
@@ -88,7 +88,7 @@ held_next s k false old new kept kept' is before updated same more m =
 
 -- ---- before the loop
 
-pub nothing_yet : (doc : Data) (ls : List Location) (kept : List Spot) → kept ≡ [] → StandAt doc ls [] → StandAt doc (each_once ls) kept
+pub nothing_yet : (doc : Document) (ls : List Location) (kept : List Spot) → kept ≡ [] → StandAt doc ls [] → StandAt doc (each_once ls) kept
 nothing_yet doc [] kept none h = ap (map sight_of) none
 nothing_yet doc (l ∷ ls) kept none h = cc
 

@@ -2,10 +2,10 @@
 use Rattle.std.proofs.Common.{◌≡◌, ℕ, suc, List, [], ◌∷◌, ◌++◌, map, Option, Some, None, false, refl, sym, ap, ap₂, ◌∙◌, append_assoc, append-nil, subst}
 use Rattle.std.specs.Prelude.{option_and_then, option_map, unwrap_or}
 use Rattle.std.specs.List.{AllByRecursion}
-use Rattle.serde_json.specs.Data.{Data, array, object, Items, no_items, item, Members, no_members, member}
+use Rattle.jsonpath_nodes.specs.document.Document.{Document, array, object, Items, no_items, item, Members, no_members, member}
 use Rattle.jsonpath_nodes.proofs.update.SetLemmas.{same_back}
 use Rattle.jsonpath_nodes.specs.place.Location.{Step, name, index, Location, at, child, below, flat, flat_items}
-use Rattle.jsonpath_nodes.specs.place.Order.{IsDocument, AreDocuments, HoldDocuments}
+use Rattle.jsonpath_nodes.specs.place.Order.{IsOrderedDocument, AreOrderedDocuments, HoldOrderedDocuments}
 use Rattle.jsonpath_nodes.specs.step.Steps.{every, single_steps, step, from, from_each, all_below, each_once, each_once_after, flattened}
 use Rattle.jsonpath_nodes.specs.update.Topmost.{same_step, under}
 use Rattle.jsonpath_nodes.proofs.step.SeparateLemmas.{apart_has_no_repeat_flat, one_is_apart}
@@ -19,31 +19,31 @@ use Rattle.jsonpath_nodes.proofs.step.ChildLemmas.{Kid, through, itself, flat_it
 -- ---- with repeats
 
 -- what is flat from each child
-abbrev flattened_from_each : Data → List Location
+abbrev flattened_from_each : Document → List Location
 flattened_from_each d = from_each d flat (single_steps every d)
 
-there : (d c : Data) (s : Step) → child s d ≡ Some c → at d (s ∷ []) ≡ Some c
+there : (d c : Document) (s : Step) → child s d ≡ Some c → at d (s ∷ []) ≡ Some c
 there d c s h = ap (option_and_then (λ x. at x [])) h
 
-from_kids : (d : Data) (f : Data → List Location) (ks : List Kid) → AreAt d ks → from_each d f (through itself ks) ≡ through f ks
+from_kids : (d : Document) (f : Document → List Location) (ks : List Kid) → AreAt d ks → from_each d f (through itself ks) ≡ through f ks
 from_kids d f [] h = refl
 from_kids d f (k ∷ ks) h =
-    ap₂ (λ (x y : List Location). x ++ y) (ap (λ (o : Option Data). map (λ m. k.0 ∷ m) (unwrap_or (option_map f o) [])) (there d k.1 k.0 h.0)) (from_kids d f ks h.1)
+    ap₂ (λ (x y : List Location). x ++ y) (ap (λ (o : Option Document). map (λ m. k.0 ∷ m) (unwrap_or (option_map f o) [])) (there d k.1 k.0 h.0)) (from_kids d f ks h.1)
 
 flattened_from_each-items : (ds : Items) → flattened_from_each (array ds) ≡ flat_items 0 ds
 flattened_from_each-items ds = ap (from_each (array ds) flat) (indexes-kids 0 ds) ∙ from_kids (array ds) flat (item_kids 0 ds) (all_items_at ds) ∙ sym (flat_items-kids 0 ds)
 
-flattened_from_each-members : (ms : Members) → IsDocument (object ms) → flattened_from_each (object ms) ≡ flat_members ms
+flattened_from_each-members : (ms : Members) → IsOrderedDocument (object ms) → flattened_from_each (object ms) ≡ flat_members ms
 flattened_from_each-members ms h = ap (from_each (object ms) flat) (names-kids ms) ∙ from_kids (object ms) flat (member_kids ms) (members_at ms h.0) ∙ sym (flat_members-kids ms)
 
 -- and then the same at each child
-abbrev pub all_candidates : Data → List Location
+abbrev pub all_candidates : Document → List Location
 all_candidates d = all_gathered flattened_from_each d
 
 repeated-items : (ds : Items) → all_candidates (array ds) ≡ flat_items 0 ds ++ through all_candidates (item_kids 0 ds)
 repeated-items ds = items_through flattened_from_each ds ∙ ap (λ (ls : List Location). ls ++ through all_candidates (item_kids 0 ds)) (flattened_from_each-items ds)
 
-repeated-members : (ms : Members) → IsDocument (object ms) → all_candidates (object ms) ≡ flat_members ms ++ through all_candidates (member_kids ms)
+repeated-members : (ms : Members) → IsOrderedDocument (object ms) → all_candidates (object ms) ≡ flat_members ms ++ through all_candidates (member_kids ms)
 repeated-members ms h = members_through flattened_from_each ms h.0 ∙ ap (λ (ls : List Location). ls ++ through all_candidates (member_kids ms)) (flattened_from_each-members ms h)
 
 -- ---- each once
@@ -56,13 +56,13 @@ IsClear before ks = AllByRecursion (λ k. under k.0 before ≡ []) ks
 abbrev IsFlat : List Location → List Kid → Type 0
 IsFlat before ks = AllByRecursion (λ k. under k.0 before ≡ flat k.1) ks
 
-whole : (d : Data) → from_each d flat ([] ∷ []) ≡ flat d
+whole : (d : Document) → from_each d flat ([] ∷ []) ≡ flat d
 whole d = append-nil (map (λ (m : Location). [] ++ m) (flat d)) ∙ map-nothing (flat d)
 
-pub flat_alone : (d : Data) → flattened d ([] ∷ []) ≡ flat d
+pub flat_alone : (d : Document) → flattened d ([] ∷ []) ≡ flat d
 flat_alone d = apart_has_no_repeat_flat d ([] ∷ []) (one_is_apart []) ∙ whole d
 
-flat_candidates_once : (d : Data) → each_once (flat d) ≡ flat d
+flat_candidates_once : (d : Document) → each_once (flat d) ≡ flat d
 flat_candidates_once d = ap each_once (sym (whole d)) ∙ flat_alone d
 
 -- what goes through s, beside the steps of the others, changes nothing for them
@@ -123,7 +123,7 @@ members_once before ms apart h = ap (each_once_after before) (flat_members-kids 
 
 mutual
   -- after what is flat at a value, only what its objects hold is new
-  new_below : (d : Data) → IsDocument d → each_once_after (flat d) (all_candidates d) ≡ in_objects d
+  new_below : (d : Document) → IsOrderedDocument d → each_once_after (flat d) (all_candidates d) ≡ in_objects d
   new_below (array ds) h =
       let own = flat_items 0 ds in
       ap (each_once_after own) (repeated-items ds) ∙ each_once_after-append own own (through all_candidates (item_kids 0 ds))
@@ -137,19 +137,19 @@ mutual
       ∙ ap (λ (ls : List Location). flat_members ms ++ ls) (new_members ([] ∷ flat_members ms) ms h.1 apart (members_flat ([] ∷ []) ms apart (clear_root (member_kids ms))))
   new_below _ h = refl
 
-  new_items : (before : List Location) (n : ℕ) (ds : Items) → AreDocuments ds → AreDistinct (item_kids n ds) → IsFlat before (item_kids n ds) → each_once_after before (through all_candidates (item_kids n ds)) ≡ in_objects_items n ds
+  new_items : (before : List Location) (n : ℕ) (ds : Items) → AreOrderedDocuments ds → AreDistinct (item_kids n ds) → IsFlat before (item_kids n ds) → each_once_after before (through all_candidates (item_kids n ds)) ≡ in_objects_items n ds
   new_items before n no_items h apart k = refl
   new_items before n (item d ds) h apart k =
       one_once before (index n) (all_candidates d) (in_objects d) (through all_candidates (item_kids (suc n) ds)) (in_objects_items (suc n) ds) (ap (λ (ls : List Location). each_once_after ls (all_candidates d)) k.0 ∙ new_below d h.0)
       (new_items (before ++ map (λ (l : Location). index n ∷ l) (in_objects d)) (suc n) ds h.1 apart.1 (beside (index n) before (in_objects d) (item_kids (suc n) ds) (λ t. flat t.1) apart.0 k.1))
 
-  new_members : (before : List Location) (ms : Members) → HoldDocuments ms → AreDistinct (member_kids ms) → IsFlat before (member_kids ms) → each_once_after before (through all_candidates (member_kids ms)) ≡ in_objects_members ms
+  new_members : (before : List Location) (ms : Members) → HoldOrderedDocuments ms → AreDistinct (member_kids ms) → IsFlat before (member_kids ms) → each_once_after before (through all_candidates (member_kids ms)) ≡ in_objects_members ms
   new_members before no_members h apart k = refl
   new_members before (member j d ms) h apart k =
       one_once before (name j) (all_candidates d) (in_objects d) (through all_candidates (member_kids ms)) (in_objects_members ms) (ap (λ (ls : List Location). each_once_after ls (all_candidates d)) k.0 ∙ new_below d h.0)
       (new_members (before ++ map (λ (l : Location). name j ∷ l) (in_objects d)) ms h.1 apart.1 (beside (name j) before (in_objects d) (member_kids ms) (λ t. flat t.1) apart.0 k.1))
 
-repeated_once : (d : Data) → IsDocument d → each_once (all_candidates d) ≡ candidates_below d
+repeated_once : (d : Document) → IsOrderedDocument d → each_once (all_candidates d) ≡ candidates_below d
 repeated_once (array ds) h =
     ap each_once (repeated-items ds) ∙ each_once_after-append [] (flat_items 0 ds) (through all_candidates (item_kids 0 ds))
     ∙ ap (λ (ls : List Location). ls ++ each_once_after ls (through all_candidates (item_kids 0 ds))) (flat_candidates_once (array ds))
@@ -163,17 +163,17 @@ repeated_once _ h = refl
 
 -- ---- from locations of a document
 
-pub all_repeated : (doc : Data) (ls : List Location) → flattened doc (step doc every (all_below doc ls)) ≡ each_once (from_each doc all_candidates ls)
+pub all_repeated : (doc : Document) (ls : List Location) → flattened doc (step doc every (all_below doc ls)) ≡ each_once (from_each doc all_candidates ls)
 all_repeated doc ls = ap each_once (from_each-twice doc flat (single_steps every) (from_each doc below ls) ∙ from_each-twice doc flattened_from_each below ls)
 
-pub repeated_below : (doc : Data) (l : Location) → ((d : Data) → at doc l ≡ Some d → IsDocument d) → each_once (from doc all_candidates l) ≡ from doc candidates_below l
+pub repeated_below : (doc : Document) (l : Location) → ((d : Document) → at doc l ≡ Some d → IsOrderedDocument d) → each_once (from doc all_candidates l) ≡ from doc candidates_below l
 repeated_below doc l h = by (at doc l) refl
   where
-    by : (o : Option Data) → at doc l ≡ o → each_once (map (λ m. l ++ m) (unwrap_or (option_map all_candidates o) [])) ≡ map (λ m. l ++ m) (unwrap_or (option_map candidates_below o) [])
+    by : (o : Option Document) → at doc l ≡ o → each_once (map (λ m. l ++ m) (unwrap_or (option_map all_candidates o) [])) ≡ map (λ m. l ++ m) (unwrap_or (option_map candidates_below o) [])
     by None is = refl
     by (Some d) is =
         let document = h d is in
         each_once-deeper l (all_candidates d) ∙ ap (map (λ (m : Location). l ++ m)) (repeated_once d document)
 
-pub from_one : (doc : Data) (l : Location) → ((d : Data) → at doc l ≡ Some d → IsDocument d) → flattened doc (step doc every (all_below doc (l ∷ []))) ≡ from doc candidates_below l
+pub from_one : (doc : Document) (l : Location) → ((d : Document) → at doc l ≡ Some d → IsOrderedDocument d) → flattened doc (step doc every (all_below doc (l ∷ []))) ≡ from doc candidates_below l
 from_one doc l h = all_repeated doc (l ∷ []) ∙ ap each_once (append-nil (from doc all_candidates l)) ∙ repeated_below doc l h

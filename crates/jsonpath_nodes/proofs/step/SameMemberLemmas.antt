@@ -3,7 +3,7 @@ use Rattle.std.proofs.Common.{◌≡◌, ◌⊎◌, inl, inr, List, [], ◌∷�
 use Rattle.std.specs.Prelude.{filter}
 use Rattle.std.proofs.Math.Bool.{or-true}
 use Rattle.std.specs.List.{list_any}
-use Rattle.serde_json.specs.Data.{Data}
+use Rattle.jsonpath_nodes.specs.document.Document.{Document}
 use Rattle.jsonpath_nodes.specs.place.Location.{Location, below, flat, is_same, location_cmp}
 use Rattle.jsonpath_nodes.specs.step.Steps.{single_steps, from, from_each, each_once, each_once_after, flattened}
 use Rattle.jsonpath_nodes.proofs.place.CompleteLemmas.{IsAmong, Contains-among, among-Contains, among_front, among_back, among_split}
@@ -45,12 +45,12 @@ joined_sets ls ms xs ys one two =
 
 -- ---- from each
 
-pub from_each_to : (doc : Data) (f : Data → List Location) (l x : Location) (ls : List Location) → IsAmong l ls → IsAmong x (from doc f l) → IsAmong x (from_each doc f ls)
+pub from_each_to : (doc : Document) (f : Document → List Location) (l x : Location) (ls : List Location) → IsAmong l ls → IsAmong x (from doc f l) → IsAmong x (from_each doc f ls)
 from_each_to doc f l x [] h k = elim h [ ]
 from_each_to doc f l x (m ∷ ls) (inl e) k = among_front x (from doc f m) (from_each doc f ls) (subst (λ (n : Location). IsAmong x (from doc f n)) e k)
 from_each_to doc f l x (m ∷ ls) (inr h) k = among_back x (from doc f m) (from_each doc f ls) (from_each_to doc f l x ls h k)
 
-pub from_each_back : (doc : Data) (f : Data → List Location) (x : Location) (ls : List Location) → IsAmong x (from_each doc f ls) → (l : Location) × IsAmong l ls × IsAmong x (from doc f l)
+pub from_each_back : (doc : Document) (f : Document → List Location) (x : Location) (ls : List Location) → IsAmong x (from_each doc f ls) → (l : Location) × IsAmong l ls × IsAmong x (from doc f l)
 from_each_back doc f x [] h = elim h [ ]
 from_each_back doc f x (m ∷ ls) h = by (among_split x (from doc f m) (from_each doc f ls) h) (from_each_back doc f x ls)
   where
@@ -59,10 +59,10 @@ from_each_back doc f x (m ∷ ls) h = by (among_split x (from doc f m) (from_eac
     by (inl k) go = (m, inl refl, k)
     by (inr k) go = let found = go k in (found.0, inr found.1, found.2)
 
-from_each-covers : (doc : Data) (f : Data → List Location) (ls ms : List Location) → Covers ls ms → Covers (from_each doc f ls) (from_each doc f ms)
+from_each-covers : (doc : Document) (f : Document → List Location) (ls ms : List Location) → Covers ls ms → Covers (from_each doc f ls) (from_each doc f ms)
 from_each-covers doc f ls ms h x a = let found = from_each_back doc f x ls a in from_each_to doc f found.0 x ms (h found.0 found.1) found.2
 
-pub from_each-same : (doc : Data) (f : Data → List Location) (ls ms : List Location) → SameMembers ls ms → SameMembers (from_each doc f ls) (from_each doc f ms)
+pub from_each-same : (doc : Document) (f : Document → List Location) (ls ms : List Location) → SameMembers ls ms → SameMembers (from_each doc f ls) (from_each doc f ms)
 from_each-same doc f ls ms h =
     same_members (from_each doc f ls) (from_each doc f ms) (from_each-covers doc f ls ms (covers ls ms h)) (from_each-covers doc f ms ls (covers_back ls ms h))
 

@@ -12,11 +12,10 @@ use Rattle.std.proofs.lemmas.Bool.{and_parts, or_parts}
 use Rattle.std.proofs.lemmas.Bool.Decides.{eqb_tells, leb_tells}
 use Rattle.std.proofs.lemmas.Cmp.{int_cmp_total}
 use Rattle.std.proofs.lemmas.Map.Keys.{IsDistinct-from_sorted}
-use Rattle.serde_json.specs.Data.{Data, null, array, object, Items, no_items, item, Members, no_members, member}
-use Rattle.serde_json.specs.Events.{items_len}
-use Rattle.serde_json.specs.Find.{get_item}
+use Rattle.jsonpath_nodes.specs.document.Document.{Document, null, array, object, Items, no_items, item, Members, no_members, member}
+use Rattle.jsonpath_nodes.specs.document.Find.{items_len, get_item}
 use Rattle.jsonpath_nodes.specs.place.Location.{Step, name, index, Location, at, child, children, indexes_from, names, below, flat, flat_items, is_same, step_cmp, location_cmp}
-use Rattle.jsonpath_nodes.specs.place.Order.{IsDocument, location_total}
+use Rattle.jsonpath_nodes.specs.place.Order.{IsOrderedDocument, location_total}
 use Rattle.jsonpath_nodes.specs.step.Separate.{HasNoRepeat, are_indexes, goes_on_by_indexes, in_one_array, IsApart, SelectsNoneTwice, is_every, goes_by_names, HasNamesInOrder, NamesInOrderAt, ApartHasNoRepeatFlat, OneIsApart, ApartHasNoRepeat, NamesStandApart, ListsStandApart, IndexStandsApart, RangeStandsApart, StepStandsApart, CandidatesStandApart, StepHasNoRepeat, EveryHasNoRepeat, ChildHasNoRepeat, BelowHasNoRepeat, DescentStandsApart}
 use Rattle.jsonpath_nodes.specs.step.Steps.{Plain, every, named, listed, nth, union, range, selected, present, nth_of, abs_index, length_of, is_in_range, count_up, single_steps, from, from_each, step, all_below, each_once_after, flattened}
 use Rattle.jsonpath_nodes.specs.update.Topmost.{same_step}
@@ -32,26 +31,26 @@ use Rattle.jsonpath_nodes.proofs.update.SetLemmas.{same_location, location_eq, s
 
 -- ---- from each of some locations
 
-pub pairs_from_each : (e f : Location → Location → Bool) (doc : Data) (g : Data → List Location) (l : Location) (ms : List Location) → AllByRecursion (λ m. e l m ≡ false) ms
+pub pairs_from_each : (e f : Location → Location → Bool) (doc : Document) (g : Document → List Location) (l : Location) (ms : List Location) → AllByRecursion (λ m. e l m ≡ false) ms
     → ((m : Location) → e l m ≡ false → AllPairs f (from doc g l) (from doc g m)) → AllPairs f (from doc g l) (from_each doc g ms)
 pairs_from_each e f doc g l [] h across = pairs_nothing f (from doc g l)
 pairs_from_each e f doc g l (m ∷ ms) h across = pairs_append f (from doc g l) (from doc g m) (from_each doc g ms) (across m h.0) (pairs_from_each e f doc g l ms h.1 across)
 
 -- where no value at a location gives two, and no two locations give any
-pub distinct_from_each : (e f : Location → Location → Bool) (doc : Data) (g : Data → List Location) (ls : List Location)
-    → AllByRecursion (λ l. (d : Data) → at doc l ≡ Some d → IsDistinct f (map (λ (x : Location). l ++ x) (g d))) ls
-    → ((l m : Location) (d c : Data) → e l m ≡ false → AllPairs f (map (λ (x : Location). l ++ x) (g d)) (map (λ (x : Location). m ++ x) (g c))) → IsDistinct e ls → IsDistinct f (from_each doc g ls)
+pub distinct_from_each : (e f : Location → Location → Bool) (doc : Document) (g : Document → List Location) (ls : List Location)
+    → AllByRecursion (λ l. (d : Document) → at doc l ≡ Some d → IsDistinct f (map (λ (x : Location). l ++ x) (g d))) ls
+    → ((l m : Location) (d c : Document) → e l m ≡ false → AllPairs f (map (λ (x : Location). l ++ x) (g d)) (map (λ (x : Location). m ++ x) (g c))) → IsDistinct e ls → IsDistinct f (from_each doc g ls)
 unfolding IsDistinct
 distinct_from_each e f doc g [] own across h = tt
 distinct_from_each e f doc g (l ∷ ls) own across h =
     distinct_append f (from doc g l) (from_each doc g ls) (one (at doc l) refl) (distinct_from_each e f doc g ls own.1 across h.1)
     (pairs_from_each e f doc g l ls h.0 (λ m other. two m other (at doc l) (at doc m)))
   where
-    one : (o : Option Data) → at doc l ≡ o → IsDistinct f (map (λ (x : Location). l ++ x) (unwrap_or (option_map g o) []))
+    one : (o : Option Document) → at doc l ≡ o → IsDistinct f (map (λ (x : Location). l ++ x) (unwrap_or (option_map g o) []))
     one None is = tt
     one (Some d) is = own.0 d is
 
-    two : (m : Location) → e l m ≡ false → (o r : Option Data)
+    two : (m : Location) → e l m ≡ false → (o r : Option Document)
         → AllPairs f (map (λ (x : Location). l ++ x) (unwrap_or (option_map g o) [])) (map (λ (x : Location). m ++ x) (unwrap_or (option_map g r) []))
     two m other None r = tt
     two m other (Some d) None = pairs_nothing f (map (λ (x : Location). l ++ x) (g d))
@@ -145,18 +144,18 @@ behind_pairs f P l m ss ts go h k =
     (pairs_map f P (λ (s : Step). l ++ s ∷ []) (λ (s : Step). m ++ s ∷ []) ss ts go h k)
 
 -- a step selects no child of the value at the location twice
-abbrev pub SelectsOnceAt : Data → Plain → Location → Type 0
-SelectsOnceAt doc p l = (d : Data) → at doc l ≡ Some d → DistinctSteps (selected p d)
+abbrev pub SelectsOnceAt : Document → Plain → Location → Type 0
+SelectsOnceAt doc p l = (d : Document) → at doc l ≡ Some d → DistinctSteps (selected p d)
 
 -- where a step leads from a list, for steps of one kind
-pub distinct_step : (e f : Location → Location → Bool) (P : Step → Type 0) (doc : Data) (p : Plain) (ls : List Location)
-    → AllByRecursion (SelectsOnceAt doc p) ls → ((d : Data) → AllByRecursion P (selected p d))
+pub distinct_step : (e f : Location → Location → Bool) (P : Step → Type 0) (doc : Document) (p : Plain) (ls : List Location)
+    → AllByRecursion (SelectsOnceAt doc p) ls → ((d : Document) → AllByRecursion P (selected p d))
     → ((l : Location) (s t : Step) → same_step s t ≡ false → f (l ++ s ∷ []) (l ++ t ∷ []) ≡ false)
     → ((l m : Location) (s t : Step) → e l m ≡ false → P s → P t → f (l ++ s ∷ []) (m ++ t ∷ []) ≡ false)
     → IsDistinct e ls → IsDistinct f (step doc p ls)
 distinct_step e f P doc p ls once kind own across h =
     distinct_from_each e f doc (single_steps p) ls
-    (all_then (SelectsOnceAt doc p) (λ l. (d : Data) → at doc l ≡ Some d → IsDistinct f (behind l (selected p d))) ls (λ l selects d is. behind_own f l (selected p d) (own l) (selects d is)) once)
+    (all_then (SelectsOnceAt doc p) (λ l. (d : Document) → at doc l ≡ Some d → IsDistinct f (behind l (selected p d))) ls (λ l selects d is. behind_own f l (selected p d) (own l) (selects d is)) once)
     (λ l m d c other. behind_pairs f P l m (selected p d) (selected p c) (λ s t. across l m s t other) (kind d) (kind c)) h
 
 -- ---- what each step selects
@@ -170,7 +169,7 @@ IsIndex (name k) = ⊥
 IsIndex (index i) = Unit {0}
 
 -- only the steps that lead to a child
-presents : {X : Type 0} (d : Data) (to : X → Step) (xs : List X) → flat_map (λ x. present d (to x)) xs ≡ filter (λ s. is_some (child s d)) (map to xs)
+presents : {X : Type 0} (d : Document) (to : X → Step) (xs : List X) → flat_map (λ x. present d (to x)) xs ≡ filter (λ s. is_some (child s d)) (map to xs)
 presents d to [] = refl
 presents {X} d to (x ∷ xs) = ap (λ (ss : List Step). present d (to x) ++ ss) (presents d to xs) ∙ by (is_some (child (to x) d)) (filter (λ s. is_some (child s d)) (map to xs))
   where
@@ -178,16 +177,16 @@ presents {X} d to (x ∷ xs) = ap (λ (ss : List Step). present d (to x) ++ ss) 
     by true ss = refl
     by false ss = refl
 
-present_each : {X : Type 0} (P : Step → Type 0) (d : Data) (to : X → Step) (xs : List X) → AllByRecursion (λ x. P (to x)) xs → AllByRecursion P (flat_map (λ x. present d (to x)) xs)
+present_each : {X : Type 0} (P : Step → Type 0) (d : Document) (to : X → Step) (xs : List X) → AllByRecursion (λ x. P (to x)) xs → AllByRecursion P (flat_map (λ x. present d (to x)) xs)
 present_each P d to xs h = subst (AllByRecursion P) (sym (presents d to xs)) (all_filter P (λ s. is_some (child s d)) (map to xs) (all_map P to xs h))
 
-present_distinct : {X : Type 0} (d : Data) (to : X → Step) (xs : List X) → IsDistinct (λ x y. same_step (to x) (to y)) xs → DistinctSteps (flat_map (λ x. present d (to x)) xs)
+present_distinct : {X : Type 0} (d : Document) (to : X → Step) (xs : List X) → IsDistinct (λ x y. same_step (to x) (to y)) xs → DistinctSteps (flat_map (λ x. present d (to x)) xs)
 present_distinct d to xs h = subst DistinctSteps (sym (presents d to xs)) (distinct_filter same_step (λ s. is_some (child s d)) (map to xs) (distinct_map same_step to xs h))
 
-present_kind : (P : Step → Type 0) (d : Data) (s : Step) → P s → AllByRecursion P (present d s)
+present_kind : (P : Step → Type 0) (d : Document) (s : Step) → P s → AllByRecursion P (present d s)
 present_kind P d s h = all_filter P (λ t. is_some (child t d)) (s ∷ []) (h, tt)
 
-present_once : (d : Data) (s : Step) → DistinctSteps (present d s)
+present_once : (d : Document) (s : Step) → DistinctSteps (present d s)
 unfolding IsDistinct
 present_once d s = distinct_filter same_step (λ t. is_some (child t d)) (s ∷ []) (tt, tt)
 
@@ -201,30 +200,30 @@ numbers_once n zero = tt
 numbers_once n (suc k) = (later_numbers n (suc n) k (omega arith), numbers_once (suc n) k)
 
 -- the numbers that a range selects
-abbrev numbers_of : Data → Option ℤ → Option ℤ → Option ℕ → ℕ → Bool
+abbrev numbers_of : Document → Option ℤ → Option ℤ → Option ℕ → ℕ → Bool
 numbers_of d first to by =
     is_in_range (unwrap_or (option_map (λ n. abs_index n (length_of d)) first) 0) (unwrap_or (option_map (λ n. abs_index n (length_of d)) to) (length_of d)) (unwrap_or by 1)
 
-range_once : (d : Data) (first to : Option ℤ) (by : Option ℕ) → DistinctSteps (selected (range first to by) d)
+range_once : (d : Document) (first to : Option ℤ) (by : Option ℕ) → DistinctSteps (selected (range first to by) d)
 range_once d first to by =
     distinct_map same_step index (filter (numbers_of d first to by) (count_up 0 (length_of d)))
     (distinct_filter (λ i j. same_step (index i) (index j)) (numbers_of d first to by) (count_up 0 (length_of d)) (numbers_once 0 (length_of d)))
 
-range_kind : (d : Data) (first to : Option ℤ) (by : Option ℕ) → AllByRecursion IsIndex (selected (range first to by) d)
+range_kind : (d : Document) (first to : Option ℤ) (by : Option ℕ) → AllByRecursion IsIndex (selected (range first to by) d)
 range_kind d first to by =
     let numbers = filter (numbers_of d first to by) (count_up 0 (length_of d)) in
     all_map IsIndex index numbers (anything numbers)
 
-list_once : (d : Data) (ks : List (List ℕ)) → IsDistinct (eq_by_cmp (slice_cmp nat_cmp)) ks → DistinctSteps (selected (listed ks) d)
+list_once : (d : Document) (ks : List (List ℕ)) → IsDistinct (eq_by_cmp (slice_cmp nat_cmp)) ks → DistinctSteps (selected (listed ks) d)
 list_once d ks h = present_distinct d name ks h
 
-list_kind : (d : Data) (ks : List (List ℕ)) → AllByRecursion IsName (selected (listed ks) d)
+list_kind : (d : Document) (ks : List (List ℕ)) → AllByRecursion IsName (selected (listed ks) d)
 list_kind d ks = present_each IsName d name ks (anything ks)
 
-from_front : (d : Data) (n : ℕ) → nth_of d (pos n) ≡ present d (index n)
+from_front : (d : Document) (n : ℕ) → nth_of d (pos n) ≡ present d (index n)
 from_front (array ds) n = by (leb_tells n (items_len ds))
   where
-    there : Option Data → ℕ → List Step
+    there : Option Document → ℕ → List Step
     there o i = cond (is_some o) (index i ∷ []) []
 
     by : ((leb n (items_len ds) ≡ true) × (n ≤ items_len ds)) ⊎ ((leb n (items_len ds) ≡ false) × (items_len ds < n)) → nth_of (array ds) (pos n) ≡ present (array ds) (index n)
@@ -233,7 +232,7 @@ from_front (array ds) n = by (leb_tells n (items_len ds))
         let is : min n (items_len ds) ≡ items_len ds = omega (arith, h.1) in
         let end : get_item (items_len ds) ds ≡ None = past_end (items_len ds) ds (omega arith) in
         let past : get_item n ds ≡ None = past_end n ds (omega (arith, h.1)) in
-        ap (λ (i : ℕ). present (array ds) (index i)) is ∙ ap (λ (o : Option Data). there o (items_len ds)) end ∙ sym (ap (λ (o : Option Data). there o n) past)
+        ap (λ (i : ℕ). present (array ds) (index i)) is ∙ ap (λ (o : Option Document). there o (items_len ds)) end ∙ sym (ap (λ (o : Option Document). there o n) past)
 from_front _ n = refl
 
 -- an index that counts from the front
@@ -250,17 +249,17 @@ numbers_differ (pos n) (pos m) p q h = by (eqb_tells n m)
     by (inl e) = let tied : eq_by_cmp int_cmp (pos n) (pos m) ≡ true = ap (λ (i : ℕ). eq_by_cmp int_cmp (pos n) (pos i)) (sym e.1) ∙ (eq_by_cmp_equiv int_cmp_total).refl (pos n) in cc
     by (inr e) = e.0
 
-all_from_front : (d : Data) (ns : List ℤ) → AllByRecursion (λ n. pos 0 ≤ℤ n) ns → flat_map (λ n. present d (index (front n))) ns ≡ selected (union ns) d
+all_from_front : (d : Document) (ns : List ℤ) → AllByRecursion (λ n. pos 0 ≤ℤ n) ns → flat_map (λ n. present d (index (front n))) ns ≡ selected (union ns) d
 all_from_front d [] p = refl
 all_from_front d (negsuc n ∷ ns) p = absurd (p.0.le)
 all_from_front d (pos n ∷ ns) p = ap₂ (λ (ss ts : List Step). ss ++ ts) (sym (from_front d n)) (all_from_front d ns p.1)
 
-union_once : (d : Data) (ns : List ℤ) → AllByRecursion (λ n. pos 0 ≤ℤ n) ns → IsDistinct (eq_by_cmp int_cmp) ns → DistinctSteps (selected (union ns) d)
+union_once : (d : Document) (ns : List ℤ) → AllByRecursion (λ n. pos 0 ≤ℤ n) ns → IsDistinct (eq_by_cmp int_cmp) ns → DistinctSteps (selected (union ns) d)
 union_once d ns p h =
     subst DistinctSteps (all_from_front d ns p)
     (present_distinct d (λ (n : ℤ). index (front n)) ns (distinct_other (eq_by_cmp int_cmp) (λ (n m : ℤ). same_step (index (front n)) (index (front m))) (λ (n : ℤ). pos 0 ≤ℤ n) ns numbers_differ p h))
 
-union_kind : (d : Data) (ns : List ℤ) → AllByRecursion IsIndex (selected (union ns) d)
+union_kind : (d : Document) (ns : List ℤ) → AllByRecursion IsIndex (selected (union ns) d)
 union_kind d ns = present_each IsIndex d (λ n. index (abs_index n (length_of d))) ns (anything ns)
 
 kids_once : (ks : List Kid) → AreDistinct ks → DistinctSteps (map (λ (k : Kid). k.0) ks)
@@ -276,13 +275,13 @@ name_steps : (ms : Members) → map (λ (k : Kid). k.0) (member_kids ms) ≡ nam
 name_steps no_members = refl
 name_steps (member k d ms) = ap (λ (ss : List Step). name k ∷ ss) (name_steps ms)
 
-children_once : (d : Data) → HasNamesInOrder d → DistinctSteps (children d)
+children_once : (d : Document) → HasNamesInOrder d → DistinctSteps (children d)
 unfolding IsDistinct
 children_once (array ds) h = subst DistinctSteps (index_steps 0 ds) (kids_once (item_kids 0 ds) (items_distinct 0 ds))
 children_once (object ms) h = subst DistinctSteps (name_steps ms) (kids_once (member_kids ms) (members_distinct ms h))
 children_once _ h = tt
 
-document_in_order : (d : Data) → IsDocument d → HasNamesInOrder d
+document_in_order : (d : Document) → IsOrderedDocument d → HasNamesInOrder d
 document_in_order (object ms) h = h.0
 document_in_order _ h = tt
 
@@ -322,7 +321,7 @@ apart_has_no_repeat ls h =
     distinct_other in_one_array is_same (λ (l : Location). Unit {0}) ls (λ x y p q other. other_is x y (same_goes_on x y (apart_parts x y other).0)) (anything ls) h
 
 -- a step that selects no child twice, in a value whose names ascend where that matters
-pub selects_distinct : (p : Plain) (d : Data) → SelectsNoneTwice p → (is_every p ≡ true → HasNamesInOrder d) → DistinctSteps (selected p d)
+pub selects_distinct : (p : Plain) (d : Document) → SelectsNoneTwice p → (is_every p ≡ true → HasNamesInOrder d) → DistinctSteps (selected p d)
 selects_distinct every d once ordered = children_once d (ordered refl)
 selects_distinct (named k) d once ordered = present_once d (name k)
 selects_distinct (listed ks) d once ordered = list_once d ks once
@@ -331,14 +330,14 @@ selects_distinct (union ns) d once ordered = union_once d ns once.0 once.1
 selects_distinct (range first to by) d once ordered = range_once d first to by
 
 -- so it is at each location
-pub selects_distinct_at : (doc : Data) (p : Plain) (ls : List Location) → SelectsNoneTwice p → (is_every p ≡ true → NamesInOrderAt doc ls) → AllByRecursion (SelectsOnceAt doc p) ls
+pub selects_distinct_at : (doc : Document) (p : Plain) (ls : List Location) → SelectsNoneTwice p → (is_every p ≡ true → NamesInOrderAt doc ls) → AllByRecursion (SelectsOnceAt doc p) ls
 selects_distinct_at doc p [] once ordered = tt
 selects_distinct_at doc p (l ∷ ls) once ordered = (λ d is. selects_distinct p d once (λ e. (ordered e).0 d is), selects_distinct_at doc p ls once (λ e. (ordered e).1))
 
-no_star : (doc : Data) (p : Plain) (ls : List Location) → is_every p ≡ false → is_every p ≡ true → NamesInOrderAt doc ls
+no_star : (doc : Document) (p : Plain) (ls : List Location) → is_every p ≡ false → is_every p ≡ true → NamesInOrderAt doc ls
 no_star doc p ls h k = cc
 
-name_kind : (p : Plain) (d : Data) → goes_by_names p ≡ true → AllByRecursion IsName (selected p d)
+name_kind : (p : Plain) (d : Document) → goes_by_names p ≡ true → AllByRecursion IsName (selected p d)
 name_kind (named k) d h = present_kind IsName d (name k) tt
 name_kind (listed ks) d h = list_kind d ks
 name_kind _ d h = cc
@@ -354,7 +353,7 @@ lists_stand_apart doc p ls by_names once h =
 pub names_stand_apart : NamesStandApart
 names_stand_apart doc k ls h = lists_stand_apart doc (named k) ls refl tt h
 
-by_indexes : (doc : Data) (p : Plain) (ls : List Location) → is_every p ≡ false → SelectsNoneTwice p → ((d : Data) → AllByRecursion IsIndex (selected p d)) → IsApart ls → IsApart (step doc p ls)
+by_indexes : (doc : Document) (p : Plain) (ls : List Location) → is_every p ≡ false → SelectsNoneTwice p → ((d : Document) → AllByRecursion IsIndex (selected p d)) → IsApart ls → IsApart (step doc p ls)
 by_indexes doc p ls other once kind h = distinct_step in_one_array in_one_array IsIndex doc p ls (selects_distinct_at doc p ls once (no_star doc p ls other)) kind own_stand_apart indexes_across h
 
 pub step_stands_apart : StepStandsApart
@@ -371,7 +370,7 @@ index_stands_apart doc n ls h = step_stands_apart doc (nth n) ls refl tt h
 pub range_stands_apart : RangeStandsApart
 range_stands_apart doc first to by ls h = step_stands_apart doc (range first to by) ls refl tt h
 
-no_repeat_by : (doc : Data) (p : Plain) (ls : List Location) → AllByRecursion (SelectsOnceAt doc p) ls → HasNoRepeat ls → HasNoRepeat (step doc p ls)
+no_repeat_by : (doc : Document) (p : Plain) (ls : List Location) → AllByRecursion (SelectsOnceAt doc p) ls → HasNoRepeat ls → HasNoRepeat (step doc p ls)
 no_repeat_by doc p ls once h =
     distinct_step is_same is_same (λ (s : Step). Unit {0}) doc p ls once (λ d. anything (selected p d))
     (λ l s t other. other_is (l ++ s ∷ []) (l ++ t ∷ []) (own_other l s t other))
@@ -405,7 +404,7 @@ below_has_no_repeat doc l document =
 -- ---- candidates of a list that is apart
 
 mutual
-  pub flat_indexes : (d : Data) → AllByRecursion (λ m. are_indexes m ≡ true) (flat d)
+  pub flat_indexes : (d : Document) → AllByRecursion (λ m. are_indexes m ≡ true) (flat d)
   flat_indexes (array ds) = flat_items_indexes 0 ds
   flat_indexes _ = (refl, tt)
 
@@ -432,9 +431,9 @@ flat_part (s ∷ l) [] a b p q h k = same_location_turned (s ∷ (l ++ a)) b ∙
 flat_part (s ∷ l) (t ∷ m) a b p q h k =
     each_false (same_step s t) (same_step t s) (goes_on_by_indexes l m) (goes_on_by_indexes m l) (same_location (l ++ a) (m ++ b)) (same_back s t) (flat_part l m a b p q) h k
 
-flat_distinct : (doc : Data) (ls : List Location) → IsApart ls → HasNoRepeat (from_each doc flat ls)
+flat_distinct : (doc : Document) (ls : List Location) → IsApart ls → HasNoRepeat (from_each doc flat ls)
 flat_distinct doc ls h =
-    distinct_from_each in_one_array is_same doc flat ls (all_of (λ l. (d : Data) → at doc l ≡ Some d → HasNoRepeat (map (λ (x : Location). l ++ x) (flat d))) ls (λ l d is. distinct_behind l (flat d) (flat_ascends d)))
+    distinct_from_each in_one_array is_same doc flat ls (all_of (λ l. (d : Document) → at doc l ≡ Some d → HasNoRepeat (map (λ (x : Location). l ++ x) (flat d))) ls (λ l d is. distinct_behind l (flat d) (flat_ascends d)))
     (λ l m d c other.
     let parts = apart_parts l m other in
     pairs_map is_same (λ a. are_indexes a ≡ true) (λ (x : Location). l ++ x) (λ (x : Location). m ++ x) (flat d) (flat c) (λ a b p q. other_is (l ++ a) (m ++ b) (flat_part l m a b p q parts.0 parts.1)) (flat_indexes d) (flat_indexes c)) h
@@ -460,17 +459,17 @@ apart_has_no_repeat_flat doc ls h = kept_whole [] (from_each doc flat ls) tt (fl
 -- ---- candidates are apart
 
 -- a value that is there and no array
-abbrev no_array : Option Data → Bool
+abbrev no_array : Option Document → Bool
 no_array None = false
 no_array (Some (array ds)) = false
 no_array (Some _) = true
 
-no_item : (d : Data) (i : ℕ) (m : Location) → no_array (Some d) ≡ true → no_array (at d (index i ∷ m)) ≡ true → ⊥
+no_item : (d : Document) (i : ℕ) (m : Location) → no_array (Some d) ≡ true → no_array (at d (index i ∷ m)) ≡ true → ⊥
 no_item null i m h k = cc
 no_item _ i m h k = cc
 
 -- of two such values none stands behind the other in an array
-ends_there : (l m : Location) (d : Data) → no_array (at d l) ≡ true → no_array (at d m) ≡ true → goes_on_by_indexes l m ≡ true → same_location l m ≡ true
+ends_there : (l m : Location) (d : Document) → no_array (at d l) ≡ true → no_array (at d m) ≡ true → goes_on_by_indexes l m ≡ true → same_location l m ≡ true
 ends_there [] [] d p q h = refl
 ends_there [] (name k ∷ m) d p q h = cc
 ends_there [] (index i ∷ m) d p q h = absurd (no_item d i m p q)
@@ -481,7 +480,7 @@ ends_there (s ∷ l) (t ∷ m) d p q h =
     ap₂ (λ (x y : Bool). x && y) parts.0
     (by (child s d) (λ c. ends_there l m c) p (ap (λ (u : Step). no_array (option_and_then (λ c. at c m) (child u d))) one ∙ q) parts.1)
   where
-    by : (o : Option Data) → ((c : Data) → no_array (at c l) ≡ true → no_array (at c m) ≡ true → goes_on_by_indexes l m ≡ true → same_location l m ≡ true)
+    by : (o : Option Document) → ((c : Document) → no_array (at c l) ≡ true → no_array (at c m) ≡ true → goes_on_by_indexes l m ≡ true → same_location l m ≡ true)
         → no_array (option_and_then (λ c. at c l) o) ≡ true → no_array (option_and_then (λ c. at c m) o) ≡ true → goes_on_by_indexes l m ≡ true → same_location l m ≡ true
     by None go p q h = cc
     by (Some c) go p q h = go c p q h
@@ -490,20 +489,20 @@ pub opposite : (b c : Bool) → (b ≡ true → c ≡ true) → c ≡ false → 
 opposite true c go h = let e : c ≡ true = go refl in cc
 opposite false c go h = refl
 
-candidates_part : (doc : Data) (l m : Location) → no_array (at doc l) ≡ true → no_array (at doc m) ≡ true → is_same l m ≡ false → in_one_array l m ≡ false
+candidates_part : (doc : Document) (l m : Location) → no_array (at doc l) ≡ true → no_array (at doc m) ≡ true → is_same l m ≡ false → in_one_array l m ≡ false
 candidates_part doc l m p q h =
     either_false (goes_on_by_indexes l m) (goes_on_by_indexes m l)
     (opposite (goes_on_by_indexes l m) (same_location l m) (ends_there l m doc p q) (is_other l m h))
     (opposite (goes_on_by_indexes m l) (same_location m l) (ends_there m l doc q p) (is_other m l (same_turned m l ∙ h)))
 
-from_item : (all : Items) (n : ℕ) (d : Data) (ls : List Location) → get_item n all ≡ Some d → AllByRecursion (λ m. no_array (at d m) ≡ true) ls
+from_item : (all : Items) (n : ℕ) (d : Document) (ls : List Location) → get_item n all ≡ Some d → AllByRecursion (λ m. no_array (at d m) ≡ true) ls
     → AllByRecursion (λ m. no_array (at (array all) m) ≡ true) (map (λ (l : Location). index n ∷ l) ls)
 from_item all n d ls is h =
     all_map (λ m. no_array (at (array all) m) ≡ true) (λ (l : Location). index n ∷ l) ls
-    (all_then (λ m. no_array (at d m) ≡ true) (λ m. no_array (at (array all) (index n ∷ m)) ≡ true) ls (λ m k. ap (λ (o : Option Data). no_array (option_and_then (λ c. at c m) o)) is ∙ k) h)
+    (all_then (λ m. no_array (at d m) ≡ true) (λ m. no_array (at (array all) (index n ∷ m)) ≡ true) ls (λ m k. ap (λ (o : Option Document). no_array (option_and_then (λ c. at c m) o)) is ∙ k) h)
 
 mutual
-  flat_candidates : (d : Data) → AllByRecursion (λ m. no_array (at d m) ≡ true) (flat d)
+  flat_candidates : (d : Document) → AllByRecursion (λ m. no_array (at d m) ≡ true) (flat d)
   flat_candidates (array ds) = flat_items_candidates ds 0 ds (λ k. ap (λ i. get_item i ds) (omega arith))
   flat_candidates _ = (refl, tt)
 
@@ -513,11 +512,11 @@ mutual
       all_append (λ m. no_array (at (array all) m) ≡ true) (map (λ (l : Location). index n ∷ l) (flat d)) (flat_items (suc n) ds)
       (from_item all n d (flat d) (rw (add-zero n) at (h 0)) (flat_candidates d)) (flat_items_candidates all (suc n) ds (λ k. rw (suc-add n k, ← add-suc n k) (h (suc k))))
 
-all_candidates : (doc : Data) (ls : List Location) → AllByRecursion (λ m. no_array (at doc m) ≡ true) (from_each doc flat ls)
+all_candidates : (doc : Document) (ls : List Location) → AllByRecursion (λ m. no_array (at doc m) ≡ true) (from_each doc flat ls)
 all_candidates doc [] = tt
 all_candidates doc (l ∷ ls) = all_append (λ m. no_array (at doc m) ≡ true) (from doc flat l) (from_each doc flat ls) (by (at doc l) refl) (all_candidates doc ls)
   where
-    by : (o : Option Data) → at doc l ≡ o → AllByRecursion (λ m. no_array (at doc m) ≡ true) (map (λ (m : Location). l ++ m) (unwrap_or (option_map flat o) []))
+    by : (o : Option Document) → at doc l ≡ o → AllByRecursion (λ m. no_array (at doc m) ≡ true) (map (λ (m : Location). l ++ m) (unwrap_or (option_map flat o) []))
     by None is = tt
     by (Some d) is =
         all_map (λ m. no_array (at doc m) ≡ true) (λ (m : Location). l ++ m) (flat d)

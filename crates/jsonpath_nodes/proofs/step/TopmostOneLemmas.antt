@@ -5,9 +5,9 @@ use Rattle.std.proofs.lemmas.Bool.{and_parts}
 use Rattle.std.specs.List.{AllByRecursion}
 use Rattle.std.specs.List.Sorted.{IsStrictlySortedBy}
 use Rattle.std.specs.Ordering.{ordering_reverse}
-use Rattle.serde_json.specs.Data.{Data}
+use Rattle.jsonpath_nodes.specs.document.Document.{Document}
 use Rattle.jsonpath_nodes.specs.place.Location.{Step, Location, at, below, step_cmp, location_cmp}
-use Rattle.jsonpath_nodes.specs.place.Order.{IsDocument, location_total, once_in_order}
+use Rattle.jsonpath_nodes.specs.place.Order.{IsOrderedDocument, location_total, once_in_order}
 use Rattle.jsonpath_nodes.specs.step.Steps.{from, all_below}
 use Rattle.jsonpath_nodes.specs.update.Topmost.{same_step, begins_with}
 use Rattle.jsonpath_nodes.specs.step.SameMembers.{SameMembers, OneListOfASet, is_at_or_below, topmost, topmost_after, BelowOfTheTopmost, DescentOfTheTopmost}
@@ -75,24 +75,24 @@ higher last l (x ∷ ls) h = by (is_at_or_below last x) refl h (higher last l ls
 
 -- ---- below
 
-below_back : (doc : Data) (l x : Location) → IsDocument doc → IsAmong x (from doc below l) → (y : Location) × (c : Data) × (x ≡ l ++ y) × (at doc (l ++ y) ≡ Some c)
+below_back : (doc : Document) (l x : Location) → IsOrderedDocument doc → IsAmong x (from doc below l) → (y : Location) × (c : Document) × (x ≡ l ++ y) × (at doc (l ++ y) ≡ Some c)
 below_back doc l x docs h = by (at doc l) refl h
   where
-    by : (o : Option Data) → at doc l ≡ o → IsAmong x (map (λ (y : Location). l ++ y) (unwrap_or (option_map below o) [])) → (y : Location) × (c : Data) × (x ≡ l ++ y) × (at doc (l ++ y) ≡ Some c)
+    by : (o : Option Document) → at doc l ≡ o → IsAmong x (map (λ (y : Location). l ++ y) (unwrap_or (option_map below o) [])) → (y : Location) × (c : Document) × (x ≡ l ++ y) × (at doc (l ++ y) ≡ Some c)
     by None is k = elim k [ ]
     by (Some d) is k =
         let found = among_mapped (λ (y : Location). l ++ y) x (below d) k in
         let value = below_sound found.0 d (document_at l doc d docs is) found.2 in
-        (found.0, value.0, found.1, at-append l found.0 doc ∙ ap (option_and_then (λ (c : Data). at c found.0)) is ∙ value.1)
+        (found.0, value.0, found.1, at-append l found.0 doc ∙ ap (option_and_then (λ (c : Document). at c found.0)) is ∙ value.1)
 
-below_to : (doc : Data) (m z : Location) (c : Data) → at doc (m ++ z) ≡ Some c → IsAmong (m ++ z) (from doc below m)
+below_to : (doc : Document) (m z : Location) (c : Document) → at doc (m ++ z) ≡ Some c → IsAmong (m ++ z) (from doc below m)
 below_to doc m z c h = by (at doc m) (sym (at-append m z doc) ∙ h)
   where
-    by : (o : Option Data) → option_and_then (λ (d : Data). at d z) o ≡ Some c → IsAmong (m ++ z) (map (λ (y : Location). m ++ y) (unwrap_or (option_map below o) []))
+    by : (o : Option Document) → option_and_then (λ (d : Document). at d z) o ≡ Some c → IsAmong (m ++ z) (map (λ (y : Location). m ++ y) (unwrap_or (option_map below o) []))
     by None e = cc
     by (Some d) e = among_map (λ (y : Location). m ++ y) z (below d) (below_complete z d c e)
 
-below_higher : (doc : Data) (l m k x : Location) → IsDocument doc → m ++ k ≡ l → IsAmong x (from doc below l) → IsAmong x (from doc below m)
+below_higher : (doc : Document) (l m k x : Location) → IsOrderedDocument doc → m ++ k ≡ l → IsAmong x (from doc below l) → IsAmong x (from doc below m)
 below_higher doc l m k x docs is h =
     let found = below_back doc l x docs h in
     let y = found.0 in

@@ -6,8 +6,8 @@ use Rattle.std.specs.Cmp.{Equal-is}
 use Rattle.std.specs.Cmp.Lexicographic.{slice_cmp}
 use Rattle.std.specs.List.{AllByRecursion}
 use Rattle.std.specs.Ordering.{match_ordering}
-use Rattle.serde_json.specs.Data.{Data, null, array, object, Items, no_items, item, Members, no_members, member}
-use Rattle.serde_json.specs.Find.{get_item, get_member}
+use Rattle.jsonpath_nodes.specs.document.Document.{Document, null, array, object, Items, no_items, item, Members, no_members, member}
+use Rattle.jsonpath_nodes.specs.document.Find.{get_item, get_member}
 use Rattle.jsonpath_nodes.proofs.step.DistinctLemmas.{all_then}
 use Rattle.jsonpath_nodes.proofs.update.SetLemmas.{same_itself}
 use Rattle.jsonpath_nodes.specs.place.Location.{Step, name, index, Location, child}
@@ -19,22 +19,22 @@ use Rattle.jsonpath_nodes.specs.update.Run.{Asked, IsRun, update_each}
 use Rattle.jsonpath_nodes.proofs.update.TopmostLemmas.{each_null}
 
 -- f answers a value wherever it is asked
-abbrev Puts : (Data → Option Data) → Type 0
-Puts f = (c : Data) → (e : Data) × (f c ≡ Some e)
+abbrev Puts : (Document → Option Document) → Type 0
+Puts f = (c : Document) → (e : Document) × (f c ≡ Some e)
 
-item_other : (f : Data → Option Data) (i j : ℕ) (ds : Items) → Puts f → (i ≡ j → ⊥) → get_item j (edit_item f i ds) ≡ get_item j ds
+item_other : (f : Document → Option Document) (i j : ℕ) (ds : Items) → Puts f → (i ≡ j → ⊥) → get_item j (edit_item f i ds) ≡ get_item j ds
 item_other f i j no_items p h = refl
 item_other f zero zero (item d ds) p h = absurd (h refl)
 item_other f zero (suc j) (item d ds) p h = rw (p d).1 refl
 item_other f (suc i) zero (item d ds) p h = refl
 item_other f (suc i) (suc j) (item d ds) p h = item_other f i j ds p (λ e. h (ap suc e))
 
-item_here : (f : Data → Option Data) (i : ℕ) (ds : Items) → Puts f → get_item i (edit_item f i ds) ≡ option_and_then f (get_item i ds)
+item_here : (f : Document → Option Document) (i : ℕ) (ds : Items) → Puts f → get_item i (edit_item f i ds) ≡ option_and_then f (get_item i ds)
 item_here f i no_items p = refl
 item_here f zero (item d ds) p = rw (p d).1 refl
 item_here f (suc i) (item d ds) p = item_here f i ds p
 
-member_other_at : (o r : Ordering) (f : Data → Option Data) (k q l : List ℕ) (d : Data) (ms : Members) → Puts f → slice_cmp nat_cmp k l ≡ o → slice_cmp nat_cmp q l ≡ r → (o ≡ Equal → r ≡ Equal → ⊥)
+member_other_at : (o r : Ordering) (f : Document → Option Document) (k q l : List ℕ) (d : Document) (ms : Members) → Puts f → slice_cmp nat_cmp k l ≡ o → slice_cmp nat_cmp q l ≡ r → (o ≡ Equal → r ≡ Equal → ⊥)
     → get_member q (edit_member f k ms) ≡ get_member q ms
     → get_member q (match_ordering o (member l d (edit_member f k ms)) (member_if l (f d) ms) (member l d (edit_member f k ms))) ≡ match_ordering r (get_member q ms) (Some d) (get_member q ms)
 member_other_at Less r f k q l d ms p e g h later = rw (g, later) refl
@@ -43,7 +43,7 @@ member_other_at Equal Equal f k q l d ms p e g h later = absurd (h refl refl)
 member_other_at Equal Greater f k q l d ms p e g h later = rw ((p d).1, g) refl
 member_other_at Greater r f k q l d ms p e g h later = rw (g, later) refl
 
-member_other : (f : Data → Option Data) (k q : List ℕ) (ms : Members) → Puts f → is_eq (slice_cmp nat_cmp k q) ≡ false → get_member q (edit_member f k ms) ≡ get_member q ms
+member_other : (f : Document → Option Document) (k q : List ℕ) (ms : Members) → Puts f → is_eq (slice_cmp nat_cmp k q) ≡ false → get_member q (edit_member f k ms) ≡ get_member q ms
 member_other f k q no_members p h = refl
 member_other f k q (member l d ms) p h =
     let both = λ (x : slice_cmp nat_cmp k l ≡ Equal) (y : slice_cmp nat_cmp q l ≡ Equal).
@@ -52,93 +52,93 @@ member_other f k q (member l d ms) p h =
     let bad : true ≡ false = sym (ap is_eq level) ∙ h in absurd (cc) in
     member_other_at (slice_cmp nat_cmp k l) (slice_cmp nat_cmp q l) f k q l d ms p refl refl both (member_other f k q ms p h)
 
-member_here_at : (o : Ordering) (f : Data → Option Data) (k q l : List ℕ) (d : Data) (ms : Members) → Puts f → slice_cmp nat_cmp k l ≡ o → slice_cmp nat_cmp q l ≡ o
+member_here_at : (o : Ordering) (f : Document → Option Document) (k q l : List ℕ) (d : Document) (ms : Members) → Puts f → slice_cmp nat_cmp k l ≡ o → slice_cmp nat_cmp q l ≡ o
     → get_member q (edit_member f k ms) ≡ option_and_then f (get_member q ms)
     → get_member q (match_ordering o (member l d (edit_member f k ms)) (member_if l (f d) ms) (member l d (edit_member f k ms))) ≡ option_and_then f (match_ordering o (get_member q ms) (Some d) (get_member q ms))
 member_here_at Less f k q l d ms p e g later = rw (g, later) refl
 member_here_at Equal f k q l d ms p e g later = rw ((p d).1, g) refl
 member_here_at Greater f k q l d ms p e g later = rw (g, later) refl
 
-member_here : (f : Data → Option Data) (k q : List ℕ) (ms : Members) → Puts f → slice_cmp nat_cmp k q ≡ Equal → get_member q (edit_member f k ms) ≡ option_and_then f (get_member q ms)
+member_here : (f : Document → Option Document) (k q : List ℕ) (ms : Members) → Puts f → slice_cmp nat_cmp k q ≡ Equal → get_member q (edit_member f k ms) ≡ option_and_then f (get_member q ms)
 member_here f k q no_members p h = refl
 member_here f k q (member l d ms) p h =
     rw (← nat_list_cmp_total.congr k q l h) (member_here_at (slice_cmp nat_cmp k l) f k q l d ms p refl (sym (nat_list_cmp_total.congr k q l h)) (member_here f k q ms p h))
 
-child_other : (f : Data → Option Data) (s t : Step) (d : Data) → Puts f → same_step s t ≡ false → child t (edit f s d) ≡ child t d
+child_other : (f : Document → Option Document) (s t : Step) (d : Document) → Puts f → same_step s t ≡ false → child t (edit f s d) ≡ child t d
 child_other f (name k) (name q) (object ms) p h = member_other f k q ms p h
 child_other f (name k) (index j) (object ms) p h = refl
 child_other f (index i) (name q) (array ds) p h = refl
 child_other f (index i) (index j) (array ds) p h = item_other f i j ds p (eqb-false i j h)
 child_other f _ _ _ p h = refl
 
-child_here : (f : Data → Option Data) (s t : Step) (d : Data) → Puts f → same_step s t ≡ true → child t (edit f s d) ≡ option_and_then f (child t d)
+child_here : (f : Document → Option Document) (s t : Step) (d : Document) → Puts f → same_step s t ≡ true → child t (edit f s d) ≡ option_and_then f (child t d)
 child_here f (name k) (name q) (object ms) p h = member_here f k q ms p ((Equal-is (slice_cmp nat_cmp k q)).0 h)
 child_here f (name k) (index j) d p h = absurd (cc)
 child_here f (index i) (name q) d p h = absurd (cc)
 child_here f (index i) (index j) (array ds) p h = rw (← eqb-true i j h) (item_here f i ds p)
 child_here f _ _ _ p h = refl
 
-puts : (x : Data) (l : Location) → Puts (with_answer_at (Some x) l)
+puts : (x : Document) (l : Location) → Puts (with_answer_at (Some x) l)
 puts x [] c = (x, refl)
 puts x (s ∷ l) c = (edit (with_answer_at (Some x) l) s c, refl)
 
 -- at m, seen from a child that the edit changed
-below : (x : Data) (m l : Location) (o : Option Data) → ((c : Data) → option_and_then (there m) (with_answer_at (Some x) l c) ≡ there m c)
+below : (x : Document) (m l : Location) (o : Option Document) → ((c : Document) → option_and_then (there m) (with_answer_at (Some x) l c) ≡ there m c)
     → option_and_then (there m) (option_and_then (with_answer_at (Some x) l) o) ≡ option_and_then (there m) o
 below x m l None h = refl
 below x m l (Some c) h = h c
 
-apart_at : (b : Bool) (x : Data) (t s : Step) (m l : Location) (d : Data) → same_step s t ≡ b
-    → ((c : Data) → apart m l ≡ true → option_and_then (there m) (with_answer_at (Some x) l c) ≡ there m c) → (not b || apart m l) ≡ true
+apart_at : (b : Bool) (x : Document) (t s : Step) (m l : Location) (d : Document) → same_step s t ≡ b
+    → ((c : Document) → apart m l ≡ true → option_and_then (there m) (with_answer_at (Some x) l c) ≡ there m c) → (not b || apart m l) ≡ true
     → option_and_then (there m) (child t (edit (with_answer_at (Some x) l) s d)) ≡ option_and_then (there m) (child t d)
 apart_at true x t s m l d e deep h = rw (child_here (with_answer_at (Some x) l) s t d (puts x l) e) (below x m l (child t d) (λ c. deep c h))
 apart_at false x t s m l d e deep h = rw (child_other (with_answer_at (Some x) l) s t d (puts x l) e) refl
 
 -- with x put at l, m has what it had
-apart_answer : (x : Data) (m l : Location) (c : Data) → apart m l ≡ true → option_and_then (there m) (with_answer_at (Some x) l c) ≡ there m c
+apart_answer : (x : Document) (m l : Location) (c : Document) → apart m l ≡ true → option_and_then (there m) (with_answer_at (Some x) l c) ≡ there m c
 apart_answer x [] l c h = absurd (cc)
 apart_answer x (t ∷ m) [] c h = absurd (cc)
 apart_answer x (t ∷ m) (s ∷ l) c h = apart_at (same_step s t) x t s m l c refl (λ e. apart_answer x m l e) h
 
-pub at_update : (x : Data) (m l : Location) (d : Data) → apart_below_root m l ≡ true → there m (update l (Some x) d) ≡ there m d
+pub at_update : (x : Document) (m l : Location) (d : Document) → apart_below_root m l ≡ true → there m (update l (Some x) d) ≡ there m d
 at_update x m [] d h = refl
 at_update x m (s ∷ l) d h = apart_answer x m (s ∷ l) d h
 
-at_each : (x : Data) (m : Location) (ls : List Location) (d : Data) → AllByRecursion (λ l. apart_below_root m l ≡ true) ls → there m (update_each (Some x) ls d) ≡ there m d
+at_each : (x : Document) (m : Location) (ls : List Location) (d : Document) → AllByRecursion (λ l. apart_below_root m l ≡ true) ls → there m (update_each (Some x) ls d) ≡ there m d
 at_each x m [] d h = refl
 at_each x m (l ∷ ls) d h = at_each x m ls (update l (Some x) d) h.1 ∙ at_update x m l d h.0
 
 -- a location that is neither at, below nor above a nulled one has what it had
-pub at_nulled : (m : Location) (ls : List Location) (d : Data) → AllByRecursion (λ l. apart_below_root m l ≡ true) ls → there m (nulled ls d) ≡ there m d
+pub at_nulled : (m : Location) (ls : List Location) (d : Document) → AllByRecursion (λ l. apart_below_root m l ≡ true) ls → there m (nulled ls d) ≡ there m d
 at_nulled m ls d h = ap (there m) (sym (each_null ls d)) ∙ at_each null m ls d h
 
 -- ---- answers that are put at locations apart from one another
 
 -- what was put at a location that leads somewhere is found there
-answer_found_at : (x : Data) (s : Step) (l : Location) (d e : Data) (o : Option Data) → child s d ≡ o → option_and_then (there l) o ≡ Some e
-    → ((c : Data) → there l c ≡ Some e → option_and_then (there l) (with_answer_at (Some x) l c) ≡ Some x) → option_and_then (there l) (child s (edit (with_answer_at (Some x) l) s d)) ≡ Some x
+answer_found_at : (x : Document) (s : Step) (l : Location) (d e : Document) (o : Option Document) → child s d ≡ o → option_and_then (there l) o ≡ Some e
+    → ((c : Document) → there l c ≡ Some e → option_and_then (there l) (with_answer_at (Some x) l c) ≡ Some x) → option_and_then (there l) (child s (edit (with_answer_at (Some x) l) s d)) ≡ Some x
 answer_found_at x s l d e None is found deep = absurd (cc)
 answer_found_at x s l d e (Some c) is found deep = rw (child_here (with_answer_at (Some x) l) s s d (puts x l) (same_itself s), is) (deep c found)
 
-answer_found : (x : Data) (l : Location) (d e : Data) → there l d ≡ Some e → option_and_then (there l) (with_answer_at (Some x) l d) ≡ Some x
+answer_found : (x : Document) (l : Location) (d e : Document) → there l d ≡ Some e → option_and_then (there l) (with_answer_at (Some x) l d) ≡ Some x
 answer_found x [] d e h = refl
 answer_found x (s ∷ l) d e h = answer_found_at x s l d e (child s d) refl h (λ c. answer_found x l c e)
 
-pub at_here : (x : Data) (l : Location) (d e : Data) → target l d ≡ Some e → there l (update l (Some x) d) ≡ Some x
+pub at_here : (x : Document) (l : Location) (d e : Document) → target l d ≡ Some e → there l (update l (Some x) d) ≡ Some x
 at_here x [] d e h = absurd (cc)
 at_here x (s ∷ l) d e h = answer_found x (s ∷ l) d e h
 
-target_update : (x : Data) (m l : Location) (d : Data) → apart_below_root m l ≡ true → target m (update l (Some x) d) ≡ target m d
+target_update : (x : Document) (m l : Location) (d : Document) → apart_below_root m l ≡ true → target m (update l (Some x) d) ≡ target m d
 target_update x [] l d h = refl
 target_update x (t ∷ m) l d h = at_update x (t ∷ m) l d h
 
-abbrev RunAt : Option Data → Location → List Location → Data → List Asked → Data → Type 0
+abbrev RunAt : Option Document → Location → List Location → Document → List Asked → Document → Type 0
 RunAt o l ls before asked after = MatchOption o (IsRun ls before asked after)
-    (λ d. (answer : Option Data) × (more : List Asked) × (asked ≡ (d, answer) ∷ more) × IsRun ls (update l answer before) more after)
+    (λ d. (answer : Option Document) × (more : List Asked) × (asked ≡ (d, answer) ∷ more) × IsRun ls (update l answer before) more after)
 
 -- a location apart from all of them has what it had
-run_apart_at : (o : Option Data) (m l : Location) (ls : List Location) (before : Data) (asked : List Asked) (after : Data) → apart_below_root m l ≡ true → NothingTakenAway asked → RunAt o l ls before asked after
-    → ((b : Data) (ps : List Asked) → NothingTakenAway ps → IsRun ls b ps after → there m after ≡ there m b) → there m after ≡ there m before
+run_apart_at : (o : Option Document) (m l : Location) (ls : List Location) (before : Document) (asked : List Asked) (after : Document) → apart_below_root m l ≡ true → NothingTakenAway asked → RunAt o l ls before asked after
+    → ((b : Document) (ps : List Asked) → NothingTakenAway ps → IsRun ls b ps after → there m after ≡ there m b) → there m after ≡ there m before
 run_apart_at None m l ls before asked after h all r later = later before asked all r
 run_apart_at (Some d) m l ls before [] after h all r later = absurd (cc)
 run_apart_at (Some d) m l ls before ((e, None) ∷ asked) after h all r later = absurd (let bad : false ≡ true = all.0 in cc)
@@ -148,28 +148,28 @@ run_apart_at (Some d) m l ls before ((e, Some x) ∷ asked) after h all r later 
     let said : r.0 ≡ Some x = sym (ap (λ (q : Asked). q.1) heads) in
     later (update l (Some x) before) asked all.1 (rw (more, ← said) r.3) ∙ at_update x m l before h
 
-pub run_apart : (m : Location) (ls : List Location) (before : Data) (asked : List Asked) (after : Data) → AllByRecursion (λ l. apart_below_root m l ≡ true) ls → NothingTakenAway asked
+pub run_apart : (m : Location) (ls : List Location) (before : Document) (asked : List Asked) (after : Document) → AllByRecursion (λ l. apart_below_root m l ≡ true) ls → NothingTakenAway asked
     → IsRun ls before asked after → there m after ≡ there m before
 run_apart m [] before asked after h all r = ap (there m) r.1
 run_apart m (l ∷ ls) before asked after h all r = run_apart_at (target l before) m l ls before asked after h.0 all r (λ b ps. run_apart m ls b ps after h.1)
 
-abbrev PlacedAt : Option Data → Location → List Location → Data → List Asked → Data → Type 0
+abbrev PlacedAt : Option Document → Location → List Location → Document → List Asked → Document → Type 0
 PlacedAt o l ls before asked after = MatchOption o (IsPlaced ls before asked after)
-    (λ d. (answer : Data) × (more : List Asked) × (asked ≡ (d, Some answer) ∷ more) × (there l after ≡ Some answer) × IsPlaced ls before more after)
+    (λ d. (answer : Document) × (more : List Asked) × (asked ≡ (d, Some answer) ∷ more) × (there l after ≡ Some answer) × IsPlaced ls before more after)
 
-placed_step : (o : Option Data) (m : Location) (ls : List Location) (mid before : Data) (asked : List Asked) (after : Data) → ((ps : List Asked) → IsPlaced ls mid ps after → IsPlaced ls before ps after)
+placed_step : (o : Option Document) (m : Location) (ls : List Location) (mid before : Document) (asked : List Asked) (after : Document) → ((ps : List Asked) → IsPlaced ls mid ps after → IsPlaced ls before ps after)
     → PlacedAt o m ls mid asked after → PlacedAt o m ls before asked after
 placed_step None m ls mid before asked after later p = later asked p
 placed_step (Some d) m ls mid before asked after later p = (p.0, p.1, p.2, p.3, later p.1 p.4)
 
-placed_before : (x : Data) (l : Location) (ls : List Location) (before : Data) (asked : List Asked) (after : Data) → AllByRecursion (λ m. (apart_below_root l m ≡ true) × (apart_below_root m l ≡ true)) ls
+placed_before : (x : Document) (l : Location) (ls : List Location) (before : Document) (asked : List Asked) (after : Document) → AllByRecursion (λ m. (apart_below_root l m ≡ true) × (apart_below_root m l ≡ true)) ls
     → IsPlaced ls (update l (Some x) before) asked after → IsPlaced ls before asked after
 placed_before x l [] before asked after h p = p
 placed_before x l (m ∷ ls) before asked after h p =
     placed_step (target m before) m ls (update l (Some x) before) before asked after (λ ps. placed_before x l ls before ps after h.1) (rw (target_update x m l before h.0.1) at p)
 
-run_placed_at : (o : Option Data) (l : Location) (ls : List Location) (before : Data) (asked : List Asked) (after : Data) → target l before ≡ o → AllApart (l ∷ ls) → NothingTakenAway asked
-    → RunAt o l ls before asked after → ((b : Data) (ps : List Asked) → NothingTakenAway ps → IsRun ls b ps after → IsPlaced ls b ps after) → PlacedAt o l ls before asked after
+run_placed_at : (o : Option Document) (l : Location) (ls : List Location) (before : Document) (asked : List Asked) (after : Document) → target l before ≡ o → AllApart (l ∷ ls) → NothingTakenAway asked
+    → RunAt o l ls before asked after → ((b : Document) (ps : List Asked) → NothingTakenAway ps → IsRun ls b ps after → IsPlaced ls b ps after) → PlacedAt o l ls before asked after
 run_placed_at None l ls before asked after is h all r later = later before asked all r
 run_placed_at (Some d) l ls before [] after is h all r later = absurd (cc)
 run_placed_at (Some d) l ls before ((e, None) ∷ asked) after is h all r later = absurd (let bad : false ≡ true = all.0 in cc)
@@ -183,6 +183,6 @@ run_placed_at (Some d) l ls before ((e, Some x) ∷ asked) after is h all r late
     (x, asked, rw handed refl, stays ∙ at_here x l before d is, placed_before x l ls before asked after h.0 (later (update l (Some x) before) asked all.1 run))
 
 -- where no location lies below another and every answer is a value, each answer stands in its place
-pub run_placed : (ls : List Location) (before : Data) (asked : List Asked) (after : Data) → AllApart ls → NothingTakenAway asked → IsRun ls before asked after → IsPlaced ls before asked after
+pub run_placed : (ls : List Location) (before : Document) (asked : List Asked) (after : Document) → AllApart ls → NothingTakenAway asked → IsRun ls before asked after → IsPlaced ls before asked after
 run_placed [] before asked after h all r = r.0
 run_placed (l ∷ ls) before asked after h all r = run_placed_at (target l before) l ls before asked after refl h all r (λ b ps. run_placed ls b ps after h.1)

@@ -3,9 +3,9 @@ use Rattle.std.proofs.Common.{◌≡◌, ℕ, ◌<◌, List, [], ◌∷◌, leng
 use Rattle.std.specs.Cmp.Lexicographic.{slice_cmp}
 use Rattle.std.specs.List.Sorted.{IsStrictlySortedBy}
 use Rattle.std.specs.Ordering.{match_ordering}
-use Rattle.serde_json.specs.Data.{Data, Members, no_members, member}
-use Rattle.serde_json.specs.Find.{get_member}
-use Rattle.serde_json.specs.View.{view, members_view}
+use Rattle.jsonpath_nodes.specs.document.Document.{Document, Members, no_members, member}
+use Rattle.jsonpath_nodes.specs.document.Find.{get_member}
+use Rattle.jsonpath_nodes.specs.document.OfData.{value_document, members_document}
 use Rattle.serde_json.specs.declared.value.Value.{Value}
 use Rattle.serde_json.proofs.Views.{Entry}
 use Rattle.std.specs.BTreeMap.{is_at}
@@ -93,11 +93,11 @@ both_elsewhere k l us all rest same h q = under_elsewhere (name l) (name q) all 
     by true e = refl
     by false e = (h q).1 (sym (like_name k l q same) ∙ e)
 
-put_back : (p : Option Data) (l : List ℕ) (all rest : List Location) (es : Members) → under (name l) rest ≡ [] → SameNames (elsewhere (name l) all) rest → SameNames (elsewhere (name l) all) (elsewhere (name l) rest)
+put_back : (p : Option Document) (l : List ℕ) (all rest : List Location) (es : Members) → under (name l) rest ≡ [] → SameNames (elsewhere (name l) all) rest → SameNames (elsewhere (name l) all) (elsewhere (name l) rest)
     → member_if l p (members_with_answer None (elsewhere (name l) all) es) ≡ members_with_answer None rest (member_if l p es)
 put_back None l all rest es none same both = same_names (elsewhere (name l) all) rest es same
 put_back (Some d) l all rest es none same both =
-    rw none (ap (member l d) (same_names (elsewhere (name l) all) (elsewhere (name l) rest) es both) ∙ ap (λ (e : Data). member l e (members_with_answer None (elsewhere (name l) rest) es)) (sym (topmost_none None d)))
+    rw none (ap (member l d) (same_names (elsewhere (name l) all) (elsewhere (name l) rest) es both) ∙ ap (λ (e : Document). member l e (members_with_answer None (elsewhere (name l) rest) es)) (sym (topmost_none None d)))
 
 members_off : (k : List ℕ) (us all rest : List Location) (es : Members) → ComesOff k us all rest → members_with_answer None all es ≡ members_with_answer None rest (edit_member (piece None us) k es)
 members_off k us all rest no_members h = refl
@@ -182,37 +182,37 @@ module _ {depth g : ℕ} {ls others : List Location} {k : List ℕ} {l : Locatio
   through_front : through_name ≡ l ∷ under (name k) rest
   through_front = through_itself k l rest
 
-  module _ {later : List Location} (behind : later ≡ drop g ls) {all : List Location} {first : Members} (es fs : List Entry) (p : Clears all first (members_view es) (beyond depth ls)) where
-    at_front : Clears all first (members_view es) ((name k ∷ l) ∷ rest)
-    at_front = subst (λ (r : List Location). Clears all first (members_view es) r) f.head p
+  module _ {later : List Location} (behind : later ≡ drop g ls) {all : List Location} {first : Members} (es fs : List Entry) (p : Clears all first (members_document es) (beyond depth ls)) where
+    at_front : Clears all first (members_document es) ((name k ∷ l) ∷ rest)
+    at_front = subst (λ (r : List Location). Clears all first (members_document es) r) f.head p
 
-    cleared : members_view fs ≡ edit_member (piece None through_name) k (members_view es) → Clears all first (members_view fs) (beyond depth later)
-    cleared is = subst (λ (r : List Location). Clears all first (members_view fs) r) (sym (behind_group f later behind)) (clears_more all first (members_view es) (members_view fs) k l rest is at_front)
+    cleared : members_document fs ≡ edit_member (piece None through_name) k (members_document es) → Clears all first (members_document fs) (beyond depth later)
+    cleared is = subst (λ (r : List Location). Clears all first (members_document fs) r) (sym (behind_group f later behind)) (clears_more all first (members_document es) (members_document fs) k l rest is at_front)
 
     -- a member that is taken away
-    pub clears_taken : length l ≡ 0 → fs ≡ remove_entry (is_at (named k)) es → Clears all first (members_view fs) (beyond depth later)
+    pub clears_taken : length l ≡ 0 → fs ≡ remove_entry (is_at (named k)) es → Clears all first (members_document fs) (beyond depth later)
     clears_taken none is =
         let root : has_root through_name ≡ true = ap has_root through_front ∙ at_root l none in
-        cleared (ap members_view is ∙ members_view-remove_entry k es ∙ ap (λ (b : Bool). edit_member (λ d. cond b None (Some (with_answer_at_topmost None through_name d))) k (members_view es)) (sym root))
+        cleared (ap members_document is ∙ members_view-remove_entry k es ∙ ap (λ (b : Bool). edit_member (λ d. cond b None (Some (with_answer_at_topmost None through_name d))) k (members_document es)) (sym root))
       where
         at_root : (m : Location) → length m ≡ 0 → has_root (m ∷ under (name k) rest) ≡ true
         at_root [] e = refl
         at_root (s ∷ m) e = absurd (omega arith)
 
     -- a member of which the locations take something away
-    pub clears_kept : {here : List Location} {d : Data} (w : Value) → here ≡ take g ls → 0 < length l → get_member k (members_view es) ≡ Some d
-        → view w ≡ with_answer_at_topmost None (beyond (depth + 1) here) d → fs ≡ set_value (is_at (named k)) es w → Clears all first (members_view fs) (beyond depth later)
+    pub clears_kept : {here : List Location} {d : Document} (w : Value) → here ≡ take g ls → 0 < length l → get_member k (members_document es) ≡ Some d
+        → value_document w ≡ with_answer_at_topmost None (beyond (depth + 1) here) d → fs ≡ set_value (is_at (named k)) es w → Clears all first (members_document fs) (beyond depth later)
     clears_kept {here} {d} w ahead more found is put =
         let root : has_root through_name ≡ false = below_root l through_front more in
-        let inside : Some (view w) ≡ piece None through_name d =
+        let inside : Some (value_document w) ≡ piece None through_name d =
         ap Some (is ∙ ap (λ (us : List Location). with_answer_at_topmost None us d) (in_group f here ahead p.sorted)) ∙ ap (λ (b : Bool). cond b None (Some (with_answer_at_topmost None through_name d))) (sym root) in
-        cleared (ap members_view put ∙ members_view-set_value k es w ∙ ap (λ (o : Option Data). edit_member (λ _. o) k (members_view es)) inside ∙ sym (edit_member_by (piece None through_name) k (members_view es) d found))
+        cleared (ap members_document put ∙ members_view-set_value k es w ∙ ap (λ (o : Option Document). edit_member (λ _. o) k (members_document es)) inside ∙ sym (edit_member_by (piece None through_name) k (members_document es) d found))
       where
         below_root : (m : Location) → through_name ≡ m ∷ under (name k) rest → 0 < length m → has_root through_name ≡ false
         below_root [] e h = absurd (omega arith)
         below_root (s ∷ m) e h = front_no_root s m through_name (under (name k) rest) e (sorted_under (name k) ((name k ∷ l) ∷ rest) at_front.sorted)
 
     -- a name that the object has not
-    pub clears_none : get_member k (members_view es) ≡ None → fs ≡ es → Clears all first (members_view fs) (beyond depth later)
+    pub clears_none : get_member k (members_document es) ≡ None → fs ≡ es → Clears all first (members_document fs) (beyond depth later)
     clears_none none is =
-        cleared (ap members_view is ∙ sym (edit_member_same (piece None through_name) k (members_view es) (λ c h. let clash : None ≡ Some c = sym none ∙ h in absurd (cc))))
+        cleared (ap members_document is ∙ sym (edit_member_same (piece None through_name) k (members_document es) (λ c h. let clash : None ≡ Some c = sym none ∙ h in absurd (cc))))

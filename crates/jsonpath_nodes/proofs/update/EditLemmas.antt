@@ -3,9 +3,9 @@ use Rattle.std.proofs.Common.{◌≡◌, ℕ, zero, suc, List, [], ◌∷◌, Op
 use Rattle.std.specs.Ordering.{match_ordering}
 use Rattle.std.specs.Fn.{Called}
 use Rattle.std.specs.Cmp.Lexicographic.{slice_cmp}
-use Rattle.serde_json.specs.Data.{Data, array, object, Items, no_items, item, Members, no_members, member}
-use Rattle.serde_json.specs.Find.{get_item, get_member}
-use Rattle.serde_json.specs.View.{view}
+use Rattle.jsonpath_nodes.specs.document.Document.{Document, array, object, Items, no_items, item, Members, no_members, member}
+use Rattle.jsonpath_nodes.specs.document.Find.{get_item, get_member}
+use Rattle.jsonpath_nodes.specs.document.OfData.{value_document}
 use Rattle.serde_json.specs.declared.value.Value.{Value}
 use Rattle.jsonpath_nodes.specs.place.Location.{Step, name, index, Location, child}
 use Rattle.jsonpath_nodes.proofs.place.ThereLemmas.{there}
@@ -16,12 +16,12 @@ use Rattle.jsonpath_nodes.specs.update.Calls.{UpdateCalls, IsUpdate}
 
 -- ---- an edit goes by what f answers for the child alone
 
-edit_item_by : (f : Data → Option Data) (i : ℕ) (ds : Items) (c : Data) → get_item i ds ≡ Some c → edit_item f i ds ≡ edit_item (λ _. f c) i ds
+edit_item_by : (f : Document → Option Document) (i : ℕ) (ds : Items) (c : Document) → get_item i ds ≡ Some c → edit_item f i ds ≡ edit_item (λ _. f c) i ds
 edit_item_by f i no_items c e = refl
 edit_item_by f zero (item d ds) c e = let same : d ≡ c = cc in ap (λ x. item_if (f x) ds) same
 edit_item_by f (suc i) (item d ds) c e = ap (item d) (edit_item_by f i ds c e)
 
-edit_member_by_at : (o : Ordering) (f : Data → Option Data) (k l : List ℕ) (d : Data) (ms : Members) (c : Data)
+edit_member_by_at : (o : Ordering) (f : Document → Option Document) (k l : List ℕ) (d : Document) (ms : Members) (c : Document)
     → (get_member k ms ≡ Some c → edit_member f k ms ≡ edit_member (λ _. f c) k ms)
     → match_ordering o (get_member k ms) (Some d) (get_member k ms) ≡ Some c
     → match_ordering o (member l d (edit_member f k ms)) (member_if l (f d) ms) (member l d (edit_member f k ms))
@@ -30,49 +30,49 @@ edit_member_by_at Less f k l d ms c later e = ap (member l d) (later e)
 edit_member_by_at Equal f k l d ms c later e = let same : d ≡ c = cc in ap (λ x. member_if l (f x) ms) same
 edit_member_by_at Greater f k l d ms c later e = ap (member l d) (later e)
 
-pub edit_member_by : (f : Data → Option Data) (k : List ℕ) (ms : Members) (c : Data) → get_member k ms ≡ Some c → edit_member f k ms ≡ edit_member (λ _. f c) k ms
+pub edit_member_by : (f : Document → Option Document) (k : List ℕ) (ms : Members) (c : Document) → get_member k ms ≡ Some c → edit_member f k ms ≡ edit_member (λ _. f c) k ms
 edit_member_by f k no_members c e = refl
 edit_member_by f k (member l d ms) c e = edit_member_by_at (slice_cmp nat_cmp k l) f k l d ms c (edit_member_by f k ms c) e
 
-pub edit_by : (f : Data → Option Data) (s : Step) (d c : Data) → child s d ≡ Some c → edit f s d ≡ edit (λ _. f c) s d
+pub edit_by : (f : Document → Option Document) (s : Step) (d c : Document) → child s d ≡ Some c → edit f s d ≡ edit (λ _. f c) s d
 edit_by f (name k) (object ms) c e = ap object (edit_member_by f k ms c e)
 edit_by f (index i) (array ds) c e = ap array (edit_item_by f i ds c e)
 edit_by f _ _ c e = refl
 
 -- ---- an edit that answers the child itself changes nothing
 
-edit_item_same : (f : Data → Option Data) (i : ℕ) (ds : Items) → ((c : Data) → get_item i ds ≡ Some c → f c ≡ Some c) → edit_item f i ds ≡ ds
+edit_item_same : (f : Document → Option Document) (i : ℕ) (ds : Items) → ((c : Document) → get_item i ds ≡ Some c → f c ≡ Some c) → edit_item f i ds ≡ ds
 edit_item_same f i no_items h = refl
 edit_item_same f zero (item d ds) h = ap (λ o. item_if o ds) (h d refl)
 edit_item_same f (suc i) (item d ds) h = ap (item d) (edit_item_same f i ds h)
 
-edit_member_same_at : (o : Ordering) (f : Data → Option Data) (k l : List ℕ) (d : Data) (ms : Members)
-    → ((c : Data) → match_ordering o (get_member k ms) (Some d) (get_member k ms) ≡ Some c → f c ≡ Some c)
-    → (((c : Data) → get_member k ms ≡ Some c → f c ≡ Some c) → edit_member f k ms ≡ ms)
+edit_member_same_at : (o : Ordering) (f : Document → Option Document) (k l : List ℕ) (d : Document) (ms : Members)
+    → ((c : Document) → match_ordering o (get_member k ms) (Some d) (get_member k ms) ≡ Some c → f c ≡ Some c)
+    → (((c : Document) → get_member k ms ≡ Some c → f c ≡ Some c) → edit_member f k ms ≡ ms)
     → match_ordering o (member l d (edit_member f k ms)) (member_if l (f d) ms) (member l d (edit_member f k ms)) ≡ member l d ms
 edit_member_same_at Less f k l d ms h later = ap (member l d) (later h)
 edit_member_same_at Equal f k l d ms h later = ap (λ o. member_if l o ms) (h d refl)
 edit_member_same_at Greater f k l d ms h later = ap (member l d) (later h)
 
-pub edit_member_same : (f : Data → Option Data) (k : List ℕ) (ms : Members) → ((c : Data) → get_member k ms ≡ Some c → f c ≡ Some c) → edit_member f k ms ≡ ms
+pub edit_member_same : (f : Document → Option Document) (k : List ℕ) (ms : Members) → ((c : Document) → get_member k ms ≡ Some c → f c ≡ Some c) → edit_member f k ms ≡ ms
 edit_member_same f k no_members h = refl
 edit_member_same f k (member l d ms) h = edit_member_same_at (slice_cmp nat_cmp k l) f k l d ms h (edit_member_same f k ms)
 
-pub edit_same : (f : Data → Option Data) (s : Step) (d : Data) → ((c : Data) → child s d ≡ Some c → f c ≡ Some c) → edit f s d ≡ d
+pub edit_same : (f : Document → Option Document) (s : Step) (d : Document) → ((c : Document) → child s d ≡ Some c → f c ≡ Some c) → edit f s d ≡ d
 edit_same f (name k) (object ms) h = ap object (edit_member_same f k ms h)
 edit_same f (index i) (array ds) h = ap array (edit_item_same f i ds h)
 edit_same f _ _ h = refl
 
-pub edit_back : (s : Step) (d : Data) → edit Some s d ≡ d
+pub edit_back : (s : Step) (d : Document) → edit Some s d ≡ d
 edit_back s d = edit_same Some s d (λ c h. refl)
 
 -- ---- where a location leads nowhere, nothing changes
 
-answer_nowhere : (answer : Option Data) (l : Location) (d : Data) → there l d ≡ None → with_answer_at answer l d ≡ Some d
+answer_nowhere : (answer : Option Document) (l : Location) (d : Document) → there l d ≡ None → with_answer_at answer l d ≡ Some d
 answer_nowhere answer [] d e = cc
 answer_nowhere answer (s ∷ l) d e = ap Some (edit_same (with_answer_at answer l) s d (λ c h. answer_nowhere answer l c (rw h at e)))
 
-pub update_nowhere : (answer : Option Data) (l : Location) (d : Data) → target l d ≡ None → update l answer d ≡ d
+pub update_nowhere : (answer : Option Document) (l : Location) (d : Document) → target l d ≡ None → update l answer d ≡ d
 update_nowhere answer [] d e = refl
 update_nowhere answer (s ∷ l) d e = edit_same (with_answer_at answer l) s d (λ c h. answer_nowhere answer l c (rw h at e))
 
@@ -83,23 +83,23 @@ matched None p q h = p h
 matched (Some d) p q h = q d h
 
 module _ {F : Type 0} (calls : UpdateCalls F) where
-  pub nowhere : (s : Step) (l : Location) (d : Data) (f : F) (after : Data) → child s d ≡ None → after ≡ d → IsUpdate calls (s ∷ l) d f false f after
+  pub nowhere : (s : Step) (l : Location) (d : Document) (f : F) (after : Document) → child s d ≡ None → after ≡ d → IsUpdate calls (s ∷ l) d f false f after
   nowhere s l d f after none same = rw none (refl, refl, same)
 
-  pub answered : (s : Step) (d : Data) (f g : F) (x : Value) (answer : Option Value) (after : Data) → child s d ≡ Some (view x) → Called calls f (x, tt) answer g
-      → after ≡ edit (λ _. option_map view answer) s d → IsUpdate calls (s ∷ []) d f true g after
+  pub answered : (s : Step) (d : Document) (f g : F) (x : Value) (answer : Option Value) (after : Document) → child s d ≡ Some (value_document x) → Called calls f (x, tt) answer g
+      → after ≡ edit (λ _. option_map value_document answer) s d → IsUpdate calls (s ∷ []) d f true g after
   answered s d f g x answer after found h e = rw found (x, answer, refl, refl, h, e)
 
-  pub through : (s t : Step) (l : Location) (before c c' : Data) (f g : F) (asked : Bool) (after : Data) → child s before ≡ Some c
+  pub through : (s t : Step) (l : Location) (before c c' : Document) (f g : F) (asked : Bool) (after : Document) → child s before ≡ Some c
       → after ≡ edit (λ _. Some c') s before
       → IsUpdate calls (t ∷ l) c f asked g c' → IsUpdate calls (s ∷ t ∷ l) before f asked g after
   through s t l before c c' f g asked after found e h =
       let kept : c' ≡ c → after ≡ before = λ same. e ∙ ap (λ x. edit (λ _. Some x) s before) same ∙ sym (edit_by Some s before c found) ∙ edit_back s before in
-      let made = λ (answer : Option Data) (is : c' ≡ update (t ∷ l) answer c). e ∙ ap (λ x. edit (λ _. Some x) s before) is ∙ sym (edit_by (with_answer_at answer (t ∷ l)) s before c found) in
-      rw found (matched (there (t ∷ l) c) (λ p. (p.0, p.1, kept p.2)) (λ d q. (q.0, q.1, q.2, q.3, q.4, made (option_map view q.1) q.5)) h)
+      let made = λ (answer : Option Document) (is : c' ≡ update (t ∷ l) answer c). e ∙ ap (λ x. edit (λ _. Some x) s before) is ∙ sym (edit_by (with_answer_at answer (t ∷ l)) s before c found) in
+      rw found (matched (there (t ∷ l) c) (λ p. (p.0, p.1, kept p.2)) (λ d q. (q.0, q.1, q.2, q.3, q.4, made (option_map value_document q.1) q.5)) h)
 
   -- the same, where the rest of the steps is known to be there
-  pub through_rest : (s : Step) (rest : List LocStep) (before c c' : Data) (f g : F) (asked : Bool) (after : Data) → nat_eq (length rest) 0 ≡ false → child s before ≡ Some c
+  pub through_rest : (s : Step) (rest : List LocStep) (before c c' : Document) (f g : F) (asked : Bool) (after : Document) → nat_eq (length rest) 0 ≡ false → child s before ≡ Some c
       → after ≡ edit (λ _. Some c') s before
       → IsUpdate calls (owned_steps rest) c f asked g c' → IsUpdate calls (s ∷ owned_steps rest) before f asked g after
   through_rest s [] before c c' f g asked after more found e h = absurd (true≢false more)

@@ -1,7 +1,7 @@
 -- Nulling and taking depend on the members of a list of locations alone.
 use Rattle.std.proofs.Common.{◌≡◌, List, [], ◌∷◌, true, Ordering, Equal, is_eq, Some, None, refl, sym, ap, subst, ◌∙◌}
 use Rattle.std.specs.Ordering.{ordering_then}
-use Rattle.serde_json.specs.Data.{null}
+use Rattle.jsonpath_nodes.specs.document.Document.{null}
 use Rattle.jsonpath_nodes.specs.step.SameMembers.{SameMembers}
 use Rattle.jsonpath_nodes.specs.update.Topmost.{is_covered_by}
 use Rattle.jsonpath_nodes.specs.place.Location.{Location, location_cmp}

@@ -5,8 +5,8 @@ use Rattle.std.specs.Prelude.{nat_lt}
 use Rattle.std.proofs.lemmas.List.{length-drop, length-set, drop-drop, drop_more, drop_all, drop-set-lt, take_more_set, take-set-le}
 use Rattle.std.specs.List.{slice_range, SwappedAt}
 use Rattle.std.specs.List.Sorted.{IsStrictlySortedBy}
-use Rattle.serde_json.specs.Data.{Data, Items, no_items, item}
-use Rattle.serde_json.specs.View.{view, items_view}
+use Rattle.jsonpath_nodes.specs.document.Document.{Document, Items, no_items, item}
+use Rattle.jsonpath_nodes.specs.document.OfData.{value_document, items_document}
 use Rattle.serde_json.specs.declared.value.Value.{Value, Null}
 use Rattle.jsonpath_nodes.proofs.update.SetLemmas.{same_itself}
 use Rattle.jsonpath_nodes.specs.place.Location.{Step, index, Location, location_cmp}
@@ -21,33 +21,33 @@ use Rattle.jsonpath_nodes.proofs.update.TopmostLemmas.{piece, same_items, topmos
 -- values before other items
 abbrev pub joined : List Value → Items → Items
 joined [] ds = ds
-joined (v ∷ vs) ds = item (view v) (joined vs ds)
+joined (v ∷ vs) ds = item (value_document v) (joined vs ds)
 
 joined-append : (vs ws : List Value) (ds : Items) → joined (vs ++ ws) ds ≡ joined vs (joined ws ds)
 joined-append [] ws ds = refl
-joined-append (v ∷ vs) ws ds = ap (item (view v)) (joined-append vs ws ds)
+joined-append (v ∷ vs) ws ds = ap (item (value_document v)) (joined-append vs ws ds)
 
-joined-none : (vs : List Value) → joined vs no_items ≡ items_view vs
+joined-none : (vs : List Value) → joined vs no_items ≡ items_document vs
 joined-none [] = refl
-joined-none (v ∷ vs) = ap (item (view v)) (joined-none vs)
+joined-none (v ∷ vs) = ap (item (value_document v)) (joined-none vs)
 
 -- items that no location leads to stay
 stay : (k n : ℕ) (ls : List Location) (vs : List Value) → k ≤ length vs → ((m : ℕ) → n ≤ m → m < n + k → under (index m) ls ≡ [])
-    → items_with_answer None ls n (items_view vs) ≡ joined (take k vs) (items_with_answer None ls (n + k) (items_view (drop k vs)))
-stay zero n ls vs le none = ap (λ (m : ℕ). items_with_answer None ls m (items_view vs)) (let same : n ≡ n + 0 = omega arith in same)
+    → items_with_answer None ls n (items_document vs) ≡ joined (take k vs) (items_with_answer None ls (n + k) (items_document (drop k vs)))
+stay zero n ls vs le none = ap (λ (m : ℕ). items_with_answer None ls m (items_document vs)) (let same : n ≡ n + 0 = omega arith in same)
 stay (suc k) n ls [] le none = absurd (omega arith)
 stay (suc k) n ls (v ∷ vs) le none =
     let here : under (index n) ls ≡ [] = none n (omega arith) (omega arith) in
     let later : n + suc k ≡ suc n + k = omega arith in
-    rw (here, later) (ap (λ (d : Data). item d (items_with_answer None ls (suc n) (items_view vs))) (topmost_none None (view v))
-    ∙ ap (item (view v)) (stay k (suc n) ls vs (omega arith) (λ m lo hi. none m (omega arith) (omega arith))))
+    rw (here, later) (ap (λ (d : Document). item d (items_with_answer None ls (suc n) (items_document vs))) (topmost_none None (value_document v))
+    ∙ ap (item (value_document v)) (stay k (suc n) ls vs (omega arith) (λ m lo hi. none m (omega arith) (omega arith))))
 
 -- locations that lead to the same items
-same_within : (n : ℕ) (ls ms : List Location) (vs : List Value) → ((m : ℕ) → n ≤ m → m < n + length vs → under (index m) ls ≡ under (index m) ms) → items_with_answer None ls n (items_view vs) ≡ items_with_answer None ms n (items_view vs)
+same_within : (n : ℕ) (ls ms : List Location) (vs : List Value) → ((m : ℕ) → n ≤ m → m < n + length vs → under (index m) ls ≡ under (index m) ms) → items_with_answer None ls n (items_document vs) ≡ items_with_answer None ms n (items_document vs)
 same_within n ls ms [] h = refl
 same_within n ls ms (v ∷ vs) h =
-    ap (λ (us : List Location). item_if (piece None us (view v)) (items_with_answer None ls (suc n) (items_view vs))) (h n (omega arith) (omega arith))
-    ∙ ap (λ (ds : Items). item_if (piece None (under (index n) ms) (view v)) ds) (same_within (suc n) ls ms vs (λ m lo hi. h m (omega arith) (omega arith)))
+    ap (λ (us : List Location). item_if (piece None us (value_document v)) (items_with_answer None ls (suc n) (items_document vs))) (h n (omega arith) (omega arith))
+    ∙ ap (λ (ds : Items). item_if (piece None (under (index n) ms) (value_document v)) ds) (same_within (suc n) ls ms vs (λ m lo hi. h m (omega arith) (omega arith)))
 
 -- the first items of xs, kept of them, are what is left of the first items of vs, next of them; the locations rest lead to items behind
 pub record Passes (all : List Location) (vs xs : List Value) (rest : List Location) (kept next : ℕ) : Type 0 where
@@ -55,7 +55,7 @@ pub record Passes (all : List Location) (vs xs : List Value) (rest : List Locati
   pub behind : kept ≤ next
   pub within : next ≤ length xs
   pub none : (m : ℕ) → m < next → under (index m) rest ≡ []
-  pub same : joined (take kept xs) (items_with_answer None rest next (items_view (drop next xs))) ≡ items_with_answer None all 0 (items_view vs)
+  pub same : joined (take kept xs) (items_with_answer None rest next (items_document (drop next xs))) ≡ items_with_answer None all 0 (items_document vs)
 
 -- a location that leads to no item
 passes_skip : (all : List Location) (vs xs : List Value) (l : Location) (rest : List Location) (kept next : ℕ)
@@ -87,7 +87,7 @@ passes_move : (all : List Location) (vs xs ys : List Value) (rest : List Locatio
 passes_move all vs xs ys rest kept next end to ahead fits len count front back none p =
     let behind : kept ≤ next = p.behind in
     let far : next + (to - next) ≡ to = omega arith in
-    let ds = items_with_answer None rest to (items_view (drop to xs)) in
+    let ds = items_with_answer None rest to (items_document (drop to xs)) in
     let left : drop (to - next) (drop next xs) ≡ drop to xs = drop-drop (to - next) next xs ∙ ap (λ (n : ℕ). drop n xs) far in
     record {
       sorted = p.sorted;
@@ -99,8 +99,8 @@ passes_move all vs xs ys rest kept next end to ahead fits len count front back n
           (joined-append (take kept xs) (slice_range xs next to) ds
           ∙ ap (joined (take kept xs))
           (sym (stay (to - next) next rest (drop next xs) (omega (arith, length-drop next xs)) (λ m lo hi. none m (omega arith))
-          ∙ ap (λ (n : ℕ). joined (slice_range xs next to) (items_with_answer None rest n (items_view (drop (to - next) (drop next xs))))) far
-          ∙ ap (λ (ws : List Value). joined (slice_range xs next to) (items_with_answer None rest to (items_view ws))) left))
+          ∙ ap (λ (n : ℕ). joined (slice_range xs next to) (items_with_answer None rest n (items_document (drop (to - next) (drop next xs))))) far
+          ∙ ap (λ (ws : List Value). joined (slice_range xs next to) (items_with_answer None rest to (items_document ws))) left))
           ∙ p.same);
     }
 
@@ -129,10 +129,10 @@ module _ (i : ℕ) (l : Location) (rest : List Location) where
   through_item : under (index i) ((index i ∷ l) ∷ rest) ≡ l ∷ under (index i) rest
   through_item = rw (eq-eqb i i refl) refl
 
-  later_same : (xs : List Value) → items_with_answer None ((index i ∷ l) ∷ rest) (suc i) (items_view xs) ≡ items_with_answer None left_behind (i + 1) (items_view xs)
+  later_same : (xs : List Value) → items_with_answer None ((index i ∷ l) ∷ rest) (suc i) (items_document xs) ≡ items_with_answer None left_behind (i + 1) (items_document xs)
   later_same xs =
       let one : i + 1 ≡ suc i = omega arith in
-      rw one (same_items None ((index i ∷ l) ∷ rest) left_behind (suc i) (items_view xs) (λ m le. sym (others_same m (λ is. omega arith))))
+      rw one (same_items None ((index i ∷ l) ∷ rest) left_behind (suc i) (items_document xs) (λ m le. sym (others_same m (λ is. omega arith))))
 
   same_rest : IsStrictlySortedBy location_cmp ((index i ∷ l) ∷ rest) → IsStrictlySortedBy location_cmp left_behind
   unfolding IsStrictlySortedBy
@@ -145,7 +145,7 @@ passes_take all vs xs i rest kept fits p =
     let v = get_or xs i Null in
     let behind : kept ≤ i = p.behind in
     let here : has_root (under (index i) ((index i ∷ []) ∷ rest)) ≡ true = rw (through_item i [] rest) refl in
-    let ds = items_with_answer None ((index i ∷ []) ∷ rest) (suc i) (items_view (drop (i + 1) xs)) in
+    let ds = items_with_answer None ((index i ∷ []) ∷ rest) (suc i) (items_document (drop (i + 1) xs)) in
     record {
       sorted = same_rest i [] rest p.sorted;
       behind = omega arith;
@@ -154,8 +154,8 @@ passes_take all vs xs i rest kept fits p =
       same =
           ap (joined (take kept xs))
           (sym (later_same i [] rest (drop (i + 1) xs))
-          ∙ ap (λ (b : Bool). item_if (cond b None (Some (with_answer_at_topmost None (under (index i) ((index i ∷ []) ∷ rest)) (view v)))) ds) (sym here)
-          ∙ ap (λ (ws : List Value). items_with_answer None ((index i ∷ []) ∷ rest) i (items_view ws)) (sym (drop_more xs i Null fits)))
+          ∙ ap (λ (b : Bool). item_if (cond b None (Some (with_answer_at_topmost None (under (index i) ((index i ∷ []) ∷ rest)) (value_document v)))) ds) (sym here)
+          ∙ ap (λ (ws : List Value). items_with_answer None ((index i ∷ []) ∷ rest) i (items_document ws)) (sym (drop_more xs i Null fits)))
           ∙ p.same;
     }
 
@@ -168,7 +168,7 @@ front_no_root s l us ms e up =
 
 -- an item that stays, and of which the locations take something away
 passes_keep : (all : List Location) (vs xs ys : List Value) (i : ℕ) (s : Step) (l : Location) (rest : List Location) (kept : ℕ) (w : Value) → i < length xs → SwappedAt xs ys kept i
-    → view w ≡ with_answer_at_topmost None (under (index i) ((index i ∷ s ∷ l) ∷ rest)) (view (get_or xs i Null))
+    → value_document w ≡ with_answer_at_topmost None (under (index i) ((index i ∷ s ∷ l) ∷ rest)) (value_document (get_or xs i Null))
     → Passes all vs xs ((index i ∷ s ∷ l) ∷ rest) kept i → Passes all vs (set ys kept w) (drop (leading (index i) rest) rest) (kept + 1) (i + 1)
 passes_keep all vs xs ys i s l rest kept w fits moved is p =
     let v = get_or xs i Null in
@@ -177,7 +177,7 @@ passes_keep all vs xs ys i s l rest kept w fits moved is p =
     let long : length ys ≡ length xs = rw (moved.3 Null) (length-set (set xs kept v) i (get_or xs kept Null) ∙ length-set xs kept v) in
     let up : IsStrictlySortedBy location_cmp us = sorted_under (index i) ((index i ∷ s ∷ l) ∷ rest) p.sorted in
     let root : has_root us ≡ false = front_no_root s l us (under (index i) rest) (through_item i (s ∷ l) rest) up in
-    let ds = items_with_answer None ((index i ∷ s ∷ l) ∷ rest) (suc i) (items_view (drop (i + 1) xs)) in
+    let ds = items_with_answer None ((index i ∷ s ∷ l) ∷ rest) (suc i) (items_document (drop (i + 1) xs)) in
     let back : drop (i + 1) (set ys kept w) ≡ drop (i + 1) xs = drop-set-lt (i + 1) ys kept w (omega arith) ∙ drop_swapped Null xs ys kept i behind moved in
     let front : take (kept + 1) (set ys kept w) ≡ take kept xs ++ w ∷ [] = take_more_set ys kept w (omega arith) ∙ ap (λ (zs : List Value). zs ++ w ∷ []) (take_kept xs ys kept i behind fits moved) in
     record {
@@ -187,12 +187,12 @@ passes_keep all vs xs ys i s l rest kept w fits moved is p =
       none = none_behind i (s ∷ l) rest p.sorted p.none;
       same =
           rw (front, back)
-          (joined-append (take kept xs) (w ∷ []) (items_with_answer None (drop (leading (index i) rest) rest) (i + 1) (items_view (drop (i + 1) xs)))
+          (joined-append (take kept xs) (w ∷ []) (items_with_answer None (drop (leading (index i) rest) rest) (i + 1) (items_document (drop (i + 1) xs)))
           ∙ ap (joined (take kept xs))
-          (ap (item (view w)) (sym (later_same i (s ∷ l) rest (drop (i + 1) xs)))
-          ∙ ap (λ (d : Data). item d ds) is
-          ∙ ap (λ (b : Bool). item_if (cond b None (Some (with_answer_at_topmost None us (view v)))) ds) (sym root)
-          ∙ ap (λ (zs : List Value). items_with_answer None ((index i ∷ s ∷ l) ∷ rest) i (items_view zs)) (sym (drop_more xs i Null fits))))
+          (ap (item (value_document w)) (sym (later_same i (s ∷ l) rest (drop (i + 1) xs)))
+          ∙ ap (λ (d : Document). item d ds) is
+          ∙ ap (λ (b : Bool). item_if (cond b None (Some (with_answer_at_topmost None us (value_document v)))) ds) (sym root)
+          ∙ ap (λ (zs : List Value). items_with_answer None ((index i ∷ s ∷ l) ∷ rest) i (items_document zs)) (sym (drop_more xs i Null fits))))
           ∙ p.same;
     }
   where
@@ -238,27 +238,27 @@ module _ {depth g : ℕ} {rest others later : List Location} {i : ℕ} {l : Loca
 
     -- it stays, and the locations take something away of it
     pub passes_kept : {here : List Location} {v : Value} (zs : List Value) (w : Value) → here ≡ take g rest → 0 < length l → SwappedAt ys zs end i
-        → view w ≡ with_answer_at_topmost None (beyond (depth + 1) here) (view v) → v ≡ get_or ys i Null → Passes all vs (set zs end w) (beyond depth later) (end + 1) (i + 1)
+        → value_document w ≡ with_answer_at_topmost None (beyond (depth + 1) here) (value_document v) → v ≡ get_or ys i Null → Passes all vs (set zs end w) (beyond depth later) (end + 1) (i + 1)
     passes_kept {here} {v} zs w ahead more moved is was =
         subst (λ (r : List Location). Passes all vs (set zs end w) r (end + 1) (i + 1)) (sym (behind_group f later behind)) (by l more through moved_to)
       where
-        through : view w ≡ with_answer_at_topmost None (under (index i) ((index i ∷ l) ∷ beyond depth others)) (view (get_or ys i Null))
-        through = is ∙ ap (λ (us : List Location). with_answer_at_topmost None us (view v)) (in_group f here ahead p.sorted) ∙ ap (λ (u : Value). with_answer_at_topmost None (under (index i) ((index i ∷ l) ∷ beyond depth others)) (view u)) was
+        through : value_document w ≡ with_answer_at_topmost None (under (index i) ((index i ∷ l) ∷ beyond depth others)) (value_document (get_or ys i Null))
+        through = is ∙ ap (λ (us : List Location). with_answer_at_topmost None us (value_document v)) (in_group f here ahead p.sorted) ∙ ap (λ (u : Value). with_answer_at_topmost None (under (index i) ((index i ∷ l) ∷ beyond depth others)) (value_document u)) was
 
-        by : (m : Location) → 0 < length m → view w ≡ with_answer_at_topmost None (under (index i) ((index i ∷ m) ∷ beyond depth others)) (view (get_or ys i Null))
+        by : (m : Location) → 0 < length m → value_document w ≡ with_answer_at_topmost None (under (index i) ((index i ∷ m) ∷ beyond depth others)) (value_document (get_or ys i Null))
             → Passes all vs ys ((index i ∷ m) ∷ beyond depth others) end i → Passes all vs (set zs end w) (drop (leading (index i) (beyond depth others)) (beyond depth others)) (end + 1) (i + 1)
         by [] h e q = absurd (omega arith)
         by (s ∷ m) h e q = passes_keep all vs ys zs i s m (beyond depth others) end w (omega arith) moved e q
 
 -- the list, when no location is left and every item has been looked at
-passes_done : (all : List Location) (vs xs : List Value) (kept next : ℕ) → length xs ≤ next → Passes all vs xs [] kept next → items_view (take kept xs) ≡ items_with_answer None all 0 (items_view vs)
+passes_done : (all : List Location) (vs xs : List Value) (kept next : ℕ) → length xs ≤ next → Passes all vs xs [] kept next → items_document (take kept xs) ≡ items_with_answer None all 0 (items_document vs)
 passes_done all vs xs kept next over p =
     let none : drop next xs ≡ [] = drop_all next xs over in
-    sym (joined-none (take kept xs)) ∙ ap (λ (ws : List Value). joined (take kept xs) (items_with_answer None [] next (items_view ws))) (sym none) ∙ p.same
+    sym (joined-none (take kept xs)) ∙ ap (λ (ws : List Value). joined (take kept xs) (items_with_answer None [] next (items_document ws))) (sym none) ∙ p.same
 
 -- as the code finds that no location is left
 pub passes_end : (depth : ℕ) (rest : List Location) (ys : List Value) {all : List Location} {vs xs : List Value} {kept next end to : ℕ} → length rest ≡ 0 → to ≡ length xs → length ys ≡ length xs
-    → end ≡ kept + (to - next) → take end ys ≡ take kept xs ++ slice_range xs next to → drop to ys ≡ drop to xs → Passes all vs xs (beyond depth rest) kept next → items_view (take end ys) ≡ items_with_answer None all 0 (items_view vs)
+    → end ≡ kept + (to - next) → take end ys ≡ take kept xs ++ slice_range xs next to → drop to ys ≡ drop to xs → Passes all vs xs (beyond depth rest) kept next → items_document (take end ys) ≡ items_with_answer None all 0 (items_document vs)
 passes_end depth rest ys {all} {vs} {xs} {kept} {next} {end} {to} none whole len count front back q =
     let p : Passes all vs xs [] kept next = subst (λ (r : List Location). Passes all vs xs (beyond depth r) kept next) (no_more rest none) q in
     let within : next ≤ length xs = p.within in

@@ -8,7 +8,7 @@ use Rattle.std.specs.List.{list_any}
 use Rattle.std.specs.BTreeSet.{insert_key}
 use Rattle.std.specs.Cmp.{eq_by_cmp_equiv, nat_cmp_is}
 use Rattle.std.specs.Ordering.{match_ordering, ordering_then}
-use Rattle.serde_json.specs.Data.{Data, array, object, Items, no_items, item, Members, no_members, member}
+use Rattle.jsonpath_nodes.specs.document.Document.{Document, array, object, Items, no_items, item, Members, no_members, member}
 use Rattle.jsonpath_nodes.specs.place.Location.{Step, name, index, Location, step_cmp, location_cmp}
 use Rattle.jsonpath_nodes.specs.place.Order.{location_total, once_in_order, step_total}
 use Rattle.jsonpath_nodes.specs.update.Update.{item_if, member_if}
@@ -115,7 +115,7 @@ cover_elsewhere s ls ms h (r ∷ p) = elsewhere_covers s r p ls ∙ ap (λ x. no
 
 -- ---- what they answer is by what they cover
 
-same_piece : (a : Option Data) (ls ms : List Location) (d : Data) → has_root ls ≡ has_root ms
+same_piece : (a : Option Document) (ls ms : List Location) (d : Document) → has_root ls ≡ has_root ms
     → (has_root ls ≡ false → has_root ms ≡ false → with_answer_at_topmost a ls d ≡ with_answer_at_topmost a ms d) → piece a ls d ≡ piece a ms d
 same_piece a ls ms d root deep = by (has_root ls) (has_root ms) root deep
   where
@@ -127,19 +127,19 @@ same_piece a ls ms d root deep = by (has_root ls) (has_root ms) root deep
     by false false e go = ap Some (go refl refl)
 
 mutual
-  pub topmost_same : (a : Option Data) (ls ms : List Location) (d : Data) → SameCover ls ms → with_answer_at_topmost a ls d ≡ with_answer_at_topmost a ms d
+  pub topmost_same : (a : Option Document) (ls ms : List Location) (d : Document) → SameCover ls ms → with_answer_at_topmost a ls d ≡ with_answer_at_topmost a ms d
   topmost_same a ls ms (array ds) h = ap array (items_same a ls ms 0 ds h)
   topmost_same a ls ms (object es) h = ap object (members_same a ls ms es h)
   topmost_same a ls ms _ h = refl
 
-  items_same : (a : Option Data) (ls ms : List Location) (n : ℕ) (ds : Items) → SameCover ls ms → items_with_answer a ls n ds ≡ items_with_answer a ms n ds
+  items_same : (a : Option Document) (ls ms : List Location) (n : ℕ) (ds : Items) → SameCover ls ms → items_with_answer a ls n ds ≡ items_with_answer a ms n ds
   items_same a ls ms n no_items h = refl
   items_same a ls ms n (item d ds) h =
       ap (λ p. item_if p (items_with_answer a ls (suc n) ds))
       (same_piece a (under (index n) ls) (under (index n) ms) d (cover_root (index n) ls ms h) (λ one two. topmost_same a (under (index n) ls) (under (index n) ms) d (cover_under (index n) ls ms h one two)))
       ∙ ap (λ r. item_if (piece a (under (index n) ms) d) r) (items_same a ls ms (suc n) ds h)
 
-  members_same : (a : Option Data) (ls ms : List Location) (es : Members) → SameCover ls ms → members_with_answer a ls es ≡ members_with_answer a ms es
+  members_same : (a : Option Document) (ls ms : List Location) (es : Members) → SameCover ls ms → members_with_answer a ls es ≡ members_with_answer a ms es
   members_same a ls ms no_members h = refl
   members_same a ls ms (member k d es) h =
       ap (λ p. member_if k p (members_with_answer a (elsewhere (name k) ls) es))

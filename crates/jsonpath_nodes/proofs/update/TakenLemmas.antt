@@ -8,7 +8,7 @@ use Rattle.std.specs.Cmp.Lexicographic.{slice_cmp}
 use Rattle.std.specs.List.{AllByRecursion}
 use Rattle.std.specs.List.Sorted.{IsStrictlySortedBy}
 use Rattle.std.specs.Ordering.{ordering_then, ordering_reverse, MatchOrdering}
-use Rattle.serde_json.specs.Data.{Data, array, object, Items, no_items, item, Members, no_members, member}
+use Rattle.jsonpath_nodes.specs.document.Document.{Document, array, object, Items, no_items, item, Members, no_members, member}
 use Rattle.jsonpath_nodes.specs.place.Location.{Step, name, index, Location, location_cmp}
 use Rattle.jsonpath_nodes.specs.update.Update.{item_if, member_if, edit_item, edit_member, edit, with_answer_at}
 use Rattle.jsonpath_nodes.specs.update.Topmost.{same_step, under, elsewhere, has_root, with_answer_at_topmost, items_with_answer, members_with_answer, taken}
@@ -85,27 +85,27 @@ no_root l ((s ∷ m) ∷ ls) h = no_root l ls h.1
 
 -- ---- one answer at all of them
 
-module _ (a : Option Data) where
+module _ (a : Option Document) where
   -- what stands at the end of the steps, after the later locations
-  abbrev Earlier : List Location → Data → Location → Type 0
+  abbrev Earlier : List Location → Document → Location → Type 0
   Earlier u d l = (t : Step) (m : Location) → l ≡ t ∷ m → with_answer_at_topmost a ((t ∷ m) ∷ u) d ≡ edit (with_answer_at a m) t (with_answer_at_topmost a u d)
 
-  piece_here : (l : Location) (u : List Location) (d : Data) → has_root u ≡ false → Earlier u d l → piece a (l ∷ u) d ≡ with_answer_at a l (with_answer_at_topmost a u d)
+  piece_here : (l : Location) (u : List Location) (d : Document) → has_root u ≡ false → Earlier u d l → piece a (l ∷ u) d ≡ with_answer_at a l (with_answer_at_topmost a u d)
   piece_here [] u d h e = refl
   piece_here (t ∷ l) u d h e = rw h (ap Some (e t l refl))
 
-  item_here : (l : Location) (u : List Location) (d : Data) (ds : Items) → has_root u ≡ false → Earlier u d l
+  item_here : (l : Location) (u : List Location) (d : Document) (ds : Items) → has_root u ≡ false → Earlier u d l
       → item_if (piece a (l ∷ u) d) ds ≡ edit_item (with_answer_at a l) zero (item_if (piece a u d) ds)
   item_here l u d ds h e = ap (λ p. item_if p ds) (piece_here l u d h e) ∙ rw h refl
 
-  member_there : (o : Ordering) (p : Option Data) (f : Data → Option Data) (k q : List ℕ) (ms ns : Members) → slice_cmp nat_cmp k q ≡ o → is_eq o ≡ false
+  member_there : (o : Ordering) (p : Option Document) (f : Document → Option Document) (k q : List ℕ) (ms ns : Members) → slice_cmp nat_cmp k q ≡ o → is_eq o ≡ false
       → ns ≡ edit_member f k ms → member_if q p ns ≡ edit_member f k (member_if q p ms)
   member_there o None f k q ms ns e other later = later
   member_there Less (Some d) f k q ms ns e other later = rw e (ap (member q d) later)
   member_there Equal (Some d) f k q ms ns e other later = absurd (cc)
   member_there Greater (Some d) f k q ms ns e other later = rw e (ap (member q d) later)
 
-  member_at : (o : Ordering) (k q : List ℕ) (l : Location) (ls : List Location) (d : Data) (ms : Members) → slice_cmp nat_cmp k q ≡ o → Before (name k ∷ l) ls
+  member_at : (o : Ordering) (k q : List ℕ) (l : Location) (ls : List Location) (d : Document) (ms : Members) → slice_cmp nat_cmp k q ≡ o → Before (name k ∷ l) ls
       → ((t : Step) (m : Location) → Before (t ∷ m) (under (name q) ls) → with_answer_at_topmost a ((t ∷ m) ∷ under (name q) ls) d ≡ edit (with_answer_at a m) t (with_answer_at_topmost a (under (name q) ls) d))
       → members_with_answer a ((name k ∷ l) ∷ elsewhere (name q) ls) ms ≡ edit_member (with_answer_at a l) k (members_with_answer a (elsewhere (name q) ls) ms)
       → member_if q (piece a (cond (is_eq o) (l ∷ under (name q) ls) (under (name q) ls)) d) (members_with_answer a (cond (is_eq o) (elsewhere (name q) ls) ((name k ∷ l) ∷ elsewhere (name q) ls)) ms)
@@ -119,7 +119,7 @@ module _ (a : Option Data) where
 
   mutual
     -- a location more, before the others, is answered last
-    pub topmost_first : (t : Step) (l : Location) (ls : List Location) (d : Data) → Before (t ∷ l) ls
+    pub topmost_first : (t : Step) (l : Location) (ls : List Location) (d : Document) → Before (t ∷ l) ls
         → with_answer_at_topmost a ((t ∷ l) ∷ ls) d ≡ edit (with_answer_at a l) t (with_answer_at_topmost a ls d)
     topmost_first (name k) l ls (array ds) h = ap array (same_items a ((name k ∷ l) ∷ ls) ls 0 ds (λ m le. refl))
     topmost_first (name k) l ls (object ms) h = ap object (members_first k l ls ms h)
@@ -149,12 +149,12 @@ module _ (a : Option Data) where
         member_at (slice_cmp nat_cmp k q) k q l ls d ms refl h (λ t m b. topmost_first t m (under (name q) ls) d b) (members_first k l (elsewhere (name q) ls) ms (elsewhere_before (name q) (name k ∷ l) ls h))
 
   -- from the last location back to the first, each once and in document order
-  pub each_back : (ls : List Location) (d : Data) → IsStrictlySortedBy location_cmp ls → update_each_back a ls d ≡ with_answer_at_topmost a ls d
+  pub each_back : (ls : List Location) (d : Document) → IsStrictlySortedBy location_cmp ls → update_each_back a ls d ≡ with_answer_at_topmost a ls d
   unfolding IsStrictlySortedBy
   each_back [] d h = sym (topmost_none a d)
   each_back ([] ∷ ls) d h = each_back ls d h.1 ∙ sym (topmost_root a ls d)
   each_back ((s ∷ l) ∷ ls) d h = ap (edit (with_answer_at a l) s) (each_back ls d h.1) ∙ sym (topmost_first s l ls d h.0)
 
 -- taking away
-pub each_taken : (ls : List Location) (d : Data) → IsStrictlySortedBy location_cmp ls → update_each_back None ls d ≡ taken ls d
+pub each_taken : (ls : List Location) (d : Document) → IsStrictlySortedBy location_cmp ls → update_each_back None ls d ≡ taken ls d
 each_taken ls d h = each_back None ls d h

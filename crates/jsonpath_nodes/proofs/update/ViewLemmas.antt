@@ -5,18 +5,18 @@ use Rattle.std.specs.Cmp.Lexicographic.{slice_cmp}
 use Rattle.std.specs.List.{remove}
 use Rattle.std.specs.Map.{remove_entry, set_value}
 use Rattle.std.specs.Ordering.{match_ordering}
-use Rattle.serde_json.specs.Data.{Members, member}
-use Rattle.serde_json.specs.View.{view, items_view, members_view}
+use Rattle.jsonpath_nodes.specs.document.Document.{Members, member}
+use Rattle.jsonpath_nodes.specs.document.OfData.{value_document, items_document, members_document}
 use Rattle.serde_json.specs.declared.value.Value.{Value}
 use Rattle.serde_json.proofs.Views.{Entry}
 use Rattle.jsonpath_nodes.specs.update.Update.{edit_item, edit_member}
 
-pub items_view-set : (vs : List Value) (i : ℕ) (w : Value) → items_view (slice_set vs i w) ≡ edit_item (λ _. Some (view w)) i (items_view vs)
+pub items_view-set : (vs : List Value) (i : ℕ) (w : Value) → items_document (slice_set vs i w) ≡ edit_item (λ _. Some (value_document w)) i (items_document vs)
 items_view-set [] i w = refl
 items_view-set (v ∷ vs) zero w = refl
 items_view-set (v ∷ vs) (suc i) w = rw (items_view-set vs i w)
 
-pub items_view-remove : (vs : List Value) (i : ℕ) → items_view (remove vs i) ≡ edit_item (λ _. None) i (items_view vs)
+pub items_view-remove : (vs : List Value) (i : ℕ) → items_document (remove vs i) ≡ edit_item (λ _. None) i (items_document vs)
 items_view-remove [] zero = refl
 items_view-remove [] (suc i) = refl
 items_view-remove (v ∷ vs) zero = refl
@@ -37,23 +37,23 @@ remove_set (x ∷ vs) (suc i) v = ap (λ ys. x ∷ ys) (remove_set vs i v)
 abbrev pub named : List ℕ → String Global → Ordering
 named k = λ q. slice_cmp nat_cmp k (string_bytes q)
 
-members_view-set_value_at : (o : Ordering) (e : Entry) (es fs : List Entry) (w : Value) (ms : Members) → members_view fs ≡ ms
-    → members_view (cond (is_eq o) ((e.0, w) ∷ es) (e ∷ fs)) ≡ match_ordering o (member (string_bytes e.0) (view e.1) ms) (member (string_bytes e.0) (view w) (members_view es)) (member (string_bytes e.0) (view e.1) ms)
-members_view-set_value_at Less e es fs w ms h = ap (member (string_bytes e.0) (view e.1)) h
+members_view-set_value_at : (o : Ordering) (e : Entry) (es fs : List Entry) (w : Value) (ms : Members) → members_document fs ≡ ms
+    → members_document (cond (is_eq o) ((e.0, w) ∷ es) (e ∷ fs)) ≡ match_ordering o (member (string_bytes e.0) (value_document e.1) ms) (member (string_bytes e.0) (value_document w) (members_document es)) (member (string_bytes e.0) (value_document e.1) ms)
+members_view-set_value_at Less e es fs w ms h = ap (member (string_bytes e.0) (value_document e.1)) h
 members_view-set_value_at Equal e es fs w ms h = refl
-members_view-set_value_at Greater e es fs w ms h = ap (member (string_bytes e.0) (view e.1)) h
+members_view-set_value_at Greater e es fs w ms h = ap (member (string_bytes e.0) (value_document e.1)) h
 
-pub members_view-set_value : (k : List ℕ) (es : List Entry) (w : Value) → members_view (set_value (is_at (named k)) es w) ≡ edit_member (λ _. Some (view w)) k (members_view es)
+pub members_view-set_value : (k : List ℕ) (es : List Entry) (w : Value) → members_document (set_value (is_at (named k)) es w) ≡ edit_member (λ _. Some (value_document w)) k (members_document es)
 members_view-set_value k [] w = refl
 members_view-set_value k (e ∷ es) w = members_view-set_value_at (named k e.0) e es _ w _ (members_view-set_value k es w)
 
-members_view-remove_entry_at : (o : Ordering) (e : Entry) (es fs : List Entry) (ms : Members) → members_view fs ≡ ms
-    → members_view (cond (is_eq o) es (e ∷ fs)) ≡ match_ordering o (member (string_bytes e.0) (view e.1) ms) (members_view es) (member (string_bytes e.0) (view e.1) ms)
-members_view-remove_entry_at Less e es fs ms h = ap (member (string_bytes e.0) (view e.1)) h
+members_view-remove_entry_at : (o : Ordering) (e : Entry) (es fs : List Entry) (ms : Members) → members_document fs ≡ ms
+    → members_document (cond (is_eq o) es (e ∷ fs)) ≡ match_ordering o (member (string_bytes e.0) (value_document e.1) ms) (members_document es) (member (string_bytes e.0) (value_document e.1) ms)
+members_view-remove_entry_at Less e es fs ms h = ap (member (string_bytes e.0) (value_document e.1)) h
 members_view-remove_entry_at Equal e es fs ms h = refl
-members_view-remove_entry_at Greater e es fs ms h = ap (member (string_bytes e.0) (view e.1)) h
+members_view-remove_entry_at Greater e es fs ms h = ap (member (string_bytes e.0) (value_document e.1)) h
 
-pub members_view-remove_entry : (k : List ℕ) (es : List Entry) → members_view (remove_entry (is_at (named k)) es) ≡ edit_member (λ _. None) k (members_view es)
+pub members_view-remove_entry : (k : List ℕ) (es : List Entry) → members_document (remove_entry (is_at (named k)) es) ≡ edit_member (λ _. None) k (members_document es)
 members_view-remove_entry k [] = refl
 members_view-remove_entry k (e ∷ es) = members_view-remove_entry_at (named k e.0) e es _ _ (members_view-remove_entry k es)
 

@@ -1,8 +1,8 @@
 -- A spot is seen as a location with the value there. What it means that spots stand at locations of a document.
 use Rattle.std.specs.Prelude.{◌≡◌, ℕ, ◌+◌, ◌-◌, ◌^◌, List, [], ◌∷◌, ◌++◌, length, drop, take, map, Option, Some, Result, MatchResult, string_bytes}
 use Rattle.std.specs.List.{slice_get}
-use Rattle.serde_json.specs.Data.{Data}
-use Rattle.serde_json.specs.View.{view}
+use Rattle.jsonpath_nodes.specs.document.Document.{Document}
+use Rattle.jsonpath_nodes.specs.document.OfData.{value_document}
 use Rattle.jsonpath_nodes.specs.place.Location.{Step, name, index, Location, at}
 use Rattle.jsonpath_nodes.specs.declared.place.spot.PathStep.{PathStep}
 use Rattle.jsonpath_nodes.specs.declared.place.spot.PathStep.TheVariants.{Name, Index}
@@ -51,8 +51,8 @@ path_location (path_to.Item t i) = location_at t.now.value ++ index i ∷ []
 abbrev pub location_of : Spot → Location
 location_of s = location_at s.trail
 
-abbrev pub value_of : Spot → Data
-value_of s = view s.value.now
+abbrev pub value_of : Spot → Document
+value_of s = value_document s.value.now
 
 -- the location that a view of a spot's steps shows
 abbrev pub steps_of : Steps → Location
@@ -69,30 +69,30 @@ IsStepAt l i found = MatchResult found (λ s. slice_get l i ≡ Some (step_of s)
 -- ---- in a document
 
 -- a location with the value that the document has there
-abbrev pub look : Data → Location → Location × Option Data
+abbrev pub look : Document → Location → Location × Option Document
 look doc l = (l, at doc l)
 
 -- a spot's location with its value
-abbrev pub sight_of : Spot → Location × Option Data
+abbrev pub sight_of : Spot → Location × Option Document
 sight_of s = (location_of s, Some (value_of s))
 
 -- the spots stand at these locations of the document, in this order, and hold what it has there
-abbrev pub StandAt : Data → List Location → List Spot → Type 0
+abbrev pub StandAt : Document → List Location → List Spot → Type 0
 StandAt doc ls spots = map sight_of spots ≡ map (look doc) ls
 
 -- a spot stands at this location of the document, and holds what it has there
-abbrev pub StandsAt : Data → Location → Spot → Type 0
+abbrev pub StandsAt : Document → Location → Spot → Type 0
 StandsAt doc l s = sight_of s ≡ look doc l
 
 -- wherever the first spots stand in the document, the found ones stand where f leads from there
-abbrev pub LeadsIn : Data → (List Location → List Location) → List Spot → List Spot → Type 0
+abbrev pub LeadsIn : Document → (List Location → List Location) → List Spot → List Spot → Type 0
 LeadsIn doc f spots found = (ls : List Location) → StandAt doc ls spots → StandAt doc (f ls) found
 
 -- wherever the first spots stand in a document, whichever it is, the found ones stand where f leads from there
-abbrev pub LeadsBy : (Data → List Location → List Location) → List Spot → List Spot → Type 0
-LeadsBy f spots found = (doc : Data) → LeadsIn doc (f doc) spots found
+abbrev pub LeadsBy : (Document → List Location → List Location) → List Spot → List Spot → Type 0
+LeadsBy f spots found = (doc : Document) → LeadsIn doc (f doc) spots found
 
 -- ---- from one spot on, with no document
 
-abbrev pub look_from : Location → Data → Location → Location × Option Data
+abbrev pub look_from : Location → Document → Location → Location × Option Document
 look_from l d m = (l ++ m, at d m)

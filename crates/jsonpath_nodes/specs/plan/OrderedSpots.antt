@@ -1,7 +1,7 @@
 -- Spots beside the steps to them.
 use Rattle.std.specs.Prelude.{◌≡◌, List, map, reverse, Option, Some, None, option_map, Bool, true}
 use Rattle.std.specs.Ordering.{is_lt}
-use Rattle.serde_json.specs.Data.{Data}
+use Rattle.jsonpath_nodes.specs.document.Document.{Document}
 use Rattle.jsonpath_nodes.specs.place.Location.{Location, location_cmp}
 use Rattle.jsonpath_nodes.specs.place.SpotPlace.{look, sight_of, step_of}
 use Rattle.jsonpath_nodes.specs.declared.place.document_order.OrderedSpot.{OrderedSpot}
@@ -15,11 +15,11 @@ from_top up = reverse (map step_of up)
 abbrev pub ordered_spot_location : OrderedSpot → Location
 ordered_spot_location p = from_top p.up.items
 
-abbrev pub ordered_spot_sight : OrderedSpot → Location × Option Data
+abbrev pub ordered_spot_sight : OrderedSpot → Location × Option Document
 ordered_spot_sight p = sight_of p.spot
 
 -- what is held is what the document has at the location
-abbrev pub IsShownIn : Data → OrderedSpot → Type 0
+abbrev pub IsShownIn : Document → OrderedSpot → Type 0
 IsShownIn doc p = ordered_spot_sight p ≡ look doc (ordered_spot_location p)
 
 -- the location whose steps are held, if there are any

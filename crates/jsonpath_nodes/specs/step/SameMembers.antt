@@ -1,9 +1,9 @@
 -- Lists of locations by which locations are among them: neither their order nor repeats count.
 use Rattle.std.specs.Prelude.{◌≡◌, ◌↔◌, Contains, List, [], ◌∷◌, ◌++◌, filter, if◌then◌else◌, Bool, false, Option, Some, None}
 use Rattle.std.specs.List.{list_any}
-use Rattle.serde_json.specs.Data.{Data}
+use Rattle.jsonpath_nodes.specs.document.Document.{Document}
 use Rattle.jsonpath_nodes.specs.place.Location.{Location}
-use Rattle.jsonpath_nodes.specs.place.Order.{IsDocument, once_in_order}
+use Rattle.jsonpath_nodes.specs.place.Order.{IsOrderedDocument, once_in_order}
 use Rattle.jsonpath_nodes.specs.step.Steps.{Plain, step, all_below, each_once, flattened}
 use Rattle.jsonpath_nodes.specs.update.Topmost.{begins_with}
 
@@ -14,13 +14,13 @@ SameMembers ls ms = (l : Location) → Contains ls l ↔ Contains ms l
 -- ---- the steps on a set
 
 abbrev pub StepOfASet : Type 0
-StepOfASet = (doc : Data) (p : Plain) (ls ms : List Location) → SameMembers ls ms → SameMembers (step doc p ls) (step doc p ms)
+StepOfASet = (doc : Document) (p : Plain) (ls ms : List Location) → SameMembers ls ms → SameMembers (step doc p ls) (step doc p ms)
 
 abbrev pub BelowOfASet : Type 0
-BelowOfASet = (doc : Data) (ls ms : List Location) → SameMembers ls ms → SameMembers (all_below doc ls) (all_below doc ms)
+BelowOfASet = (doc : Document) (ls ms : List Location) → SameMembers ls ms → SameMembers (all_below doc ls) (all_below doc ms)
 
 abbrev pub CandidatesOfASet : Type 0
-CandidatesOfASet = (doc : Data) (ls ms : List Location) → SameMembers ls ms → SameMembers (flattened doc ls) (flattened doc ms)
+CandidatesOfASet = (doc : Document) (ls ms : List Location) → SameMembers ls ms → SameMembers (flattened doc ls) (flattened doc ms)
 
 -- what passes a test, and whether some location does
 abbrev pub KeptOfASet : Type 0
@@ -59,7 +59,7 @@ topmost = topmost_after None
 
 -- a descent from some locations finds what a descent from the topmost of them finds
 abbrev pub BelowOfTheTopmost : Type 0
-BelowOfTheTopmost = (doc : Data) (ls : List Location) → IsDocument doc → SameMembers (all_below doc (topmost ls)) (all_below doc ls)
+BelowOfTheTopmost = (doc : Document) (ls : List Location) → IsOrderedDocument doc → SameMembers (all_below doc (topmost ls)) (all_below doc ls)
 
 abbrev pub DescentOfTheTopmost : Type 0
-DescentOfTheTopmost = (doc : Data) (p : Plain) (ls : List Location) → IsDocument doc → SameMembers (step doc p (all_below doc (topmost ls))) (step doc p (all_below doc ls))
+DescentOfTheTopmost = (doc : Document) (p : Plain) (ls : List Location) → IsOrderedDocument doc → SameMembers (step doc p (all_below doc (topmost ls))) (step doc p (all_below doc ls))

@@ -5,9 +5,9 @@ use Rattle.std.specs.Int.Signed.{◌≤ℤ◌}
 use Rattle.std.specs.List.{AllByRecursion, IsDistinct}
 use Rattle.std.specs.List.Sorted.{IsStrictlySortedBy}
 use Rattle.std.specs.Ordering.{eq_by_cmp, int_cmp, nat_cmp}
-use Rattle.serde_json.specs.Data.{Data, object}
+use Rattle.jsonpath_nodes.specs.document.Document.{Document, object}
 use Rattle.jsonpath_nodes.specs.place.Location.{name, index, Location, at, is_same, flat, names, step_cmp}
-use Rattle.jsonpath_nodes.specs.place.Order.{IsDocument}
+use Rattle.jsonpath_nodes.specs.place.Order.{IsOrderedDocument}
 use Rattle.jsonpath_nodes.specs.step.Steps.{Plain, every, named, listed, nth, union, range, from_each, step, all_below, flattened}
 use Rattle.jsonpath_nodes.specs.update.Apart.{apart}
 use Rattle.jsonpath_nodes.specs.update.Topmost.{same_step}
@@ -63,13 +63,13 @@ goes_by_names (listed ks) = true
 goes_by_names _ = false
 
 -- if the value is an object, its names ascend strictly
-abbrev pub HasNamesInOrder : Data → Type 0
+abbrev pub HasNamesInOrder : Document → Type 0
 HasNamesInOrder (object ms) = IsStrictlySortedBy step_cmp (names ms)
 HasNamesInOrder _ = Unit {0}
 
 -- so it is with each value that the document has at the locations
-abbrev pub NamesInOrderAt : Data → List Location → Type 0
-NamesInOrderAt doc ls = AllByRecursion (λ l. (d : Data) → at doc l ≡ Some d → HasNamesInOrder d) ls
+abbrev pub NamesInOrderAt : Document → List Location → Type 0
+NamesInOrderAt doc ls = AllByRecursion (λ l. (d : Document) → at doc l ≡ Some d → HasNamesInOrder d) ls
 
 -- the locations have n steps each
 abbrev pub HaveSteps : ℕ → List Location → Type 0
@@ -79,7 +79,7 @@ HaveSteps n ls = AllByRecursion (λ l. length l ≡ n) ls
 
 -- the candidates of a list that is apart hold no repeat
 abbrev pub ApartHasNoRepeatFlat : Type 0
-ApartHasNoRepeatFlat = (doc : Data) (ls : List Location) → IsApart ls → flattened doc ls ≡ from_each doc flat ls
+ApartHasNoRepeatFlat = (doc : Document) (ls : List Location) → IsApart ls → flattened doc ls ≡ from_each doc flat ls
 
 -- one location alone is apart
 abbrev pub OneIsApart : Type 0
@@ -91,21 +91,21 @@ ApartHasNoRepeat = (ls : List Location) → IsApart ls → HasNoRepeat ls
 
 -- a name leads from a list without repeats to one that is apart
 abbrev pub NamesStandApart : Type 0
-NamesStandApart = (doc : Data) (k : List ℕ) (ls : List Location) → HasNoRepeat ls → IsApart (step doc (named k) ls)
+NamesStandApart = (doc : Document) (k : List ℕ) (ls : List Location) → HasNoRepeat ls → IsApart (step doc (named k) ls)
 
 -- so does a list of names, no two of which are the same
 abbrev pub ListsStandApart : Type 0
-ListsStandApart = (doc : Data) (p : Plain) (ls : List Location) → goes_by_names p ≡ true → SelectsNoneTwice p → HasNoRepeat ls → IsApart (step doc p ls)
+ListsStandApart = (doc : Document) (p : Plain) (ls : List Location) → goes_by_names p ≡ true → SelectsNoneTwice p → HasNoRepeat ls → IsApart (step doc p ls)
 
 -- each step but `*` that selects no child twice leads from a list that is apart to one that is: an index and a range do
 abbrev pub StepStandsApart : Type 0
-StepStandsApart = (doc : Data) (p : Plain) (ls : List Location) → is_every p ≡ false → SelectsNoneTwice p → IsApart ls → IsApart (step doc p ls)
+StepStandsApart = (doc : Document) (p : Plain) (ls : List Location) → is_every p ≡ false → SelectsNoneTwice p → IsApart ls → IsApart (step doc p ls)
 
 abbrev pub IndexStandsApart : Type 0
-IndexStandsApart = (doc : Data) (n : ℤ) (ls : List Location) → IsApart ls → IsApart (step doc (nth n) ls)
+IndexStandsApart = (doc : Document) (n : ℤ) (ls : List Location) → IsApart ls → IsApart (step doc (nth n) ls)
 
 abbrev pub RangeStandsApart : Type 0
-RangeStandsApart = (doc : Data) (from to : Option ℤ) (by : Option ℕ) (ls : List Location) → IsApart ls → IsApart (step doc (range from to by) ls)
+RangeStandsApart = (doc : Document) (from to : Option ℤ) (by : Option ℕ) (ls : List Location) → IsApart ls → IsApart (step doc (range from to by) ls)
 
 -- what a filter keeps of a list that is apart is apart
 abbrev pub KeptStandApart : Type 0
@@ -113,19 +113,19 @@ KeptStandApart = (test : Location → Bool) (ls : List Location) → IsApart ls 
 
 -- candidates are apart
 abbrev pub CandidatesStandApart : Type 0
-CandidatesStandApart = (doc : Data) (ls : List Location) → IsApart (flattened doc ls)
+CandidatesStandApart = (doc : Document) (ls : List Location) → IsApart (flattened doc ls)
 
 -- a step that selects no child twice leads from a list without repeats to one without
 abbrev pub StepHasNoRepeat : Type 0
-StepHasNoRepeat = (doc : Data) (p : Plain) (ls : List Location) → IsDocument doc → SelectsNoneTwice p → HasNoRepeat ls → HasNoRepeat (step doc p ls)
+StepHasNoRepeat = (doc : Document) (p : Plain) (ls : List Location) → IsOrderedDocument doc → SelectsNoneTwice p → HasNoRepeat ls → HasNoRepeat (step doc p ls)
 
 -- `*` does where the names ascend at each of the locations, be the rest of the document as it may
 abbrev pub EveryHasNoRepeat : Type 0
-EveryHasNoRepeat = (doc : Data) (ls : List Location) → NamesInOrderAt doc ls → HasNoRepeat ls → HasNoRepeat (step doc every ls)
+EveryHasNoRepeat = (doc : Document) (ls : List Location) → NamesInOrderAt doc ls → HasNoRepeat ls → HasNoRepeat (step doc every ls)
 
 -- each other step does whatever is known of the document
 abbrev pub ChildHasNoRepeat : Type 0
-ChildHasNoRepeat = (doc : Data) (p : Plain) (ls : List Location) → is_every p ≡ false → SelectsNoneTwice p → HasNoRepeat ls → HasNoRepeat (step doc p ls)
+ChildHasNoRepeat = (doc : Document) (p : Plain) (ls : List Location) → is_every p ≡ false → SelectsNoneTwice p → HasNoRepeat ls → HasNoRepeat (step doc p ls)
 
 -- what a filter keeps of a list without repeats has none
 abbrev pub KeptHasNoRepeat : Type 0
@@ -133,11 +133,11 @@ KeptHasNoRepeat = (test : Location → Bool) (ls : List Location) → HasNoRepea
 
 -- what lies at or below one location of a document holds no repeat
 abbrev pub BelowHasNoRepeat : Type 0
-BelowHasNoRepeat = (doc : Data) (l : Location) → IsDocument doc → HasNoRepeat (all_below doc (l ∷ []))
+BelowHasNoRepeat = (doc : Document) (l : Location) → IsOrderedDocument doc → HasNoRepeat (all_below doc (l ∷ []))
 
 -- `..` before a name leads from one location of a document to a list that is apart
 abbrev pub DescentStandsApart : Type 0
-DescentStandsApart = (doc : Data) (k : List ℕ) (l : Location) → IsDocument doc → IsApart (step doc (named k) (all_below doc (l ∷ [])))
+DescentStandsApart = (doc : Document) (k : List ℕ) (l : Location) → IsOrderedDocument doc → IsApart (step doc (named k) (all_below doc (l ∷ [])))
 
 -- locations with as many steps each, without repeats, are disjoint
 abbrev pub LevelIsDisjoint : Type 0
@@ -149,7 +149,7 @@ DisjointStandsApart = (ls : List Location) → IsDisjoint ls → IsApart ls
 
 -- a step that selects no child twice leads from disjoint locations to such; `*` where the names ascend at each of them
 abbrev pub StepStaysDisjoint : Type 0
-StepStaysDisjoint = (doc : Data) (p : Plain) (ls : List Location) → SelectsNoneTwice p → (is_every p ≡ true → NamesInOrderAt doc ls) → IsDisjoint ls → IsDisjoint (step doc p ls)
+StepStaysDisjoint = (doc : Document) (p : Plain) (ls : List Location) → SelectsNoneTwice p → (is_every p ≡ true → NamesInOrderAt doc ls) → IsDisjoint ls → IsDisjoint (step doc p ls)
 
 -- what a filter keeps of them is disjoint
 abbrev pub KeptStayDisjoint : Type 0
@@ -157,8 +157,8 @@ KeptStayDisjoint = (test : Location → Bool) (ls : List Location) → IsDisjoin
 
 -- their candidates are
 abbrev pub CandidatesStayDisjoint : Type 0
-CandidatesStayDisjoint = (doc : Data) (ls : List Location) → IsDisjoint ls → IsDisjoint (flattened doc ls)
+CandidatesStayDisjoint = (doc : Document) (ls : List Location) → IsDisjoint ls → IsDisjoint (flattened doc ls)
 
 -- what lies at or below them in a document has no repeat
 abbrev pub BelowDisjointHasNoRepeat : Type 0
-BelowDisjointHasNoRepeat = (doc : Data) (ls : List Location) → IsDocument doc → IsDisjoint ls → HasNoRepeat (all_below doc ls)
+BelowDisjointHasNoRepeat = (doc : Document) (ls : List Location) → IsOrderedDocument doc → IsDisjoint ls → HasNoRepeat (all_below doc ls)

@@ -1,7 +1,7 @@
 -- Plain steps one after the other, each also on all below or not.
 use Rattle.std.specs.Prelude.{ℕ, List, [], ◌∷◌, map, if◌then◌else◌}
 use Rattle.std.specs.Cow.{cow_str_bytes}
-use Rattle.serde_json.specs.Data.{Data}
+use Rattle.jsonpath_nodes.specs.document.Document.{Document}
 use Rattle.jsonpath_nodes.specs.place.Location.{Location}
 use Rattle.jsonpath_nodes.specs.step.Steps.{Plain, every, named, listed, nth, union, range, step, all_below}
 use Rattle.jsonpath_nodes.specs.declared.step.stride.Selection.{Selection}
@@ -27,6 +27,6 @@ names_in (Union ns) = []
 names_in (Range from to step) = []
 
 -- where strides lead from a list of locations, each from where those before it have led
-abbrev pub led_along : List Stride → Data → List Location → List Location
+abbrev pub led_along : List Stride → Document → List Location → List Location
 led_along [] doc ls = ls
 led_along (s ∷ ss) doc ls = led_along ss doc (step doc (plain_in s.selection) (if s.leaves then all_below doc ls else ls))

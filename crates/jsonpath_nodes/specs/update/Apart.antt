@@ -1,7 +1,7 @@
 -- Locations that lie beside one another.
 use Rattle.std.specs.Prelude.{◌≡◌, ⊤, List, [], ◌∷◌, Bool, true, false, not, ◌||◌, Some, IsSome, MatchOption}
 use Rattle.std.specs.List.{AllByRecursion}
-use Rattle.serde_json.specs.Data.{Data}
+use Rattle.jsonpath_nodes.specs.document.Document.{Document}
 use Rattle.jsonpath_nodes.specs.place.Location.{Location, at}
 use Rattle.jsonpath_nodes.specs.update.Run.{Asked}
 use Rattle.jsonpath_nodes.specs.update.Update.{target}
@@ -24,11 +24,11 @@ AllApart [] = ⊤
 AllApart (l ∷ ls) = AllByRecursion (λ m. (apart_below_root l m ≡ true) × (apart_below_root m l ≡ true)) ls × AllApart ls
 
 -- each answer stands at its location; what was asked tells what stood there before, and the answer
-abbrev pub IsPlaced : List Location → Data → List Asked → Data → Type 0
+abbrev pub IsPlaced : List Location → Document → List Asked → Document → Type 0
 IsPlaced [] before asked after = asked ≡ []
 IsPlaced (l ∷ ls) before asked after =
     MatchOption (target l before) (IsPlaced ls before asked after)
-    (λ d. (answer : Data) × (more : List Asked) × (asked ≡ (d, Some answer) ∷ more) × (at after l ≡ Some answer) × IsPlaced ls before more after)
+    (λ d. (answer : Document) × (more : List Asked) × (asked ≡ (d, Some answer) ∷ more) × (at after l ≡ Some answer) × IsPlaced ls before more after)
 
 -- no answer of a run takes anything away
 abbrev pub NothingTakenAway : List Asked → Type 0

@@ -2,6 +2,7 @@
 
 ghost use Rattle.std.specs.Prelude.{◌≡◌, option_map};
 ghost use Rattle.serde_json.specs.View.{view, number_view};
+ghost use Rattle.jsonpath_nodes.specs.document.OfData.{document_of};
 ghost use Rattle.jsonpath_paths.specs.Numbers.{decimal_units};
 ghost use Rattle.jsonpath_nodes.specs.compare.Comparisons.{units_of, seen};
 ghost use Rattle.jsonpath_nodes.specs.compare.Atoms.{seen_by};
@@ -58,7 +59,7 @@ impl<'a> Atom<'a> {
     /// assert!(rt; matches!(Atom::of(&Value::Null), Atom::Null));
     /// ```
     pub fn of(value: &'a Value) -> Atom<'a>
-        ensures { seen_by result ≡ seen (view value.now) }
+        ensures { seen_by result ≡ seen (document_of (view value.now)) }
     {
         match value {
             Value::Null => Atom::Null,

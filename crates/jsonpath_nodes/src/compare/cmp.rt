@@ -2,6 +2,7 @@
 
 ghost use Rattle.std.specs.Prelude.{◌≡◌, Some, IsSome};
 ghost use Rattle.serde_json.specs.View.{view};
+ghost use Rattle.jsonpath_nodes.specs.document.OfData.{document_of};
 ghost use Rattle.jsonpath_paths.specs.Numbers.{decimal_units};
 ghost use Rattle.jsonpath_nodes.specs.compare.Atoms.{seen_by, comparison_of};
 ghost use Rattle.jsonpath_nodes.specs.compare.Comparisons.{Comparison, equal, not_equal, less, less_or_equal, greater, greater_or_equal, truth, decimal, text, seen, pair, is_satisfied, is_not_equal};
@@ -193,6 +194,7 @@ fn is_satisfied_by_order(op: FilterToken, order: Ordering) -> bool
 /// ```text
 /// assert!(rt; holds_atoms(FilterToken::Equal, &Atom::Null, &Atom::Null));
 /// ```
+#[tactic(auto, using(crate::specs::compare::Fractions::units_cmp))]
 #[inline]
 pub fn holds_atoms(op: FilterToken, left: &Atom<'_>, right: &Atom<'_>) -> bool
     requires { IsSome (comparison_of op) }
@@ -216,7 +218,7 @@ pub fn holds_atoms(op: FilterToken, left: &Atom<'_>, right: &Atom<'_>) -> bool
 /// ```
 pub fn holds(op: FilterToken, left: &Value, right: &Value) -> bool
     requires { IsSome (comparison_of op) }
-    ensures { (o : Comparison) → comparison_of op ≡ Some o → result ≡ pair o (seen (view left.now)) (seen (view right.now)) }
+    ensures { (o : Comparison) → comparison_of op ≡ Some o → result ≡ pair o (seen (document_of (view left.now))) (seen (document_of (view right.now))) }
 {
     holds_atoms(op, &Atom::of(left), &Atom::of(right))
 }

@@ -6,7 +6,7 @@ ghost use Rattle.std.specs.Cmp.{eq_by_cmp_equiv, on_total, partial_equiv_from_eq
 ghost use Rattle.std.specs.List.{AllByRecursion, list_any};
 ghost use Rattle.std.specs.List.Sorted.{IsStrictlySortedBy};
 ghost use Rattle.std.specs.Ordering.{as_partial_cmp, eq_by_cmp, on};
-ghost use Rattle.serde_json.specs.Data.{Data};
+ghost use Rattle.jsonpath_nodes.specs.document.Document.{Document};
 ghost use Rattle.jsonpath_nodes.specs.place.Location.{Location, location_cmp, is_same};
 ghost use Rattle.jsonpath_nodes.specs.place.NumbersWhere.{numbers_where};
 ghost use Rattle.jsonpath_nodes.specs.place.Order.{location_total, once_in_order};
@@ -119,7 +119,7 @@ fn ordered_spots<'a>(
     spots: &[Spot<'a>],
 ) -> Result<BTreeSet<OrderedSpot<'a>>, NoMemory>
     ensures order { IfOk result (λ placed. map ordered_spot_location placed.keys ≡ once_in_order (map location_of spots.now)) }
-    ensures shown { IfOk result (λ placed. (doc : Data) (ls : List Location) → StandAt doc ls spots.now → AllByRecursion (IsShownIn doc) placed.keys) }
+    ensures shown { IfOk result (λ placed. (doc : Document) (ls : List Location) → StandAt doc ls spots.now → AllByRecursion (IsShownIn doc) placed.keys) }
 {
     let mut placed = BTreeSet::new(alloc);
     for spot in spots {

@@ -1,11 +1,12 @@
 //! `Mark`, a reference to a selected node: either the value alone, or a `Spot`, which has the location too.
 
 ghost use Rattle.std.specs.Prelude.{◌≡◌, [], Bool, true, false, OnOk};
-ghost use Rattle.serde_json.specs.Data.{Data};
+ghost use Rattle.jsonpath_nodes.specs.document.Document.{Document};
 ghost use Rattle.serde_json.specs.View.{view};
+ghost use Rattle.jsonpath_nodes.specs.document.OfData.{document_of};
 ghost use Rattle.jsonpath_nodes.specs.place.Location.{Location, flat};
 ghost use Rattle.jsonpath_nodes.specs.place.Mark.{MarksGain};
-ghost use Rattle.jsonpath_nodes.specs.place.Order.{IsDocument};
+ghost use Rattle.jsonpath_nodes.specs.place.Order.{IsOrderedDocument};
 ghost use Rattle.jsonpath_nodes.specs.place.SpotPlace.{location_of, value_of};
 ghost use Rattle.jsonpath_nodes.specs.step.Candidates.{candidates_below};
 ghost use Rattle.jsonpath_nodes.specs.step.PlainSteps.{plain_step_of};
@@ -36,11 +37,11 @@ pub trait Mark<'a>: Drop + Sized {
     // Where a mark stands, as far as it keeps that, and its value.
     ghost stand: { Self → Location };
 
-    ghost content: { Self → Data };
+    ghost content: { Self → Document };
 
     /// The value of the node.
     fn value(&self) -> &'a Value
-        ensures { view result.now ≡ content self.now };
+        ensures { document_of (view result.now) ≡ content self.now };
 
     /// Appends to `out` the children of this node that the step `plain` selects.
     fn add_selected_children(
@@ -79,7 +80,7 @@ pub trait Mark<'a>: Drop + Sized {
     /// in each object at or below this node the names ascend, as in every `Value`.
     fn add_candidates_below(&self, alloc: Global, out: &mut Vec<Self>) -> Result<(), NoMemory>
         ensures gains { OnOk result (MarksGain located stand content candidates_below (stand self.now) (content self.now) out.old.items out.new.items) }
-        ensures document { OnOk result (IsDocument (content self.now)) };
+        ensures document { OnOk result (IsOrderedDocument (content self.now)) };
 }
 
 /// A reference has no location: it is the value alone.
@@ -88,7 +89,7 @@ impl<'a> Mark<'a> for &'a Value {
 
     ghost stand = { λ mark. [] };
 
-    ghost content = { λ mark. view mark.now };
+    ghost content = { λ mark. document_of (view mark.now) };
 
     #[inline(always)]
     fn value(&self) -> &'a Value {

@@ -2,6 +2,7 @@
 
 ghost use Rattle.std.specs.Prelude.{◌≡◌, ◌↔◌, [], ◌∷◌, ◌++◌, ◌^◌, ◌-◌, length, min, pos, IsTrue, IfOk, IfSome, IfNone, IsSomeAnd, option_to_list};
 ghost use Rattle.serde_json.specs.View.{view};
+ghost use Rattle.jsonpath_nodes.specs.document.OfData.{document_of};
 ghost use Rattle.jsonpath_nodes.specs.place.SpotPlace.{step_of, steps_of, path_location, location_of, value_of, sight_of, LeadsBy};
 ghost use Rattle.jsonpath_nodes.specs.step.Steps.{step, all_below, every, named, nth};
 
@@ -78,7 +79,7 @@ impl<'a> Spot<'a> {
     /// ```
     pub fn root(_alloc: Global, value: &'a Value) -> Spot<'a>
         ensures location { location_of result ≡ [] }
-        ensures value { value_of result ≡ view value.now }
+        ensures value { value_of result ≡ document_of (view value.now) }
     {
         Spot {
             value,
@@ -93,7 +94,7 @@ impl<'a> Spot<'a> {
     /// assert!(rt; root.value().get("a").is_some());
     /// ```
     pub fn value(&self) -> &'a Value
-        ensures { view result.now ≡ value_of self.now }
+        ensures { document_of (view result.now) ≡ value_of self.now }
     {
         self.value
     }

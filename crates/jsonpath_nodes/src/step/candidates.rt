@@ -2,13 +2,13 @@
 //! for each location. They are defined at `ValueWalker::walk_dedup_all`.
 
 ghost use Rattle.std.specs.Prelude.{◌≡◌, ◌++◌, ◌∷◌, [], map, true, Some, IsTrue, IfOk, OnOk, if◌then◌else◌};
-ghost use Rattle.serde_json.specs.Data.{array, object};
+ghost use Rattle.jsonpath_nodes.specs.document.Document.{array, object};
 ghost use Rattle.jsonpath_nodes.specs.plan.Ascending.{first_difference_ascends, Ascend};
 ghost use Rattle.jsonpath_nodes.specs.plan.Containers.{some_container};
 ghost use Rattle.jsonpath_nodes.specs.plan.Way.{way_stand, Stays};
 ghost use Rattle.jsonpath_nodes.specs.place.Location.{Location as Place, flat, flat_items};
 ghost use Rattle.jsonpath_nodes.specs.place.Mark.{MarksGain};
-ghost use Rattle.jsonpath_nodes.specs.place.Order.{IsDocument};
+ghost use Rattle.jsonpath_nodes.specs.place.Order.{IsOrderedDocument};
 ghost use Rattle.jsonpath_nodes.specs.place.Owned.{owned_steps};
 ghost use Rattle.jsonpath_nodes.specs.place.SpotPlace.{LeadsBy, location_of, sight_of};
 ghost use Rattle.jsonpath_nodes.specs.step.Candidates.{candidates_below, flat_members, in_objects};
@@ -111,7 +111,7 @@ pub(crate) fn add_candidates_below<M: Descends>(
     out: &mut Vec<M>,
 ) -> Result<(), NoMemory>
     ensures gains { OnOk result (MarksGain M.located M.stand M.content candidates_below (M.stand node.now) (M.content node.now) out.old.items out.new.items) }
-    ensures document { OnOk result (IsDocument (M.content node.now)) }
+    ensures document { OnOk result (IsOrderedDocument (M.content node.now)) }
 {
     let value = node.tree();
     let mut way = node.way_from(alloc)?;
@@ -130,7 +130,7 @@ fn add_in_objects<M: Descends>(
     out: &mut Vec<M>,
 ) -> Result<(), NoMemory>
     ensures gains { OnOk result (MarksGain M.located M.stand M.content in_objects (way_stand M.located (M.start way.old) (M.steps way.old)) (M.Tree.content value) out.old.items out.new.items) }
-    ensures document { OnOk result (IsDocument (M.Tree.content value)) }
+    ensures document { OnOk result (IsOrderedDocument (M.Tree.content value)) }
 {
     add_at_or_below::<M, Flattened>(value, way, &Flattened, out)?;
     Ok(())

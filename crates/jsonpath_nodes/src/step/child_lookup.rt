@@ -2,8 +2,9 @@
 //! path writes them.
 
 ghost use Rattle.std.specs.Prelude.{◌≡◌, ◌≤◌, option_map, unwrap_or};
-ghost use Rattle.serde_json.specs.Find.{at as item_at};
+ghost use Rattle.jsonpath_nodes.specs.document.Find.{item_at};
 ghost use Rattle.serde_json.specs.View.{view};
+ghost use Rattle.jsonpath_nodes.specs.document.OfData.{document_of};
 ghost use Rattle.jsonpath_nodes.specs.plan.Containers.{is_container};
 ghost use Rattle.jsonpath_nodes.specs.step.Steps.{abs_index as index_from_front};
 
@@ -20,7 +21,7 @@ pub(crate) fn is_container<T: Tree>(value: T) -> bool
 
 // The item at an index from the front, or None where the value is no array that has one there.
 pub(crate) fn item_of_value<'a>(value: &'a Value, index: usize) -> Option<&'a Value>
-    ensures { option_map (λ v. view v.now) result ≡ item_at index (view value.now) }
+    ensures { option_map (λ v. document_of (view v.now)) result ≡ item_at index (document_of (view value.now)) }
 {
     match value {
         Value::Array(items) => <&Value as Tree>::item_at(items, index),

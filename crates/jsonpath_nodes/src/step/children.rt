@@ -3,8 +3,8 @@
 //! `here` is the part of the location that the items or members share (`Descends::Items`, `Descends::Members`).
 
 ghost use Rattle.std.specs.Prelude.{◌≡◌, ◌∷◌, [], ◌≤◌, map, filter, false, OnOk, IfOk};
-ghost use Rattle.serde_json.specs.Data.{array, object};
-ghost use Rattle.serde_json.specs.Events.{items_len};
+ghost use Rattle.jsonpath_nodes.specs.document.Document.{array, object};
+ghost use Rattle.jsonpath_nodes.specs.document.Find.{items_len};
 ghost use Rattle.jsonpath_nodes.specs.plan.Containers.{some_container};
 ghost use Rattle.jsonpath_nodes.specs.place.Location.{index as by_index};
 ghost use Rattle.jsonpath_nodes.specs.place.Mark.{MarksGain};
@@ -80,6 +80,17 @@ pub(crate) fn add_selected_items<M: Descends>(
     }
 }
 
+// Makes room in a list for many more at once. A few are added as fast without.
+#[inline(always)]
+fn make_room<M: Drop>(count: usize, out: &mut Vec<M>) -> Result<(), NoMemory>
+    ensures { OnOk result (out.new.items ≡ out.old.items) }
+{
+    if count > 4 {
+        out.reserve(count)?;
+    }
+    Ok(())
+}
+
 // Adds to a list all items of an array, in their order.
 #[inline(always)]
 fn add_every_item<M: Descends>(
@@ -89,7 +100,7 @@ fn add_every_item<M: Descends>(
 ) -> Result<(), NoMemory>
     ensures { OnOk result (MarksGain M.located M.stand M.content (single_steps every) (M.items_stand here.now) (array (M.Tree.items items)) out.old.items out.new.items) }
 {
-    out.reserve(<M::Tree as Tree>::len(items))?;
+    make_room(<M::Tree as Tree>::len(items), out)?;
     let mut left = <M::Tree as Tree>::each_item(items);
     let mut i = 0;
     while let Some(item) = <M::Tree as Tree>::next_item(&mut left) {

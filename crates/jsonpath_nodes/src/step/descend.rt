@@ -1,7 +1,7 @@
 //! A value with all its descendants, in one descent.
 
 ghost use Rattle.std.specs.Prelude.{[], ◌∷◌, ◌++◌, OnOk};
-ghost use Rattle.serde_json.specs.Data.{array, object};
+ghost use Rattle.jsonpath_nodes.specs.document.Document.{array, object};
 ghost use Rattle.jsonpath_nodes.specs.place.Location.{below, below_items, below_members};
 ghost use Rattle.jsonpath_nodes.specs.place.Mark.{MarksGain};
 ghost use Rattle.jsonpath_nodes.specs.plan.Containers.{descendants};

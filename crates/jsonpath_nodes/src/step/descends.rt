@@ -1,7 +1,7 @@
 //! How the children of a node become nodes of the same kind: a value of a tree keeps no location, a `Spot` all of it.
 
 ghost use Rattle.std.specs.Prelude.{◌≡◌, [], ◌∷◌, ◌++◌, Bool, List, false, Some, IfOk, OnOk};
-ghost use Rattle.serde_json.specs.Data.{Data};
+ghost use Rattle.jsonpath_nodes.specs.document.Document.{Document};
 ghost use Rattle.jsonpath_nodes.specs.place.Location.{Location, Step, name as by_name, index as by_index};
 ghost use Rattle.jsonpath_nodes.specs.place.Mark.{MarksGainOne, kept_location, shown};
 ghost use Rattle.jsonpath_nodes.specs.plan.Way.{down_step, way_stand, AreSame, Stays, without_last};
@@ -33,7 +33,7 @@ pub trait Descends: Drop + Sized {
     // The location, as far as it is kept, and the value.
     ghost stand: { Self → Location };
 
-    ghost content: { Self → Data };
+    ghost content: { Self → Document };
     // Where the array and the object stand.
     ghost items_stand: { Self.Items → Location };
 

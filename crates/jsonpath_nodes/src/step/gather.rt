@@ -1,9 +1,9 @@
 //! What a descent adds at a value and in all its descendants: what a step selects there, or what is flat in objects.
 
 ghost use Rattle.std.specs.Prelude.{◌≡◌, [], ◌∷◌, ◌++◌, false, IfOk, OnOk};
-ghost use Rattle.serde_json.specs.Data.{array, object};
+ghost use Rattle.jsonpath_nodes.specs.document.Document.{array, object};
 ghost use Rattle.jsonpath_nodes.specs.place.Mark.{MarksGain};
-ghost use Rattle.jsonpath_nodes.specs.place.Order.{IsDocument};
+ghost use Rattle.jsonpath_nodes.specs.place.Order.{IsOrderedDocument};
 ghost use Rattle.jsonpath_nodes.specs.plan.Containers.{some_container};
 ghost use Rattle.jsonpath_nodes.specs.plan.Gathered.{Gathered, selected, flattened, gathered_at, all_gathered};
 ghost use Rattle.jsonpath_nodes.specs.plan.Way.{down_step, way_stand, Stays};
@@ -151,7 +151,7 @@ pub(crate) fn add_at_or_below<M: Descends, G: Gathers>(
 ) -> Result<(), NoMemory>
     ensures gains { OnOk result (MarksGain M.located M.stand M.content (all_gathered (gathered_at (G.what what.now))) (way_stand M.located (M.start way.old) (M.steps way.old)) (M.Tree.content value) out.old.items out.new.items) }
     ensures stays { OnOk result (Stays M.located (M.start way.old) (M.steps way.old) (M.start way.new) (M.steps way.new)) }
-    ensures document { OnOk result (IsDocument (M.Tree.content value)) }
+    ensures document { OnOk result (IsOrderedDocument (M.Tree.content value)) }
 {
     if let Some(members) = value.as_object() {
         add_at_or_below_object::<M, G>(members, way, what, out)
@@ -174,7 +174,7 @@ fn add_at_or_below_child<M: Descends, G: Gathers>(
 ) -> Result<(), NoMemory>
     ensures gains { OnOk result (MarksGain M.located M.stand M.content (all_gathered (gathered_at (G.what what.now))) (way_stand M.located (M.start way.old) (M.steps way.old ++ down_step M.Tree.name_bytes step ∷ [])) (M.Tree.content value) out.old.items out.new.items) }
     ensures stays { OnOk result (Stays M.located (M.start way.old) (M.steps way.old) (M.start way.new) (M.steps way.new)) }
-    ensures document { OnOk result (IsDocument (M.Tree.content value)) }
+    ensures document { OnOk result (IsOrderedDocument (M.Tree.content value)) }
 {
     if is_container(value) {
         M::go_down(way, step)?;
@@ -194,7 +194,7 @@ fn add_at_or_below_array<M: Descends, G: Gathers>(
 ) -> Result<(), NoMemory>
     ensures gains { OnOk result (MarksGain M.located M.stand M.content (all_gathered (gathered_at (G.what what.now))) (way_stand M.located (M.start way.old) (M.steps way.old)) (array (M.Tree.items items)) out.old.items out.new.items) }
     ensures stays { OnOk result (Stays M.located (M.start way.old) (M.steps way.old) (M.start way.new) (M.steps way.new)) }
-    ensures document { OnOk result (IsDocument (array (M.Tree.items items))) }
+    ensures document { OnOk result (IsOrderedDocument (array (M.Tree.items items))) }
 {
     what.add_in_array::<M>(items, way, out)?;
     // Also says that the indexes fit.
@@ -218,7 +218,7 @@ fn add_at_or_below_object<M: Descends, G: Gathers>(
 ) -> Result<(), NoMemory>
     ensures gains { OnOk result (MarksGain M.located M.stand M.content (all_gathered (gathered_at (G.what what.now))) (way_stand M.located (M.start way.old) (M.steps way.old)) (object (M.Tree.members members)) out.old.items out.new.items) }
     ensures stays { OnOk result (Stays M.located (M.start way.old) (M.steps way.old) (M.start way.new) (M.steps way.new)) }
-    ensures document { OnOk result (IsDocument (object (M.Tree.members members))) }
+    ensures document { OnOk result (IsOrderedDocument (object (M.Tree.members members))) }
 {
     let holds = what.add_in_object::<M>(members, way, out)?;
     // Made in both cases, since it tells that the names ascend.

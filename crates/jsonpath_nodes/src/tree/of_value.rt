@@ -2,7 +2,8 @@
 
 ghost use Rattle.std.specs.Prelude.{string_bytes};
 ghost use Rattle.std.specs.Slice.Iter.{iter_rest};
-ghost use Rattle.serde_json.specs.View.{view, items_view, members_view};
+ghost use Rattle.serde_json.specs.View.{view};
+ghost use Rattle.jsonpath_nodes.specs.document.OfData.{document_of, items_document, members_document};
 
 use crate::tree::Tree;
 use serde_json::{Map, Value};
@@ -19,17 +20,17 @@ impl<'a> Tree for &'a Value {
 
     type MembersLeft = btree_map::Iter<'a, String, Value>;
 
-    ghost content = { λ v. view v.now };
+    ghost content = { λ v. document_of (view v.now) };
 
-    ghost items = { λ a. items_view a.now.items };
+    ghost items = { λ a. items_document a.now.items };
 
-    ghost members = { λ o. members_view o.now.entries };
+    ghost members = { λ o. members_document o.now.entries };
 
     ghost name_bytes = { λ k. string_bytes k.now };
 
-    ghost items_left = { λ left. items_view (iter_rest left) };
+    ghost items_left = { λ left. items_document (iter_rest left) };
 
-    ghost members_left = { λ left. members_view left };
+    ghost members_left = { λ left. members_document left };
 
     #[inline(always)]
     fn as_array(self) -> Option<&'a Vec<Value>> {

@@ -2,6 +2,7 @@
 
 ghost use Rattle.std.specs.Prelude.{◌≡◌};
 ghost use Rattle.serde_json.specs.View.{view};
+ghost use Rattle.jsonpath_nodes.specs.document.OfData.{document_of};
 ghost use Rattle.jsonpath_nodes.specs.update.Topmost.{nulled};
 ghost use Rattle.jsonpath_nodes.specs.update.Run.{RunsWith};
 
@@ -25,7 +26,7 @@ pub fn replace_at<F: FnMut(Value) -> Option<Value>>(
     f: &mut F,
 )
     requires { F.IsAlwaysCallable f.old }
-    ensures run { RunsWith F.FnMut locations.now (view value.old) f.old f.new (view value.new) }
+    ensures run { RunsWith F.FnMut locations.now (document_of (view value.old)) f.old f.new (document_of (view value.new)) }
     ensures callable { F.IsAlwaysCallable f.new }
 {
     for location in locations {
@@ -46,7 +47,7 @@ pub fn replace_at<F: FnMut(Value) -> Option<Value>>(
 /// assert!(rt; document_to_text(alloc, &document)?.as_str() == "[1,null]");
 /// ```
 pub fn delete_at(value: &mut Value, locations: &[Location])
-    ensures { view value.new ≡ nulled locations.now (view value.old) }
+    ensures { document_of (view value.new) ≡ nulled locations.now (document_of (view value.old)) }
 {
     replace_at(value, locations, &mut |_handed: Value| Some(Value::Null));
 }

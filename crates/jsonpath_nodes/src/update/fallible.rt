@@ -2,6 +2,7 @@
 
 ghost use Rattle.std.specs.Prelude.{◌≡◌, option_map};
 ghost use Rattle.serde_json.specs.View.{view};
+ghost use Rattle.jsonpath_nodes.specs.document.OfData.{document_of, value_document};
 ghost use Rattle.jsonpath_nodes.specs.place.Owned.{owned_steps};
 ghost use Rattle.jsonpath_nodes.specs.update.Trial.{IsTry, IsTrial, Updates};
 ghost use Rattle.jsonpath_nodes.specs.update.Update.{update};
@@ -27,7 +28,7 @@ pub fn try_replace_at<E, F: FnMut(&Value) -> Result<Option<Value>, E>>(
     f: &mut F,
 ) -> Result<(), E>
     requires { F.IsAlwaysCallable f.old }
-    ensures trial { IsTrial F.FnMut locations.now (view value.old) f.old result f.new (view value.new) }
+    ensures trial { IsTrial F.FnMut locations.now (document_of (view value.old)) f.old result f.new (document_of (view value.new)) }
     ensures callable { F.IsAlwaysCallable f.new }
 {
     for location in locations {
@@ -47,7 +48,7 @@ fn try_update<E, F: FnMut(&Value) -> Result<Option<Value>, E>>(
     f: &mut F,
 ) -> Result<(), E>
     requires { F.IsAlwaysCallable f.old }
-    ensures tried { IsTry F.FnMut (owned_steps steps.now) (view value.old) f.old result f.new (view value.new) }
+    ensures tried { IsTry F.FnMut (owned_steps steps.now) (document_of (view value.old)) f.old result f.new (document_of (view value.new)) }
     ensures callable { F.IsAlwaysCallable f.new }
 {
     if steps.is_empty() {
@@ -67,7 +68,7 @@ fn try_update<E, F: FnMut(&Value) -> Result<Option<Value>, E>>(
 
 // Puts a value in place of what stands at the end of the steps, or takes that away where it is None.
 fn replace_or_remove(value: &mut Value, steps: &[LocStep], answer: Option<Value>)
-    ensures { view value.new ≡ update (owned_steps steps.now) (option_map view answer) (view value.old) }
+    ensures { document_of (view value.new) ≡ update (owned_steps steps.now) (option_map value_document answer) (document_of (view value.old)) }
 {
     let mut answer = answer;
     let once = &mut move |_shown: Value| -> Option<Value>
@@ -83,7 +84,7 @@ fn update_at_steps_unreported<F: FnMut(Value) -> Option<Value>>(
     f: &mut F,
 )
     requires { F.IsAlwaysCallable f.old }
-    ensures { Updates F.FnMut (owned_steps steps.now) (view value.old) f.old f.new (view value.new) }
+    ensures { Updates F.FnMut (owned_steps steps.now) (document_of (view value.old)) f.old f.new (document_of (view value.new)) }
 {
     update_at_steps(value, steps, f);
 }

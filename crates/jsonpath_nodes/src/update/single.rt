@@ -1,8 +1,9 @@
 //! The value at a location, and the single update of it, in place.
 
 ghost use Rattle.std.specs.Prelude.{◌≡◌, ◌∷◌, [], ◌<◌, true, vec_len, string_bytes, option_map, IsOkAnd};
-ghost use Rattle.serde_json.specs.Data.{array, object};
-ghost use Rattle.serde_json.specs.View.{view, items_view, members_view};
+ghost use Rattle.jsonpath_nodes.specs.document.Document.{array, object};
+ghost use Rattle.serde_json.specs.View.{view};
+ghost use Rattle.jsonpath_nodes.specs.document.OfData.{document_of, items_document, members_document};
 ghost use Rattle.jsonpath_nodes.specs.update.Calls.{IsUpdate};
 ghost use Rattle.jsonpath_nodes.specs.place.Location.{at, child, name as by_name, index as by_index};
 ghost use Rattle.jsonpath_nodes.specs.place.Owned.{owned_step, owned_steps};
@@ -34,7 +35,7 @@ pub fn update_at<F: FnMut(Value) -> Option<Value>>(
     f: &mut F,
 ) -> Result<bool, NoMemory>
     requires { F.IsAlwaysCallable f.old }
-    ensures updated { IsOkAnd result (λ asked. IsUpdate F.FnMut location.now (view value.old) f.old asked f.new (view value.new)) }
+    ensures updated { IsOkAnd result (λ asked. IsUpdate F.FnMut location.now (document_of (view value.old)) f.old asked f.new (document_of (view value.new))) }
     ensures callable { F.IsAlwaysCallable f.new }
 {
     Ok(update_at_steps(value, location.steps(), f))
@@ -48,7 +49,7 @@ pub(crate) fn update_at_steps<F: FnMut(Value) -> Option<Value>>(
     f: &mut F,
 ) -> bool
     requires { F.IsAlwaysCallable f.old }
-    ensures updated { IsUpdate F.FnMut (owned_steps steps.now) (view value.old) f.old result f.new (view value.new) }
+    ensures updated { IsUpdate F.FnMut (owned_steps steps.now) (document_of (view value.old)) f.old result f.new (document_of (view value.new)) }
     ensures callable { F.IsAlwaysCallable f.new }
 {
     let Some((step, rest)) = steps.split_first() else {
@@ -76,7 +77,7 @@ fn update_item<F: FnMut(Value) -> Option<Value>>(
     f: &mut F,
 ) -> bool
     requires { F.IsAlwaysCallable f.old }
-    ensures updated { IsUpdate F.FnMut (by_index i ∷ owned_steps rest.now) (array (items_view list.old.items)) f.old result f.new (array (items_view list.new.items)) }
+    ensures updated { IsUpdate F.FnMut (by_index i ∷ owned_steps rest.now) (array (items_document list.old.items)) f.old result f.new (array (items_document list.new.items)) }
     ensures callable { F.IsAlwaysCallable f.new }
 {
     if i >= list.len() {
@@ -97,7 +98,7 @@ fn replace_or_remove_item<F: FnMut(Value) -> Option<Value>>(
 )
     requires callable { F.IsAlwaysCallable f.old }
     requires within { i < vec_len list.old }
-    ensures updated { IsUpdate F.FnMut (by_index i ∷ []) (array (items_view list.old.items)) f.old true f.new (array (items_view list.new.items)) }
+    ensures updated { IsUpdate F.FnMut (by_index i ∷ []) (array (items_document list.old.items)) f.old true f.new (array (items_document list.new.items)) }
     ensures callable { F.IsAlwaysCallable f.new }
 {
     let handed = list[i].take();
@@ -117,7 +118,7 @@ fn update_member_of_owned_name<F: FnMut(Value) -> Option<Value>>(
     f: &mut F,
 ) -> bool
     requires { F.IsAlwaysCallable f.old }
-    ensures updated { IsUpdate F.FnMut (by_name (string_bytes name.now) ∷ owned_steps rest.now) (object (members_view map.old.entries)) f.old result f.new (object (members_view map.new.entries)) }
+    ensures updated { IsUpdate F.FnMut (by_name (string_bytes name.now) ∷ owned_steps rest.now) (object (members_document map.old.entries)) f.old result f.new (object (members_document map.new.entries)) }
     ensures callable { F.IsAlwaysCallable f.new }
 {
     update_member(map, name.as_str(), rest, f)
@@ -133,7 +134,7 @@ fn update_member<F: FnMut(Value) -> Option<Value>>(
     f: &mut F,
 ) -> bool
     requires { F.IsAlwaysCallable f.old }
-    ensures updated { IsUpdate F.FnMut (by_name name.now ∷ owned_steps rest.now) (object (members_view map.old.entries)) f.old result f.new (object (members_view map.new.entries)) }
+    ensures updated { IsUpdate F.FnMut (by_name name.now ∷ owned_steps rest.now) (object (members_document map.old.entries)) f.old result f.new (object (members_document map.new.entries)) }
     ensures callable { F.IsAlwaysCallable f.new }
 {
     if rest.is_empty() {
@@ -153,7 +154,7 @@ fn replace_or_remove_member<F: FnMut(Value) -> Option<Value>>(
     f: &mut F,
 ) -> bool
     requires { F.IsAlwaysCallable f.old }
-    ensures updated { IsUpdate F.FnMut (by_name name.now ∷ []) (object (members_view map.old.entries)) f.old result f.new (object (members_view map.new.entries)) }
+    ensures updated { IsUpdate F.FnMut (by_name name.now ∷ []) (object (members_document map.old.entries)) f.old result f.new (object (members_document map.new.entries)) }
     ensures callable { F.IsAlwaysCallable f.new }
 {
     let Some(slot) = map.get_mut(name) else {
@@ -168,7 +169,7 @@ fn replace_or_remove_member<F: FnMut(Value) -> Option<Value>>(
 
 // The value at the end of the steps, or None where they lead nowhere.
 pub(crate) fn value_at<'a>(value: &'a Value, steps: &[LocStep]) -> Option<&'a Value>
-    ensures { option_map (λ v. view v.now) result ≡ at (view value.now) (owned_steps steps.now) }
+    ensures { option_map (λ v. document_of (view v.now)) result ≡ at (document_of (view value.now)) (owned_steps steps.now) }
 {
     let Some((step, rest)) = steps.split_first() else {
         return Some(value);
@@ -181,7 +182,7 @@ pub(crate) fn value_at<'a>(value: &'a Value, steps: &[LocStep]) -> Option<&'a Va
 
 // The member or item that a step leads to, or None where there is none.
 fn child_of<'a>(value: &'a Value, step: &LocStep) -> Option<&'a Value>
-    ensures { option_map (λ v. view v.now) result ≡ child (owned_step step.now) (view value.now) }
+    ensures { option_map (λ v. document_of (view v.now)) result ≡ child (owned_step step.now) (document_of (view value.now)) }
 {
     match step {
         LocStep::Index(i) => value.get(*i),

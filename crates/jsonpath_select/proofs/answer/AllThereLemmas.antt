@@ -4,11 +4,10 @@ use Rattle.std.specs.Prelude.{is_some, unwrap_or, option_map}
 use Rattle.std.specs.List.{list_all, list_any}
 use Rattle.std.proofs.lemmas.Bool.{and_from, and_parts}
 use Rattle.std.proofs.lemmas.List.Folds.{list_all-append}
-use Rattle.serde_json.specs.Data.{Data, array, object, Items, no_items, item, Members, no_members, member}
+use Rattle.jsonpath_nodes.specs.document.Document.{Document, array, object, Items, no_items, item, Members, no_members, member}
 use Rattle.jsonpath_nodes.specs.place.Location.{Step, name, index, Location, child, at, flat, flat_items, is_same, children, names, indexes_from}
-use Rattle.jsonpath_nodes.specs.place.Order.{IsDocument}
-use Rattle.serde_json.specs.Events.{items_len}
-use Rattle.serde_json.specs.Find.{get_item, get_member}
+use Rattle.jsonpath_nodes.specs.place.Order.{IsOrderedDocument}
+use Rattle.jsonpath_nodes.specs.document.Find.{items_len, get_item, get_member}
 use Rattle.std.proofs.Common.{Ordering, Less, Equal, Greater, nat_cmp}
 use Rattle.std.specs.Ordering.{match_ordering}
 use Rattle.std.specs.Cmp.Lexicographic.{slice_cmp}
@@ -36,21 +35,21 @@ module _ {X : Type 0} (P : X → Bool) where
   all_flat_map f h [] = refl
   all_flat_map f h (y ∷ ys) = all_both (f y) (flat_map f ys) (h y) (all_flat_map f h ys)
 
-is_there : Data → Location → Bool
+is_there : Document → Location → Bool
 is_there doc l = is_some (at doc l)
 
-pub all_there : Data → List Location → Bool
+pub all_there : Document → List Location → Bool
 all_there doc ls = list_all (is_there doc) ls
 
-at_more : (l m : Location) (d : Data) → at d (l ++ m) ≡ option_and_then (λ c. at c m) (at d l)
+at_more : (l m : Location) (d : Document) → at d (l ++ m) ≡ option_and_then (λ c. at c m) (at d l)
 at_more [] m d = refl
 at_more (s ∷ l) m d = by_child (child s d) (at_more l m)
   where
-    by_child : (o : Option Data) → ((c : Data) → at c (l ++ m) ≡ option_and_then (λ e. at e m) (at c l)) → option_and_then (λ c. at c (l ++ m)) o ≡ option_and_then (λ e. at e m) (option_and_then (λ c. at c l) o)
+    by_child : (o : Option Document) → ((c : Document) → at c (l ++ m) ≡ option_and_then (λ e. at e m) (at c l)) → option_and_then (λ c. at c (l ++ m)) o ≡ option_and_then (λ e. at e m) (option_and_then (λ c. at c l) o)
     by_child None later = refl
     by_child (Some c) later = later c
 
-behind_there : (doc d : Data) (l : Location) → at doc l ≡ Some d → (ms : List Location) → all_there d ms ≡ true → all_there doc (map (λ m. l ++ m) ms) ≡ true
+behind_there : (doc d : Document) (l : Location) → at doc l ≡ Some d → (ms : List Location) → all_there d ms ≡ true → all_there doc (map (λ m. l ++ m) ms) ≡ true
 unfolding all_there is_there
 behind_there doc d l here [] h = refl
 behind_there doc d l here (m ∷ ms) h =
@@ -58,19 +57,19 @@ behind_there doc d l here (m ∷ ms) h =
     and_from (is_some (at doc (l ++ m))) _ (ap is_some (at_more l m doc ∙ ap (option_and_then (λ e. at e m)) here) ∙ both.0) (behind_there doc d l here ms both.1)
 
 -- where f leads from a value, something stands
-from_there : (doc : Data) (f : Data → List Location) → ((d : Data) (l : Location) → at doc l ≡ Some d → all_there d (f d) ≡ true) → (l : Location) → all_there doc (from doc f l) ≡ true
+from_there : (doc : Document) (f : Document → List Location) → ((d : Document) (l : Location) → at doc l ≡ Some d → all_there d (f d) ≡ true) → (l : Location) → all_there doc (from doc f l) ≡ true
 unfolding all_there is_there
 from_there doc f h l = by_value (at doc l) refl
   where
-    by_value : (o : Option Data) → at doc l ≡ o → all_there doc (map (λ m. l ++ m) (unwrap_or (option_map f o) [])) ≡ true
+    by_value : (o : Option Document) → at doc l ≡ o → all_there doc (map (λ m. l ++ m) (unwrap_or (option_map f o) [])) ≡ true
     by_value None e = refl
     by_value (Some d) e = behind_there doc d l e (f d) (h d l e)
 
-from_each_there : (doc : Data) (f : Data → List Location) → ((d : Data) (l : Location) → at doc l ≡ Some d → all_there d (f d) ≡ true) → (ls : List Location) → all_there doc (from_each doc f ls) ≡ true
+from_each_there : (doc : Document) (f : Document → List Location) → ((d : Document) (l : Location) → at doc l ≡ Some d → all_there d (f d) ≡ true) → (ls : List Location) → all_there doc (from_each doc f ls) ≡ true
 unfolding all_there
 from_each_there doc f h ls = all_flat_map (is_there doc) (from doc f) (from_there doc f h) ls
 
-pub once_there : (doc : Data) (before ls : List Location) → all_there doc ls ≡ true → all_there doc (each_once_after before ls) ≡ true
+pub once_there : (doc : Document) (before ls : List Location) → all_there doc ls ≡ true → all_there doc (each_once_after before ls) ≡ true
 unfolding all_there
 once_there doc before [] h = refl
 once_there doc before (l ∷ ls) h =
@@ -83,33 +82,33 @@ once_there doc before (l ∷ ls) h =
     by_test false here same more = and_from (is_there doc l) _ here more
 
 -- as many values as locations, in their order
-pub values_each : (doc : Data) (ls : List Location) → all_there doc ls ≡ true → map (λ d. Some d) (filter_map (at doc) ls) ≡ map (at doc) ls
+pub values_each : (doc : Document) (ls : List Location) → all_there doc ls ≡ true → map (λ d. Some d) (filter_map (at doc) ls) ≡ map (at doc) ls
 unfolding all_there is_there
 values_each doc [] h = refl
 values_each doc (l ∷ ls) h = let both = and_parts (is_some (at doc l)) _ h in by_value (at doc l) refl both.0 (values_each doc ls both.1)
   where
-    by_value : (o : Option Data) → at doc l ≡ o → is_some o ≡ true → map (λ d. Some d) (filter_map (at doc) ls) ≡ map (at doc) ls
+    by_value : (o : Option Document) → at doc l ≡ o → is_some o ≡ true → map (λ d. Some d) (filter_map (at doc) ls) ≡ map (at doc) ls
         → map (λ d. Some d) (filter_map (at doc) (l ∷ ls)) ≡ o ∷ map (at doc) ls
     by_value None e some later = cc some
     by_value (Some d) e some later = rw e (ap (λ ds. Some d ∷ ds) later)
 
 -- ---- one step
 
-child_there : Data → Step → Bool
+child_there : Document → Step → Bool
 child_there d s = is_some (child s d)
 
-singles_there : (d : Data) (ss : List Step) → list_all (child_there d) ss ≡ true → all_there d (map (λ s. s ∷ []) ss) ≡ true
+singles_there : (d : Document) (ss : List Step) → list_all (child_there d) ss ≡ true → all_there d (map (λ s. s ∷ []) ss) ≡ true
 unfolding all_there is_there child_there
 singles_there d [] h = refl
 singles_there d (s ∷ ss) h =
     let both = and_parts (is_some (child s d)) (list_all (child_there d) ss) h in
     and_from _ _ (by_child (child s d) both.0) (singles_there d ss both.1)
   where
-    by_child : (o : Option Data) → is_some o ≡ true → is_some (option_and_then (λ c. Some c) o) ≡ true
+    by_child : (o : Option Document) → is_some o ≡ true → is_some (option_and_then (λ c. Some c) o) ≡ true
     by_child None e = e
     by_child (Some c) e = refl
 
-present_there : (d : Data) (s : Step) → list_all (child_there d) (present d s) ≡ true
+present_there : (d : Document) (s : Step) → list_all (child_there d) (present d s) ≡ true
 unfolding child_there
 present_there d s = by_test (is_some (child s d)) refl
   where
@@ -126,10 +125,10 @@ item_within (suc i) (item d ds) h = item_within i ds (omega arith)
 abbrev Tail : Items → ℕ → Items → Type 0
 Tail whole n ds = (i : ℕ) → get_item (n + i) whole ≡ get_item i ds
 
-tail_first : (whole : Items) (n : ℕ) (d : Data) (ds : Items) → Tail whole n (item d ds) → get_item n whole ≡ Some d
+tail_first : (whole : Items) (n : ℕ) (d : Document) (ds : Items) → Tail whole n (item d ds) → get_item n whole ≡ Some d
 tail_first whole n d ds tail = let same : n + 0 ≡ n = omega arith in ap (λ m. get_item m whole) (sym same) ∙ tail 0
 
-tail_next : (whole : Items) (n : ℕ) (d : Data) (ds : Items) → Tail whole n (item d ds) → Tail whole (suc n) ds
+tail_next : (whole : Items) (n : ℕ) (d : Document) (ds : Items) → Tail whole n (item d ds) → Tail whole (suc n) ds
 tail_next whole n d ds tail i = let same : suc n + i ≡ n + suc i = omega arith in ap (λ m. get_item m whole) same ∙ tail (suc i)
 
 indexes_there : (whole : Items) (n : ℕ) (ds : Items) → Tail whole n ds → list_all (child_there (array whole)) (indexes_from n ds) ≡ true
@@ -138,7 +137,7 @@ indexes_there whole n no_items tail = refl
 indexes_there whole n (item d ds) tail = and_from _ _ (ap is_some (tail_first whole n d ds tail)) (indexes_there whole (suc n) ds (tail_next whole n d ds tail))
 
 -- what the later members have, all of them have
-later_member : (k j : List ℕ) (d : Data) (ms : Members) → is_some (get_member k ms) ≡ true → is_some (get_member k (member j d ms)) ≡ true
+later_member : (k j : List ℕ) (d : Document) (ms : Members) → is_some (get_member k ms) ≡ true → is_some (get_member k (member j d ms)) ≡ true
 later_member k j d ms h = by_order (slice_cmp nat_cmp k j)
   where
     by_order : (o : Ordering) → is_some (match_ordering o (get_member k ms) (Some d) (get_member k ms)) ≡ true
@@ -153,16 +152,16 @@ names_there whole (member k d ms) h =
     and_from _ _ (h k (ap (λ o. is_some (match_ordering o (get_member k ms) (Some d) (get_member k ms))) (tied_itself nat_list_cmp_total k)))
     (names_there whole ms (λ j e. h j (later_member j k d ms e)))
 
-children_there : (d : Data) → list_all (child_there d) (children d) ≡ true
+children_there : (d : Document) → list_all (child_there d) (children d) ≡ true
 children_there (array ds) = indexes_there ds 0 ds (λ i. let same : 0 + i ≡ i = omega arith in ap (λ n. get_item n ds) same)
 children_there (object ms) = names_there ms ms (λ k h. h)
 children_there _ = refl
 
-index_there : (d : Data) (i : ℕ) → i < length_of d → is_some (child (index i) d) ≡ true
+index_there : (d : Document) (i : ℕ) → i < length_of d → is_some (child (index i) d) ≡ true
 index_there (array ds) i h = item_within i ds h
 index_there _ i h = absurd (omega arith)
 
-counted_there : (d : Data) (test : ℕ → Bool) (n k : ℕ) → n + k ≤ length_of d → list_all (child_there d) (map index (filter test (count_up n k))) ≡ true
+counted_there : (d : Document) (test : ℕ → Bool) (n k : ℕ) → n + k ≤ length_of d → list_all (child_there d) (map index (filter test (count_up n k))) ≡ true
 unfolding child_there
 counted_there d test n zero h = refl
 counted_there d test n (suc k) h = by_test (test n) (counted_there d test (suc n) k (omega arith))
@@ -172,7 +171,7 @@ counted_there d test n (suc k) h = by_test (test n) (counted_there d test (suc n
     by_test true later = and_from _ _ (index_there d n (omega arith)) later
     by_test false later = later
 
-selected_there : (p : Plain) (d : Data) → list_all (child_there d) (selected p d) ≡ true
+selected_there : (p : Plain) (d : Document) → list_all (child_there d) (selected p d) ≡ true
 selected_there every d = children_there d
 selected_there (named k) d = present_there d (name k)
 selected_there (listed ks) d = all_flat_map (child_there d) (λ k. present d (name k)) (λ k. present_there d (name k)) ks
@@ -185,7 +184,7 @@ selected_there (range first last by) d = counted_there d _ 0 (length_of d) (omeg
 mutual
   unfolding all_there is_there
 
-  flat_there : (d : Data) → all_there d (flat d) ≡ true
+  flat_there : (d : Document) → all_there d (flat d) ≡ true
   flat_there (array ds) = flat_items_there ds 0 ds (λ i. let same : 0 + i ≡ i = omega arith in ap (λ n. get_item n ds) same)
   flat_there _ = refl
 
@@ -196,16 +195,16 @@ mutual
       (behind_there (array whole) d (index n ∷ []) (ap (option_and_then (λ c. Some c)) (tail_first whole n d ds tail)) (flat d) (flat_there d))
       (flat_items_there whole (suc n) ds (tail_next whole n d ds tail))
 
-pub step_there : (doc : Data) (p : Plain) (ls : List Location) → all_there doc (step doc p ls) ≡ true
+pub step_there : (doc : Document) (p : Plain) (ls : List Location) → all_there doc (step doc p ls) ≡ true
 step_there doc p ls = from_each_there doc (single_steps p) (λ d l e. singles_there d (selected p d) (selected_there p d)) ls
 
-pub flat_each_there : (doc : Data) (ls : List Location) → all_there doc (from_each doc flat ls) ≡ true
+pub flat_each_there : (doc : Document) (ls : List Location) → all_there doc (from_each doc flat ls) ≡ true
 flat_each_there doc ls = from_each_there doc flat (λ d l e. flat_there d) ls
 
 -- ---- a path
 
 module _ (all_locations_stand_below_root : BelowIsAll) where
-  module _ (text : List ℕ) (doc : Data) (docs : IsDocument doc) where
+  module _ (text : List ℕ) (doc : Document) (docs : IsOrderedDocument doc) where
     inner_there : (inner : Inner) (leaves : Bool) (ls : List Location) → all_there doc ls ≡ true → all_there doc (inner_on text doc inner leaves ls) ≡ true
     unfolding all_there
     inner_there (plain token) leaves ls h = step_there doc (plain_of text token) (cond leaves (all_below doc ls) ls)

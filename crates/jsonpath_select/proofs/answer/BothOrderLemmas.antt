@@ -3,7 +3,7 @@ use Rattle.std.proofs.Common.{◌≡◌, ◌+◌, ◌||◌, Bool, false, ℕ, Li
 use Rattle.std.proofs.Math.Bool.{or_comm}
 use Rattle.std.specs.Prelude.{filter, if◌then◌else◌}
 use Rattle.std.specs.Str.{IsUtf8, chars, encode_utf8_all}
-use Rattle.serde_json.specs.Data.{Data}
+use Rattle.jsonpath_nodes.specs.document.Document.{Document}
 use Rattle.jsonpath_paths.specs.tree.Alike.{IsSameAt, AreSameAt, AlikeToken, same_key, same_keys, AlikePath, alike_path, AlikeSteps, alike_end, alike_step, AlikeInner, alike_plain, alike_filter, AlikeCondition, alike_lone, alike_compare, alike_join, AlikeTerm, alike_at_path, alike_literal}
 use Rattle.jsonpath_paths.specs.tree.Joined.{filter_text, joined_text, filter_path, JoinsSides}
 use Rattle.jsonpath_paths.specs.text.Spans.{IsSpan, slice_at}
@@ -85,11 +85,11 @@ module _ (source s t : List ℕ) (f g f' g' : Condition) (same : f ≡ g) (first
   both_own : has_own_step f' ≡ has_own_step g'
   both_own = sym (same_own source s f f' (condition_as_is source s first)) ∙ ap has_own_step same ∙ same_own source t g g' (condition_as_is source t second)
 
-  both_hold : (doc : Data) (c : Location) → holds s doc f' c ≡ holds t doc g' c
+  both_hold : (doc : Document) (c : Location) → holds s doc f' c ≡ holds t doc g' c
   both_hold doc c =
       sym (reordered_holds source s doc f f' (condition_as_is source s first) c) ∙ ap (λ x. holds source doc x c) same ∙ reordered_holds source t doc g g' (condition_as_is source t second) c
 
-same_filter : (s t : List ℕ) (doc : Data) (f g : Condition) → has_own_step f ≡ has_own_step g → ((c : Location) → holds s doc f c ≡ holds t doc g c) → sel s doc (filter_path f) ≡ sel t doc (filter_path g)
+same_filter : (s t : List ℕ) (doc : Document) (f g : Condition) → has_own_step f ≡ has_own_step g → ((c : Location) → holds s doc f c ≡ holds t doc g c) → sel s doc (filter_path f) ≡ sel t doc (filter_path g)
 same_filter s t doc f g own hold =
     let base : List Location = [] ∷ [] in
     filter_same (λ c. holds s doc f c) (λ c. holds t doc g c) (candidates doc f base) hold
@@ -98,7 +98,7 @@ same_filter s t doc f g own hold =
 module _ (one_tree_per_text : (text : List ℕ) (p q : Path) → Spells text p → Spells text q → p ≡ q)
     (connective_joins_conditions : (o : FilterToken) (a b : List ℕ) (p : Path) → is_comparison o ≡ false → IsUtf8 a → IsUtf8 b → IsInGrammar (filter_text a) → IsInGrammar (filter_text b) → Spells (joined_text o a b) p
     → JoinsSides o a b p) where
-  same_selection : (o : FilterToken) (a b : List ℕ) (doc : Data) (p q : Path) → is_comparison o ≡ false → IsUtf8 a → IsUtf8 b → IsInGrammar (filter_text a) → IsInGrammar (filter_text b)
+  same_selection : (o : FilterToken) (a b : List ℕ) (doc : Document) (p q : Path) → is_comparison o ≡ false → IsUtf8 a → IsUtf8 b → IsInGrammar (filter_text a) → IsInGrammar (filter_text b)
       → Spells (joined_text o a b) p → Spells (joined_text o b a) q → sel (joined_text o a b) doc p ≡ sel (joined_text o b a) doc q
   same_selection o a b doc p q con ua ub ga gb hp hq =
       let s : List ℕ = joined_text o a b in

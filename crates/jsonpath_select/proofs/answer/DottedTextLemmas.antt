@@ -9,7 +9,7 @@ use Rattle.std.proofs.lemmas.List.Folds.{list_all-append}
 use Rattle.std.proofs.lemmas.Str.{encodes-IsAscii, chars-IsAscii, encodes-append, IsUtf8-from_ascii, scalars-chars}
 use Rattle.std.proofs.lemmas.Str.Ascii.{IsAscii-nil}
 use lib.Utf8.{scalars, encode, encodes}
-use Rattle.serde_json.specs.Data.{Data}
+use Rattle.jsonpath_nodes.specs.document.Document.{Document}
 use Rattle.jsonpath_paths.specs.Grammar as g
 use Rattle.jsonpath_paths.specs.Grammar.{Lexemes, levels}
 use Rattle.jsonpath_paths.specs.token.Kinds.{IsFirst, HasNone, all_pass, begins_none, ends_word}
@@ -181,13 +181,13 @@ module _ (text : List ℕ) where
 
   -- ---- what the tree selects
 
-  module _ (doc : Data) where
+  module _ (doc : Document) where
     follow_none : (i : ℕ) (ks : List (List ℕ)) → follow text doc (tree_of i ks) [] ≡ []
     unfolding tree_of
     follow_none i [] = refl
     follow_none i (k ∷ ks) = follow_none (after_dot i + byte_len k) ks
 
-    follow_here : (i : ℕ) (ks : List (List ℕ)) (m : Location) (d : Data) → at doc m ≡ Some d → Mean i ks
+    follow_here : (i : ℕ) (ks : List (List ℕ)) (m : Location) (d : Document) → at doc m ≡ Some d → Mean i ks
         → follow text doc (tree_of i ks) (m ∷ []) ≡ cond (is_some (at d (map name ks))) ((m ++ map name ks) ∷ []) []
     unfolding tree_of Mean
     follow_here i [] m d here meant = ap (λ n. n ∷ []) (sym (append-nil m))
@@ -196,8 +196,8 @@ module _ (text : List ℕ) where
         ∙ ap (follow text doc (tree_of (after_dot i + byte_len k) ks)) (name_leads doc k m d here)
         ∙ by_child (child (name k) d) refl (λ c there. follow_here (after_dot i + byte_len k) ks (m ++ name k ∷ []) c there meant.1)
       where
-        by_child : (o : Option Data) → child (name k) d ≡ o
-            → ((c : Data) → at doc (m ++ name k ∷ []) ≡ Some c
+        by_child : (o : Option Document) → child (name k) d ≡ o
+            → ((c : Document) → at doc (m ++ name k ∷ []) ≡ Some c
             → follow text doc (tree_of (after_dot i + byte_len k) ks) ((m ++ name k ∷ []) ∷ []) ≡ cond (is_some (at c (map name ks))) (((m ++ name k ∷ []) ++ map name ks) ∷ []) [])
             → follow text doc (tree_of (after_dot i + byte_len k) ks) (cond (is_some o) ((m ++ name k ∷ []) ∷ []) [])
             ≡ cond (is_some (option_and_then (λ c. at c (map name ks)) o)) ((m ++ name k ∷ map name ks) ∷ []) []
@@ -233,7 +233,7 @@ module _ (ks : List (List ℕ)) (h : list_all is_dot_name ks ≡ true) where
   unfolding root_end
   behind_root = (omega arith, refl)
 
-  selects_where : (doc : Data) → where_it_is doc (map name ks) ≡ sel (dotted ks) doc (whole_tree ks)
+  selects_where : (doc : Document) → where_it_is doc (map name ks) ≡ sel (dotted ks) doc (whole_tree ks)
   unfolding whole_tree
   selects_where doc = sym (follow_here (dotted ks) doc root_end ks [] doc refl (means (dotted ks) root_end ks h behind_root))
 

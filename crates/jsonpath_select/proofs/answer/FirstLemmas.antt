@@ -4,14 +4,14 @@ use Rattle.std.proofs.Math.Dec.{eqb-suc-zero}
 use Rattle.std.proofs.lemmas.List.{length-map}
 use Rattle.std.specs.Prelude.{filter_map, option_map, is_some, not, Contains}
 use Rattle.std.specs.List.{slice_get}
-use Rattle.serde_json.specs.Data.{Data}
+use Rattle.jsonpath_nodes.specs.document.Document.{Document}
 use Rattle.jsonpath_nodes.specs.DocumentLaws.{OnceInOrderKeepsMembers}
 use Rattle.jsonpath_nodes.specs.place.Location.{Location, at}
 use Rattle.jsonpath_nodes.specs.place.Mark.{shown, look_kept, MarksStandAt}
 use Rattle.jsonpath_nodes.specs.place.Order.{once_in_order}
 use Rattle.jsonpath_select.specs.plan.First.{BeginAs}
 
-module _ {M : Type 0} (b : Bool) (stand : M → Location) (content : M → Data) (doc : Data) where
+module _ {M : Type 0} (b : Bool) (stand : M → Location) (content : M → Document) (doc : Document) where
   pub first_answered : (ls : List Location) (marks : List M) → BeginAs b stand content doc ls marks → option_map content (slice_get marks 0) ≡ slice_get (filter_map (at doc) ls) 0
   first_answered ls marks h = by ls h.0 marks h.1 h.2
     where
@@ -24,11 +24,11 @@ module _ {M : Type 0} (b : Bool) (stand : M → Location) (content : M → Data)
       by (l ∷ ls) (k ∷ front) (m ∷ ms) stands e =
           let same : l ≡ k = cc in
           let here : shown stand content m ≡ look_kept b doc k = cc in
-          let there : at doc l ≡ Some (content m) = ap (at doc) same ∙ sym (ap (λ (x : Location × Option Data). x.1) here) in
+          let there : at doc l ≡ Some (content m) = ap (at doc) same ∙ sym (ap (λ (x : Location × Option Document). x.1) here) in
           rw there refl
 
 -- there is a first value where there is any
-pub some_answered : {X : Type 0} (f : X → Data) (first : Option X) (values : List Data) → option_map f first ≡ slice_get values 0 → is_some first ≡ not (length values == 0)
+pub some_answered : {X : Type 0} (f : X → Document) (first : Option X) (values : List Document) → option_map f first ≡ slice_get values 0 → is_some first ≡ not (length values == 0)
 some_answered f None [] e = refl
 some_answered f None (d ∷ values) e = cc
 some_answered f (Some x) [] e = cc
@@ -49,10 +49,10 @@ module _ (members : OnceInOrderKeepsMembers) where
   sets_alike (l ∷ ls) (m ∷ ms) e = eqb-suc-zero (length ls) ∙ sym (eqb-suc-zero (length ms))
 
   -- a set has a member where the answer has a value
-  pub any_answered : {S : Type 0} (f : S → Location) (doc : Data) (set : List S) (ls : List Location) (values : List Data) → once_in_order (map f set) ≡ once_in_order ls
-      → map (λ (d : Data). let o : Option Data = Some d in o) values ≡ map (at doc) ls → (length set == 0) ≡ (length values == 0)
+  pub any_answered : {S : Type 0} (f : S → Location) (doc : Document) (set : List S) (ls : List Location) (values : List Document) → once_in_order (map f set) ≡ once_in_order ls
+      → map (λ (d : Document). let o : Option Document = Some d in o) values ≡ map (at doc) ls → (length set == 0) ≡ (length values == 0)
   any_answered f doc set ls values same each =
       let sets : length (map f set) ≡ length set = simp length-map in
       let places : length (map (at doc) ls) ≡ length ls = simp length-map in
-      let held : length (map (λ (d : Data). let o : Option Data = Some d in o) values) ≡ length values = simp length-map in
+      let held : length (map (λ (d : Document). let o : Option Document = Some d in o) values) ≡ length values = simp length-map in
       ap (λ n. n == 0) (sym sets) ∙ sets_alike (map f set) ls same ∙ ap (λ n. n == 0) (sym places ∙ sym (ap length each) ∙ held)

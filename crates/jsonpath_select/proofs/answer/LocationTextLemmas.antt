@@ -12,9 +12,8 @@ use Rattle.std.proofs.lemmas.Str.{encodes-chars, chars-encodes, scalars-chars, e
 use Rattle.std.proofs.lemmas.Str.Parse.{IsNumeralModel, numerals_by_value, tells_all_ascii_digits}
 use Rattle.std.proofs.Math.Seq.{drop-append_seam, take-append_seam}
 use lib.Utf8.{scalar, scalars, encode, encodes}
-use Rattle.serde_json.specs.Data.{Data, null, boolean, number, string, array, object, Items, no_items, item}
-use Rattle.serde_json.specs.Events.{items_len}
-use Rattle.serde_json.specs.Find.{get_item}
+use Rattle.jsonpath_nodes.specs.document.Document.{Document, null, boolean, number, string, array, object, Items, no_items, item}
+use Rattle.jsonpath_nodes.specs.document.Find.{items_len, get_item}
 use Rattle.jsonpath_paths.specs.Grammar as g
 use Rattle.jsonpath_paths.specs.Grammar.{Lexemes, whole_number, levels}
 use Rattle.jsonpath_paths.specs.token.Kinds.{IsFirst, HasNone}
@@ -274,15 +273,15 @@ digits_bytes (d ∷ ds) h =
 
 -- ---- where one step leads
 
-pub at_last : (m : Location) (s : Step) (d : Data) → at d (m ++ s ∷ []) ≡ option_and_then (child s) (at d m)
+pub at_last : (m : Location) (s : Step) (d : Document) → at d (m ++ s ∷ []) ≡ option_and_then (child s) (at d m)
 at_last [] s d = by_child (child s d)
   where
-    by_child : (o : Option Data) → option_and_then (λ c. Some c) o ≡ o
+    by_child : (o : Option Document) → option_and_then (λ c. Some c) o ≡ o
     by_child None = refl
     by_child (Some c) = refl
 at_last (t ∷ m) s d = by_child (child t d) (at_last m s)
   where
-    by_child : (o : Option Data) → ((c : Data) → at c (m ++ s ∷ []) ≡ option_and_then (child s) (at c m))
+    by_child : (o : Option Document) → ((c : Document) → at c (m ++ s ∷ []) ≡ option_and_then (child s) (at c m))
         → option_and_then (λ c. at c (m ++ s ∷ [])) o ≡ option_and_then (child s) (option_and_then (λ c. at c m) o)
     by_child None later = refl
     by_child (Some c) later = later c
@@ -293,7 +292,7 @@ no_item zero (item d ds) h = absurd (omega arith)
 no_item (suc i) (item d ds) h = no_item i ds (omega arith)
 
 -- an index that passes the end leads nowhere, as the end itself does
-selects_step : (s : Step) (d : Data) → selected (plain_step s) d ≡ present d s
+selects_step : (s : Step) (d : Document) → selected (plain_step s) d ≡ present d s
 unfolding plain_step
 selects_step (name bs) d = refl
 selects_step (index i) null = refl
@@ -308,13 +307,13 @@ selects_step (index i) (array ds) = by_test (ltb i (items_len ds)) refl
         let past : items_len ds ≤ i = ltb-false i (items_len ds) over in
         let least : min i (items_len ds) ≡ items_len ds = omega arith in
         ap (λ n. present (array ds) (index n)) least
-        ∙ ap (λ (o : Option Data). cond (is_some o) (index (items_len ds) ∷ []) []) (no_item (items_len ds) ds (omega arith))
-        ∙ sym (ap (λ (o : Option Data). cond (is_some o) (index i ∷ []) []) (no_item i ds past))
+        ∙ ap (λ (o : Option Document). cond (is_some o) (index (items_len ds) ∷ []) []) (no_item (items_len ds) ds (omega arith))
+        ∙ sym (ap (λ (o : Option Document). cond (is_some o) (index i ∷ []) []) (no_item i ds past))
 selects_step (index i) (object ms) = refl
 
-one_step_leads : (doc : Data) (s : Step) (m : Location) (d : Data) → at doc m ≡ Some d → step doc (plain_step s) (m ∷ []) ≡ cond (is_some (child s d)) ((m ++ s ∷ []) ∷ []) []
+one_step_leads : (doc : Document) (s : Step) (m : Location) (d : Document) → at doc m ≡ Some d → step doc (plain_step s) (m ∷ []) ≡ cond (is_some (child s d)) ((m ++ s ∷ []) ∷ []) []
 one_step_leads doc s m d here =
-    ap (λ (o : Option Data). map (λ n. m ++ n) (unwrap_or (option_map (single_steps (plain_step s)) o) []) ++ []) here
+    ap (λ (o : Option Document). map (λ n. m ++ n) (unwrap_or (option_map (single_steps (plain_step s)) o) []) ++ []) here
     ∙ ap (λ ss. map (λ n. m ++ n) (map (λ t. t ∷ []) ss) ++ []) (selects_step s d)
     ∙ by_child (is_some (child s d))
   where
@@ -322,7 +321,7 @@ one_step_leads doc s m d here =
     by_child true = refl
     by_child false = refl
 
-pub name_leads : (doc : Data) (k : List ℕ) (m : Location) (d : Data) → at doc m ≡ Some d → step doc (named k) (m ∷ []) ≡ cond (is_some (child (name k) d)) ((m ++ name k ∷ []) ∷ []) []
+pub name_leads : (doc : Document) (k : List ℕ) (m : Location) (d : Document) → at doc m ≡ Some d → step doc (named k) (m ∷ []) ≡ cond (is_some (child (name k) d)) ((m ++ name k ∷ []) ∷ []) []
 unfolding plain_step
 name_leads doc k m d here = one_step_leads doc (name k) m d here
 
@@ -396,13 +395,13 @@ module _ (text : List ℕ) where
 
   -- ---- what the tree selects
 
-  module _ (doc : Data) where
+  module _ (doc : Document) where
     follow_none : (i : ℕ) (l : Location) → follow text doc (tree_of i l) [] ≡ []
     unfolding tree_of
     follow_none i [] = refl
     follow_none i (s ∷ l) = follow_none (behind i s) l
 
-    follow_here : (i : ℕ) (l m : Location) (d : Data) → at doc m ≡ Some d → Mean i l → follow text doc (tree_of i l) (m ∷ []) ≡ cond (is_some (at d l)) ((m ++ l) ∷ []) []
+    follow_here : (i : ℕ) (l m : Location) (d : Document) → at doc m ≡ Some d → Mean i l → follow text doc (tree_of i l) (m ∷ []) ≡ cond (is_some (at d l)) ((m ++ l) ∷ []) []
     unfolding tree_of Mean
     follow_here i [] m d here meant = ap (λ n. n ∷ []) (sym (append-nil m))
     follow_here i (s ∷ l) m d here meant =
@@ -410,8 +409,8 @@ module _ (text : List ℕ) where
         ∙ ap (follow text doc (tree_of (behind i s) l)) (one_step_leads doc s m d here)
         ∙ by_child (child s d) refl (λ c there. follow_here (behind i s) l (m ++ s ∷ []) c there meant.1)
       where
-        by_child : (o : Option Data) → child s d ≡ o
-            → ((c : Data) → at doc (m ++ s ∷ []) ≡ Some c → follow text doc (tree_of (behind i s) l) ((m ++ s ∷ []) ∷ []) ≡ cond (is_some (at c l)) (((m ++ s ∷ []) ++ l) ∷ []) [])
+        by_child : (o : Option Document) → child s d ≡ o
+            → ((c : Document) → at doc (m ++ s ∷ []) ≡ Some c → follow text doc (tree_of (behind i s) l) ((m ++ s ∷ []) ∷ []) ≡ cond (is_some (at c l)) (((m ++ s ∷ []) ++ l) ∷ []) [])
             → follow text doc (tree_of (behind i s) l) (cond (is_some o) ((m ++ s ∷ []) ∷ []) []) ≡ cond (is_some (option_and_then (λ c. at c l) o)) ((m ++ s ∷ l) ∷ []) []
         by_child None e later = follow_none (behind i s) l
         by_child (Some c) e later =
@@ -455,7 +454,7 @@ module _ (l : Location) (h : AllCanBeSpelled l) where
     spelled = g.by g.from_root (g.next (a_mark (location_text l)) (g.next (spelled_of (location_text l) levels root_end l h behind_root) (g.next (no_blanks (location_text l)) g.end)));
   }
 
-  selects_where : (doc : Data) → where_it_is doc l ≡ sel (location_text l) doc (whole_tree l)
+  selects_where : (doc : Document) → where_it_is doc l ≡ sel (location_text l) doc (whole_tree l)
   unfolding whole_tree
   selects_where doc = sym (follow_here (location_text l) doc root_end l [] doc refl (means (location_text l) root_end l h behind_root))
 

@@ -6,14 +6,14 @@ use Rattle.std.specs.List.Sorted.{IsStrictlySortedBy}
 use Rattle.std.specs.Ordering.{match_ordering}
 use Rattle.std.proofs.lemmas.Cmp.{tied_itself}
 use Rattle.std.specs.Cmp.Lexicographic.{slice_cmp}
-use Rattle.serde_json.specs.Data.{Data, array, object, Items, no_items, item, Members, no_members, member}
-use Rattle.serde_json.specs.Find.{get_item, get_member}
+use Rattle.jsonpath_nodes.specs.document.Document.{Document, array, object, Items, no_items, item, Members, no_members, member}
+use Rattle.jsonpath_nodes.specs.document.Find.{get_item, get_member}
 use Rattle.jsonpath_paths.specs.tree.Tree as tree
 use Rattle.jsonpath_paths.specs.tree.Tree.{path, Path, PathSteps, no_steps, step_then, Inner, plain}
 use Rattle.jsonpath_paths.specs.declared.token.tokens.ParseToken.{ParseToken}
 use Rattle.jsonpath_paths.specs.declared.token.tokens.ParseToken.TheVariants as t
 use Rattle.jsonpath_nodes.specs.place.Location.{Step, name, index, Location, at, child, is_same, step_cmp, location_cmp, indexes_from, names, children, flat}
-use Rattle.jsonpath_nodes.specs.place.Order.{IsDocument, AreDocuments, HoldDocuments, step_total, location_total}
+use Rattle.jsonpath_nodes.specs.place.Order.{IsOrderedDocument, AreOrderedDocuments, HoldOrderedDocuments, step_total, location_total}
 use Rattle.jsonpath_nodes.specs.step.Steps.{Plain, every, named, listed, nth, union, range, selected, present, length_of, abs_index, single_steps, each_once_after, each_once, count_up, from, from_each, step, flattened}
 use Rattle.jsonpath_select.specs.SelectionLaws.{may_repeat, is_single_inner, has_single_steps, is_single, SelectsOnce}
 use Rattle.jsonpath_select.specs.Meaning.{candidates, has_own_step, follow, holds, inner_on, sel}
@@ -180,12 +180,12 @@ unfolding IsStrictlySortedBy
 once_sorted [] h = tt
 once_sorted (n ∷ ns) h = (none_above n ns h.0, once_sorted ns h.1)
 
-once_children : (d : Data) → IsDocument d → IsOnce (children d)
+once_children : (d : Document) → IsOrderedDocument d → IsOnce (children d)
 once_children (array ds) h = once_indexes 0 ds
 once_children (object ms) h = once_sorted (names ms) h.0
 once_children _ h = tt
 
-once_present : (d : Data) (s : Step) → IsOnce (present d s)
+once_present : (d : Document) (s : Step) → IsOnce (present d s)
 once_present d s = at_test (is_some (child s d))
   where
     at_test : (b : Bool) → IsOnce (cond b (s ∷ []) [])
@@ -202,7 +202,7 @@ IsSingle (nth n) = Unit {0}
 IsSingle (union ns) = ⊥
 IsSingle (range from to by) = Unit {0}
 
-once_selected : (p : Plain) (d : Data) → IsSingle p → IsDocument d → IsOnce (selected p d)
+once_selected : (p : Plain) (d : Document) → IsSingle p → IsOrderedDocument d → IsOnce (selected p d)
 once_selected every d s h = once_children d h
 once_selected (named k) d s h = once_present d (name k)
 once_selected (listed []) d s h = tt
@@ -222,57 +222,57 @@ single_token text _ h = tt
 
 -- ---- what stands in a document is a document
 
-document_item : (i : ℕ) (ds : Items) (c : Data) → AreDocuments ds → get_item i ds ≡ Some c → IsDocument c
+document_item : (i : ℕ) (ds : Items) (c : Document) → AreOrderedDocuments ds → get_item i ds ≡ Some c → IsOrderedDocument c
 document_item i no_items c h e = cc
-document_item zero (item d ds) c h e = let same : d ≡ c = cc in subst IsDocument same h.0
+document_item zero (item d ds) c h e = let same : d ≡ c = cc in subst IsOrderedDocument same h.0
 document_item (suc i) (item d ds) c h e = document_item i ds c h.1 e
 
-document_member : (k : List ℕ) (ms : Members) (c : Data) → HoldDocuments ms → get_member k ms ≡ Some c → IsDocument c
+document_member : (k : List ℕ) (ms : Members) (c : Document) → HoldOrderedDocuments ms → get_member k ms ≡ Some c → IsOrderedDocument c
 document_member k no_members c h e = cc
 document_member k (member l d ms) c h e = at_order (slice_cmp nat_cmp k l) (λ later. document_member k ms c h.1 later) e
   where
-    at_order : (o : Ordering) → (get_member k ms ≡ Some c → IsDocument c) → match_ordering o (get_member k ms) (Some d) (get_member k ms) ≡ Some c → IsDocument c
+    at_order : (o : Ordering) → (get_member k ms ≡ Some c → IsOrderedDocument c) → match_ordering o (get_member k ms) (Some d) (get_member k ms) ≡ Some c → IsOrderedDocument c
     at_order Less go e = go e
-    at_order Equal go e = let same : d ≡ c = cc in subst IsDocument same h.0
+    at_order Equal go e = let same : d ≡ c = cc in subst IsOrderedDocument same h.0
     at_order Greater go e = go e
 
-document_child : (s : Step) (d c : Data) → IsDocument d → child s d ≡ Some c → IsDocument c
+document_child : (s : Step) (d c : Document) → IsOrderedDocument d → child s d ≡ Some c → IsOrderedDocument c
 document_child (name k) (object ms) c h e = document_member k ms c h.1 e
 document_child (index i) (array ds) c h e = document_item i ds c h e
 document_child _ _ c h e = cc
 
-document_at : (l : Location) (d c : Data) → IsDocument d → at d l ≡ Some c → IsDocument c
-document_at [] d c h e = let same : d ≡ c = cc in subst IsDocument same h
+document_at : (l : Location) (d c : Document) → IsOrderedDocument d → at d l ≡ Some c → IsOrderedDocument c
+document_at [] d c h e = let same : d ≡ c = cc in subst IsOrderedDocument same h
 document_at (s ∷ l) d c h e = by (child s d) (λ x here there. document_at l x c here there) refl e
   where
-    by : (o : Option Data) → ((x : Data) → IsDocument x → at x l ≡ Some c → IsDocument c) → child s d ≡ o → option_and_then (λ x. at x l) o ≡ Some c → IsDocument c
+    by : (o : Option Document) → ((x : Document) → IsOrderedDocument x → at x l ≡ Some c → IsOrderedDocument c) → child s d ≡ o → option_and_then (λ x. at x l) o ≡ Some c → IsOrderedDocument c
     by None go is e = cc
     by (Some x) go is e = go x (document_child s d x h is) e
 
 -- ---- paths
 
-abbrev steps_at : Data → Plain → Location → List Step
+abbrev steps_at : Document → Plain → Location → List Step
 steps_at doc p l = unwrap_or (option_map (selected p) (at doc l)) []
 
-from-extended : (doc : Data) (p : Plain) (l : Location) → from doc (single_steps p) l ≡ extended l (steps_at doc p l)
+from-extended : (doc : Document) (p : Plain) (l : Location) → from doc (single_steps p) l ≡ extended l (steps_at doc p l)
 from-extended doc p l = by (at doc l)
   where
-    by : (o : Option Data) → map (λ m. l ++ m) (unwrap_or (option_map (single_steps p) o) []) ≡ extended l (unwrap_or (option_map (selected p) o) [])
+    by : (o : Option Document) → map (λ m. l ++ m) (unwrap_or (option_map (single_steps p) o) []) ≡ extended l (unwrap_or (option_map (selected p) o) [])
     by None = refl
     by (Some d) = refl
 
-step-extended : (doc : Data) (p : Plain) (ls : List Location) → step doc p ls ≡ flat_map (λ l. extended l (steps_at doc p l)) ls
+step-extended : (doc : Document) (p : Plain) (ls : List Location) → step doc p ls ≡ flat_map (λ l. extended l (steps_at doc p l)) ls
 step-extended doc p [] = refl
 step-extended doc p (l ∷ ls) = ap₂ (λ (xs ys : List Location). xs ++ ys) (from-extended doc p l) (step-extended doc p ls)
 
-once_steps_at : (doc : Data) (p : Plain) → IsDocument doc → IsSingle p → (l : Location) → IsOnce (steps_at doc p l)
+once_steps_at : (doc : Document) (p : Plain) → IsOrderedDocument doc → IsSingle p → (l : Location) → IsOnce (steps_at doc p l)
 once_steps_at doc p h s l = by (at doc l) refl
   where
-    by : (o : Option Data) → at doc l ≡ o → IsOnce (unwrap_or (option_map (selected p) o) [])
+    by : (o : Option Document) → at doc l ≡ o → IsOnce (unwrap_or (option_map (selected p) o) [])
     by None is = tt
     by (Some d) is = once_selected p d s (document_at l doc d h is)
 
-once_inner : (text : List ℕ) (doc : Data) (inner : Inner) (ls : List Location) → IsDocument doc → IsTrue (is_single_inner inner) → IsOnce ls → IsOnce (inner_on text doc inner false ls)
+once_inner : (text : List ℕ) (doc : Document) (inner : Inner) (ls : List Location) → IsOrderedDocument doc → IsTrue (is_single_inner inner) → IsOnce ls → IsOnce (inner_on text doc inner false ls)
 once_inner text doc (plain token) ls h s once =
     let p = plain_of text token in
     subst IsOnce (sym (step-extended doc p ls)) (once_each (steps_at doc p) ls (once_steps_at doc p h (single_token text token s)) once)
@@ -288,14 +288,14 @@ three true true false h = cc
 three true false c h = cc
 three false b c h = cc
 
-once_follow : (text : List ℕ) (doc : Data) (steps : PathSteps) (ls : List Location) → IsDocument doc → IsTrue (has_single_steps steps) → IsOnce ls → IsOnce (follow text doc steps ls)
+once_follow : (text : List ℕ) (doc : Document) (steps : PathSteps) (ls : List Location) → IsOrderedDocument doc → IsTrue (has_single_steps steps) → IsOnce ls → IsOnce (follow text doc steps ls)
 once_follow text doc no_steps ls h s once = once
 once_follow text doc (step_then true bracket inner rest) ls h s once = absurd (true≢false (sym s))
 once_follow text doc (step_then false bracket inner rest) ls h s once =
     let parts = three true (is_single_inner inner) (has_single_steps rest) s in
     once_follow text doc rest (inner_on text doc inner false ls) h parts.2 (once_inner text doc inner ls h parts.1 once)
 
-once_sel : (text : List ℕ) (doc : Data) (p : Path) → IsDocument doc → IsTrue (is_single p) → IsOnce (sel text doc p)
+once_sel : (text : List ℕ) (doc : Document) (p : Path) → IsOrderedDocument doc → IsTrue (is_single p) → IsOnce (sel text doc p)
 once_sel text doc (path true steps) h s = once_follow text doc steps ([] ∷ []) h s (tt, tt)
 once_sel text doc (path false steps) h s = once_follow text doc steps ([] ∷ []) h s (tt, tt)
 

@@ -2,7 +2,7 @@
 use Rattle.std.proofs.Common.{◌≡◌, ℕ, Bool, ◌&&◌, ◌||◌, not, cond, List, [], ◌∷◌, inl, inr, refl, ap, ap₂, ◌∙◌}
 use Rattle.std.proofs.Math.Bool.{and_comm, or_comm}
 use Rattle.std.specs.Prelude.{filter, if◌then◌else◌}
-use Rattle.serde_json.specs.Data.{Data}
+use Rattle.jsonpath_nodes.specs.document.Document.{Document}
 use Rattle.jsonpath_paths.specs.tree.Tree as tree
 use Rattle.jsonpath_paths.specs.tree.Tree.{Path, path, PathSteps, no_steps, step_then, Inner, plain, Condition, lone, compare, join, Term, at_path, literal}
 use Rattle.jsonpath_paths.specs.declared.token.tokens.FilterToken.{FilterToken}
@@ -50,7 +50,7 @@ module _ (s t : List ℕ) where
 
 -- ---- the selection
 
-module _ (s t : List ℕ) (doc : Data) where
+module _ (s t : List ℕ) (doc : Document) where
   mutual
     reordered_reached : (p p' : Path) → IsReordered s t p p' → (l : Location) → reached s doc p l ≡ reached t doc p' l
     reordered_reached (path a ss) (path a' ss') h l =

@@ -1,7 +1,7 @@
 -- What begins at the root is the same at every candidate.
 use Rattle.std.proofs.Common.{◌≡◌, ℕ, List, [], ◌∷◌, Bool, true, false, cond, ◌&&◌, refl, ap, ap₂, ◌∙◌}
 use Rattle.std.specs.Prelude.{filter, IsTrue}
-use Rattle.serde_json.specs.Data.{Data}
+use Rattle.jsonpath_nodes.specs.document.Document.{Document}
 use Rattle.jsonpath_paths.specs.tree.Tree.{Path, path, lone, compare, join, Term, at_path, literal}
 use Rattle.jsonpath_nodes.specs.place.Location.{Location}
 use Rattle.jsonpath_select.specs.Meaning.{reached, holds, values, is_some_location, values_at}
@@ -15,11 +15,11 @@ both : (a b : Bool) → IsTrue (a && b) → IsTrue a × IsTrue b
 both true b h = (refl, h)
 both false b h = cc
 
-rooted_path : (text : List ℕ) (doc : Data) (p : Path) (c d : Location) → IsTrue (is_rooted_path p) → reached text doc p c ≡ reached text doc p d
+rooted_path : (text : List ℕ) (doc : Document) (p : Path) (c d : Location) → IsTrue (is_rooted_path p) → reached text doc p c ≡ reached text doc p d
 rooted_path text doc (path true steps) c d h = refl
 rooted_path text doc (path false steps) c d h = cc
 
-rooted_term : (text : List ℕ) (doc : Data) (t : Term) (c d : Location) → IsTrue (is_rooted_term t) → values text doc t c ≡ values text doc t d
+rooted_term : (text : List ℕ) (doc : Document) (t : Term) (c d : Location) → IsTrue (is_rooted_term t) → values text doc t c ≡ values text doc t d
 rooted_term text doc (at_path p) c d h = ap (values_at doc) (rooted_path text doc p c d h)
 rooted_term text doc (literal token) c d h = refl
 

@@ -1,6 +1,6 @@
 -- The targets of a path, by a set of spots at what it selects.
 use Rattle.std.proofs.Common.{◌≡◌, ℕ, List, map, ◌∙◌}
-use Rattle.serde_json.specs.Data.{Data}
+use Rattle.jsonpath_nodes.specs.document.Document.{Document}
 use Rattle.jsonpath_nodes.specs.place.Location.{Location}
 use Rattle.jsonpath_nodes.specs.place.Order.{once_in_order}
 use Rattle.jsonpath_nodes.specs.place.SpotPlace.{location_of}
@@ -9,5 +9,5 @@ use Rattle.jsonpath_select.specs.Meaning.{SelectsSet}
 use Rattle.jsonpath_select.specs.Targets.{AreTargets}
 
 -- a set of spots gives the targets
-pub targets_are : (text : List ℕ) (doc : Data) (spots : List Spot) (found : List Location) → SelectsSet text doc spots → found ≡ once_in_order (map location_of spots) → AreTargets text doc found
+pub targets_are : (text : List ℕ) (doc : Document) (spots : List Spot) (found : List Location) → SelectsSet text doc spots → found ≡ once_in_order (map location_of spots) → AreTargets text doc found
 targets_are text doc spots found selected once = record { path = selected.path; spelled = selected.spelled; holds = once ∙ selected.holds }

@@ -1,12 +1,12 @@
 -- A trial at the targets of a path.
 use Rattle.std.proofs.Common.{◌≡◌, ℕ, List, Result, subst, ◌∙◌}
-use Rattle.serde_json.specs.Data.{Data}
+use Rattle.jsonpath_nodes.specs.document.Document.{Document}
 use Rattle.jsonpath_nodes.specs.place.Location.{Location}
 use Rattle.jsonpath_nodes.specs.update.Trial.{TryUpdateCalls, IsTrial}
 use Rattle.jsonpath_select.specs.Targets.{AreTargets}
 use Rattle.jsonpath_select.specs.Tried.{IsTried}
 
-module _ {F E : Type 0} (calls : TryUpdateCalls F E) (text : List ℕ) (before : Data) (f g : F) (after : Data) where
+module _ {F E : Type 0} (calls : TryUpdateCalls F E) (text : List ℕ) (before : Document) (f g : F) (after : Document) where
   -- a trial at the targets, handed over as a slice
   pub tried_at : (found slice : List Location) (outcome : Result (Unit {0}) E) → slice ≡ found → AreTargets text before found → IsTrial calls slice before f outcome g after → IsTried calls text before f outcome g after
   tried_at found slice outcome same are trial = record {

@@ -4,11 +4,12 @@ use Rattle.std.specs.Prelude.{ℤ}
 use Rattle.std.specs.BTreeSet.{insert_key}
 use Rattle.std.specs.Cmp.{IsTotalOrder, back_total, bool_cmp_total}
 use Rattle.std.specs.List.{list_any}
-use Rattle.std.specs.Ordering.{int_cmp, bool_cmp, is_lt, is_le, is_eq, is_gt, is_ge, flip_args, ordering_reverse, match_ordering}
-use Rattle.std.proofs.lemmas.Cmp.{alike_right, nat_list_cmp_total, int_cmp_total}
+use Rattle.std.specs.Ordering.{bool_cmp, is_lt, is_le, is_eq, is_gt, is_ge, flip_args, ordering_reverse, match_ordering}
+use Rattle.std.proofs.lemmas.Cmp.{alike_right, nat_list_cmp_total}
 use Rattle.std.proofs.Math.Bool.{or-false}
-use Rattle.jsonpath_nodes.specs.compare.Comparisons.{Comparison, equal, not_equal, less, less_or_equal, greater, greater_or_equal, Seen, null_value, truth, decimal, text, unread, list, members, pair, is_satisfied, is_equal, is_not_equal}
-use Rattle.jsonpath_select.specs.comparison.Extremes.{least, greatest, some_pair, ends_meet, sets_meet, EndsDecide, truths, decimals, texts, text_cmp, is_null_value, meets, nulls_meet, is_unequal, EndsDecidePairs}
+use Rattle.jsonpath_nodes.specs.compare.Comparisons.{Comparison, equal, not_equal, less, less_or_equal, greater, greater_or_equal, Seen, null_value, truth, fraction, text, unread, list, members, pair, is_satisfied, is_equal, is_not_equal}
+use Rattle.jsonpath_nodes.specs.compare.Fractions.{fraction_order, fraction_total}
+use Rattle.jsonpath_select.specs.comparison.Extremes.{least, greatest, some_pair, ends_meet, sets_meet, EndsDecide, truths, fractions, texts, text_cmp, is_null_value, meets, nulls_meet, is_unequal, EndsDecidePairs}
 
 -- ---- the one value that decides
 
@@ -196,10 +197,10 @@ truth_row op a [] h = refl
 truth_row op a (truth b ∷ ys) h = ap (λ (r : Bool). is_satisfied op (bool_cmp a b) || r) (truth_row op a ys h)
 truth_row op a (y ∷ ys) h = more (is_not_equal op) (list_any (pair op (truth a)) ys) (list_any (λ b. is_satisfied op (bool_cmp a b)) (truths ys)) h (truth_row op a ys h)
 
-decimal_row : (op : Comparison) (a : ℤ) (ys : List Seen) → is_not_equal op ≡ false → list_any (pair op (decimal a)) ys ≡ list_any (λ b. is_satisfied op (int_cmp a b)) (decimals ys)
-decimal_row op a [] h = refl
-decimal_row op a (decimal b ∷ ys) h = ap (λ (r : Bool). is_satisfied op (int_cmp a b) || r) (decimal_row op a ys h)
-decimal_row op a (y ∷ ys) h = more (is_not_equal op) (list_any (pair op (decimal a)) ys) (list_any (λ b. is_satisfied op (int_cmp a b)) (decimals ys)) h (decimal_row op a ys h)
+fraction_row : (op : Comparison) (p : ℤ × ℕ) (ys : List Seen) → is_not_equal op ≡ false → list_any (pair op (fraction p.0 p.1)) ys ≡ list_any (λ q. is_satisfied op (fraction_order p q)) (fractions ys)
+fraction_row op p [] h = refl
+fraction_row op p (fraction b n ∷ ys) h = ap (λ (r : Bool). is_satisfied op (fraction_order p (b, n)) || r) (fraction_row op p ys h)
+fraction_row op p (y ∷ ys) h = more (is_not_equal op) (list_any (pair op (fraction p.0 p.1)) ys) (list_any (λ q. is_satisfied op (fraction_order p q)) (fractions ys)) h (fraction_row op p ys h)
 
 text_row : (op : Comparison) (a : List ℕ) (ys : List Seen) → is_not_equal op ≡ false → list_any (pair op (text a)) ys ≡ list_any (λ b. is_satisfied op (text_cmp a b)) (texts ys)
 text_row op a [] h = refl
@@ -230,7 +231,7 @@ nulls op xs ys = list_any is_null_value xs && (is_equal op && list_any is_null_v
 abbrev by_kind : Comparison → List Seen → List Seen → Bool
 by_kind op xs ys =
     some_pair (λ a b. is_satisfied op (bool_cmp a b)) (truths xs) (truths ys)
-    || (some_pair (λ a b. is_satisfied op (int_cmp a b)) (decimals xs) (decimals ys)
+    || (some_pair (λ p q. is_satisfied op (fraction_order p q)) (fractions xs) (fractions ys)
     || (some_pair (λ a b. is_satisfied op (text_cmp a b)) (texts xs) (texts ys) || nulls op xs ys))
 
 first : (r t u : Bool) → (r || (t || u)) ≡ ((r || t) || u)
@@ -261,19 +262,19 @@ kind_rows op [] ys h = refl
 kind_rows op (null_value ∷ xs) ys h =
     ap₂ (λ (a b : Bool). a || b) (null_row op ys h) (kind_rows op xs ys h)
     ∙ fourth (is_equal op && list_any is_null_value ys) (some_pair (λ a b. is_satisfied op (bool_cmp a b)) (truths xs) (truths ys))
-    (some_pair (λ a b. is_satisfied op (int_cmp a b)) (decimals xs) (decimals ys)) (some_pair (λ a b. is_satisfied op (text_cmp a b)) (texts xs) (texts ys)) (list_any is_null_value xs)
+    (some_pair (λ p q. is_satisfied op (fraction_order p q)) (fractions xs) (fractions ys)) (some_pair (λ a b. is_satisfied op (text_cmp a b)) (texts xs) (texts ys)) (list_any is_null_value xs)
 kind_rows op (truth a ∷ xs) ys h =
     ap₂ (λ (a b : Bool). a || b) (truth_row op a ys h) (kind_rows op xs ys h)
     ∙ first (list_any (λ b. is_satisfied op (bool_cmp a b)) (truths ys)) (some_pair (λ a b. is_satisfied op (bool_cmp a b)) (truths xs) (truths ys))
-    (some_pair (λ a b. is_satisfied op (int_cmp a b)) (decimals xs) (decimals ys) || (some_pair (λ a b. is_satisfied op (text_cmp a b)) (texts xs) (texts ys) || nulls op xs ys))
-kind_rows op (decimal a ∷ xs) ys h =
-    ap₂ (λ (a b : Bool). a || b) (decimal_row op a ys h) (kind_rows op xs ys h)
-    ∙ second (list_any (λ b. is_satisfied op (int_cmp a b)) (decimals ys)) (some_pair (λ a b. is_satisfied op (bool_cmp a b)) (truths xs) (truths ys))
-    (some_pair (λ a b. is_satisfied op (int_cmp a b)) (decimals xs) (decimals ys)) (some_pair (λ a b. is_satisfied op (text_cmp a b)) (texts xs) (texts ys) || nulls op xs ys)
+    (some_pair (λ p q. is_satisfied op (fraction_order p q)) (fractions xs) (fractions ys) || (some_pair (λ a b. is_satisfied op (text_cmp a b)) (texts xs) (texts ys) || nulls op xs ys))
+kind_rows op (fraction a m ∷ xs) ys h =
+    ap₂ (λ (a b : Bool). a || b) (fraction_row op (a, m) ys h) (kind_rows op xs ys h)
+    ∙ second (list_any (λ q. is_satisfied op (fraction_order (a, m) q)) (fractions ys)) (some_pair (λ a b. is_satisfied op (bool_cmp a b)) (truths xs) (truths ys))
+    (some_pair (λ p q. is_satisfied op (fraction_order p q)) (fractions xs) (fractions ys)) (some_pair (λ a b. is_satisfied op (text_cmp a b)) (texts xs) (texts ys) || nulls op xs ys)
 kind_rows op (text a ∷ xs) ys h =
     ap₂ (λ (a b : Bool). a || b) (text_row op a ys h) (kind_rows op xs ys h)
     ∙ third (list_any (λ b. is_satisfied op (text_cmp a b)) (texts ys)) (some_pair (λ a b. is_satisfied op (bool_cmp a b)) (truths xs) (truths ys))
-    (some_pair (λ a b. is_satisfied op (int_cmp a b)) (decimals xs) (decimals ys)) (some_pair (λ a b. is_satisfied op (text_cmp a b)) (texts xs) (texts ys)) (nulls op xs ys)
+    (some_pair (λ p q. is_satisfied op (fraction_order p q)) (fractions xs) (fractions ys)) (some_pair (λ a b. is_satisfied op (text_cmp a b)) (texts xs) (texts ys)) (nulls op xs ys)
 kind_rows op (unread ∷ xs) ys h = more (list_any (pair op unread) ys) (some_pair (pair op) xs ys) (by_kind op xs ys) (other_row op unread ys (λ y. h)) (kind_rows op xs ys h)
 kind_rows op (list ∷ xs) ys h = more (list_any (pair op list) ys) (some_pair (pair op) xs ys) (by_kind op xs ys) (other_row op list ys (λ y. h)) (kind_rows op xs ys h)
 kind_rows op (members ∷ xs) ys h = more (list_any (pair op members) ys) (some_pair (pair op) xs ys) (by_kind op xs ys) (other_row op members ys (λ y. h)) (kind_rows op xs ys h)
@@ -290,5 +291,5 @@ pub extremes_and_sets_decide_pairs : EndsDecidePairs
 extremes_and_sets_decide_pairs op xs ys h =
     kind_rows op xs ys (unequal_is op h)
     ∙ ap₂ (λ (a b : Bool). a || b) (meets_is bool_cmp bool_cmp_total op (truths xs) (truths ys) h)
-    (ap₂ (λ (a b : Bool). a || b) (meets_is int_cmp int_cmp_total op (decimals xs) (decimals ys) h)
+    (ap₂ (λ (a b : Bool). a || b) (meets_is fraction_order fraction_total op (fractions xs) (fractions ys) h)
     (ap₂ (λ (a b : Bool). a || b) (meets_is text_cmp nat_list_cmp_total op (texts xs) (texts ys) h) (nulls_is op xs ys)))

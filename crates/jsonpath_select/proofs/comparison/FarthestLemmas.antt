@@ -6,20 +6,21 @@ use Rattle.std.specs.Cmp.{IsTotalOrder, back_total, bool_cmp_total}
 use Rattle.std.specs.Cmp.Lexicographic.{slice_cmp}
 use Rattle.std.specs.List.{list_any}
 use Rattle.std.specs.Ordering.{nat_cmp, int_cmp, bool_cmp, is_lt, is_le, is_eq, flip_args, ordering_reverse, match_ordering}
-use Rattle.std.proofs.lemmas.Cmp.{alike_right, nat_list_cmp_total, int_cmp_total}
+use Rattle.std.proofs.lemmas.Cmp.{alike_right, nat_list_cmp_total}
 use Rattle.std.proofs.Math.Bool.{or-false}
 use Rattle.jsonpath_paths.specs.Numbers.{decimal_units}
 use Rattle.jsonpath_paths.specs.declared.decimal.Decimal.{Decimal}
 use Rattle.jsonpath_paths.specs.declared.token.tokens.FilterToken.{FilterToken}
 use Rattle.jsonpath_paths.specs.declared.token.tokens.FilterToken.TheVariants as op
 use Rattle.jsonpath_nodes.specs.compare.Atoms.{seen_by}
-use Rattle.jsonpath_nodes.specs.compare.Comparisons.{Comparison, equal, less, less_or_equal, greater, greater_or_equal, Seen, null_value, truth, decimal, text, pair, is_satisfied}
+use Rattle.jsonpath_nodes.specs.compare.Comparisons.{Comparison, equal, less, less_or_equal, greater, greater_or_equal, Seen, null_value, truth, fraction, decimal, text, pair, is_satisfied, fraction_cmp}
+use Rattle.jsonpath_nodes.specs.compare.Fractions.{fraction_order, fraction_total, units_cmp}
 use Rattle.jsonpath_nodes.specs.declared.compare.atom.Atom.{Atom}
 use Rattle.jsonpath_select.specs.Parts.{is_pair}
 use Rattle.jsonpath_select.specs.plan.Deciders.{is_order, some_right, one_of, extreme_values, is_among_known}
 use Rattle.jsonpath_select.specs.declared.comparison.extremes.Extremes.{Extremes}
 use Rattle.jsonpath_select.specs.declared.comparison.value_set.ValueSet.{ValueSet}
-use Rattle.jsonpath_select.proofs.comparison.ByKindLemmas.{ByKind, truth_or, decimal_or, text_or}
+use Rattle.jsonpath_select.proofs.comparison.ByKindLemmas.{ByKind, number_over, truth_or, number_or, text_or}
 use Rattle.jsonpath_select.proofs.comparison.ExtremeLemmas.{lt_is, back_lt, back_le, below_right, upto_right}
 
 -- ---- one more value
@@ -195,10 +196,10 @@ module _ (f : FilterToken) (order : IsTrue (is_order f)) (x : Seen) where
 
     pub farther_number : (a v : Decimal) → e.number ≡ Some a → is_pair f (decimal (decimal_units a)) (decimal (decimal_units v)) ≡ true
         → some_right f x (extreme_values (record e { number = Some v })) ≡ (is_pair f x (decimal (decimal_units v)) || some_right f x (extreme_values e))
-    farther_number a v is beyond = farther_end (λ d. decimal (decimal_units d)) among_numbers number_out e.number v a is (far_kind decimal decimal_or int_cmp int_cmp_total (λ o b c. refl) (decimal_units a) (decimal_units v)) beyond
+    farther_number a v is beyond = farther_end (λ d. decimal (decimal_units d)) among_numbers number_out e.number v a is (far_kind number_over number_or fraction_order fraction_total (λ o b c. refl) (decimal_units a, 18) (decimal_units v, 18)) beyond
 
     pub nearer_number : (a v : Decimal) → e.number ≡ Some a → is_pair f (decimal (decimal_units a)) (decimal (decimal_units v)) ≡ false → some_right f x (extreme_values e) ≡ (is_pair f x (decimal (decimal_units v)) || some_right f x (extreme_values e))
-    nearer_number a v is within = nearer_end (λ d. decimal (decimal_units d)) among_numbers number_out e.number v a is (near_kind decimal decimal_or int_cmp int_cmp_total (λ o b c. refl) (decimal_units a) (decimal_units v)) within
+    nearer_number a v is within = nearer_end (λ d. decimal (decimal_units d)) among_numbers number_out e.number v a is (near_kind number_over number_or fraction_order fraction_total (λ o b c. refl) (decimal_units a, 18) (decimal_units v, 18)) within
 
     pub first_text : (v : Bor (List ℕ)) → e.text ≡ None → some_right f x (extreme_values (record e { text = Some v })) ≡ (is_pair f x (text v.now) || some_right f x (extreme_values e))
     first_text v none = first_end (λ t. text t.now) among_texts text_out e.text v none
@@ -231,15 +232,16 @@ nothing_known all k x e g n t f = ap (λ b. b || all) (by x)
     by null_value = n
     by (truth true) = t
     by (truth false) = f
-    by (decimal u) = ap (list_any (λ d. is_eq (int_cmp u (decimal_units d)))) e
+    by (fraction a m) = ap (list_any (λ d. is_eq (fraction_cmp a m (decimal_units d) 18))) e
     by (text s) = ap (list_any (λ (d : Bor (List ℕ)). is_eq (slice_cmp nat_cmp s d.now))) g
     by _ = refl
 
 pub number_known : (k : ValueSet) (d : Decimal) (new : List Decimal) (x : Seen) → new ≡ insert_key (λ a b. int_cmp (decimal_units a) (decimal_units b)) k.numbers.keys d
     → is_among_known (record k { numbers = record { keys = new } }) x ≡ (pair equal x (decimal (decimal_units d)) || is_among_known k x)
-number_known k d new (decimal u) h =
-    ap (list_any (λ e. is_eq (int_cmp u (decimal_units e)))) h
-    ∙ insert_test (λ a b. int_cmp (decimal_units a) (decimal_units b)) (λ e. is_eq (int_cmp u (decimal_units e))) (λ a b same. ap is_eq (alike_right int_cmp_total (decimal_units a) (decimal_units b) u same)) d k.numbers.keys
+number_known k d new (fraction a m) h =
+    ap (list_any (λ e. is_eq (fraction_cmp a m (decimal_units e) 18))) h
+    ∙ insert_test (λ a b. int_cmp (decimal_units a) (decimal_units b)) (λ e. is_eq (fraction_cmp a m (decimal_units e) 18))
+    (λ b c same. ap is_eq (alike_right fraction_total (decimal_units b, 18) (decimal_units c, 18) (a, m) (sym (units_cmp (decimal_units b) (decimal_units c)) ∙ same))) d k.numbers.keys
 number_known k d new (truth true) h = refl
 number_known k d new _ h = refl
 

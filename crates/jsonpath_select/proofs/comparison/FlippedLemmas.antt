@@ -3,9 +3,10 @@ use Rattle.std.proofs.Common.{◌≡◌, ℕ, zero, suc, List, [], ◌∷◌, Bo
 use Rattle.std.specs.Cmp.{IsTotalOrder, bool_cmp_total}
 use Rattle.std.specs.Cmp.Lexicographic.{slice_cmp}
 use Rattle.std.specs.List.{list_any}
-use Rattle.std.specs.Ordering.{nat_cmp, int_cmp, bool_cmp, ordering_reverse}
-use Rattle.std.proofs.lemmas.Cmp.{nat_list_cmp_total, int_cmp_total}
-use Rattle.serde_json.specs.Data.{Data}
+use Rattle.std.specs.Ordering.{nat_cmp, bool_cmp, ordering_reverse}
+use Rattle.std.proofs.lemmas.Cmp.{nat_list_cmp_total}
+use Rattle.jsonpath_nodes.specs.compare.Fractions.{fraction_order, fraction_total}
+use Rattle.jsonpath_nodes.specs.document.Document.{Document}
 use Rattle.jsonpath_paths.specs.declared.token.tokens.FilterToken.{FilterToken}
 use Rattle.jsonpath_paths.specs.declared.token.tokens.FilterToken.TheVariants as op
 use Rattle.jsonpath_nodes.specs.compare.Comparisons.{Comparison, equal, not_equal, less, less_or_equal, greater, greater_or_equal, Seen, pair, is_satisfied, is_equal, is_not_equal}
@@ -53,7 +54,7 @@ same_turned _ = (refl, refl)
 
 pub pair_turned : (o : Comparison) (x y : Seen) → pair o x y ≡ pair (turned o) y x
 pair_turned o =
-    two_kinds (λ x y. pair o x y ≡ pair (turned o) y x) (same_turned o).0 (in_order bool_cmp bool_cmp_total o) (in_order int_cmp int_cmp_total o) (in_order (slice_cmp nat_cmp) nat_list_cmp_total o)
+    two_kinds (λ x y. pair o x y ≡ pair (turned o) y x) (same_turned o).0 (in_order bool_cmp bool_cmp_total o) (in_order fraction_order fraction_total o) (in_order (slice_cmp nat_cmp) nat_list_cmp_total o)
     (λ x y apart. (apart o).0 ∙ (same_turned o).1 ∙ sym (apart (turned o)).1)
 
 pair_flipped : (f : FilterToken) (x y : Seen) → is_pair f x y ≡ is_pair (with_sides_swapped f) y x
@@ -70,7 +71,7 @@ pair_flipped _ x y = refl
 has_pair_flipped : (f : FilterToken) (xs ys : List Seen) → has_pair f xs ys ≡ has_pair (with_sides_swapped f) ys xs
 has_pair_flipped f xs ys = (λ i. list_any (λ x. list_any (λ y. pair_flipped f x y i) ys) xs) ∙ any_swap (λ x y. is_pair (with_sides_swapped f) y x) xs ys
 
-pub compared_flipped : (doc : Data) (f : FilterToken) (t k : ℕ) (a b : Operand) → compared doc (with_sides_swapped f) t k b a ≡ compared doc f t k a b
+pub compared_flipped : (doc : Document) (f : FilterToken) (t k : ℕ) (a b : Operand) → compared doc (with_sides_swapped f) t k b a ≡ compared doc f t k a b
 compared_flipped doc f t zero a b = refl
 compared_flipped doc f t (suc k) a b =
     ap₂ (λ h (ts : List ℕ). cond h (t ∷ ts) ts) (sym (has_pair_flipped f (values_front doc t a) (values_front doc t b))) (compared_flipped doc f (suc t) k (values_behind t a) (values_behind t b))

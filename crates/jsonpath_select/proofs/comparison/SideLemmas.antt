@@ -3,7 +3,7 @@ use Rattle.std.proofs.Common.{◌≡◌, ℕ, zero, suc, ◌+◌, ◌-◌, ◌==
 use Rattle.std.specs.Prelude.{option_map}
 use Rattle.std.specs.List.{prefix_len}
 use Rattle.std.proofs.lemmas.List.{drop-map, take-map, drop-drop}
-use Rattle.serde_json.specs.Data.{Data}
+use Rattle.jsonpath_nodes.specs.document.Document.{Document}
 use Rattle.jsonpath_nodes.specs.place.Location.{Location, at}
 use Rattle.jsonpath_nodes.specs.compare.Comparisons.{Seen, seen}
 use Rattle.jsonpath_select.specs.Meaning.{values_at}
@@ -27,7 +27,7 @@ past n (of_path f) = of_path (record f { pairs = drop n f.pairs })
 past n (tags ts) = tags ts
 past n (literal vs) = literal vs
 
-seen_there : (doc : Data) (ls : List Location) (atoms : List Atom) → map (λ (a : Atom). Some (seen_by a)) atoms ≡ map (λ l. option_map seen (at doc l)) ls → map seen_by atoms ≡ values_at doc ls
+seen_there : (doc : Document) (ls : List Location) (atoms : List Atom) → map (λ (a : Atom). Some (seen_by a)) atoms ≡ map (λ l. option_map seen (at doc l)) ls → map seen_by atoms ≡ values_at doc ls
 seen_there doc [] [] h = refl
 seen_there doc [] (a ∷ atoms) h = cc
 seen_there doc (l ∷ ls) [] h = cc
@@ -57,7 +57,7 @@ run_ends f s t from end own same ends =
     ends ∙ ap (λ b. cond b (length s.atoms.items) (from + prefix_len (λ u. u == t) (drop from s.tags.items))) own
     ∙ ap (λ (us : List ℕ). from + prefix_len (λ u. u == t) us) (ap (drop from) same ∙ drop-map (λ (p : Tagged). p.0) from f.pairs)
 
-pub here_front : (doc : Data) (o : Operand) (s : Side) (t from end : ℕ) → ShowsSide doc o s → (s.is_constant ≡ true → from ≡ 0) → end ≡ end_of s t from
+pub here_front : (doc : Document) (o : Operand) (s : Side) (t from end : ℕ) → ShowsSide doc o s → (s.is_constant ≡ true → from ≡ 0) → end ≡ end_of s t from
     → map seen_by (take (end - from) (drop from s.atoms.items)) ≡ values_front doc t (past from o)
 here_front doc (of_path f) s t from end h start ends = by f.shared refl
   where
@@ -80,7 +80,7 @@ here_front doc (of_path f) s t from end h start ends = by f.shared refl
 here_front doc (tags ts) s t from end h start ends = absurd h
 here_front doc (literal vs) s t from end h start ends = ap (map seen_by) (all_there s t from end h.0 (start h.0) ends) ∙ h.1
 
-pub here_behind : (doc : Data) (o : Operand) (s : Side) (t from end next : ℕ) → ShowsSide doc o s → (s.is_constant ≡ true → from ≡ 0) → end ≡ end_of s t from → next ≡ cond s.is_constant 0 end
+pub here_behind : (doc : Document) (o : Operand) (s : Side) (t from end next : ℕ) → ShowsSide doc o s → (s.is_constant ≡ true → from ≡ 0) → end ≡ end_of s t from → next ≡ cond s.is_constant 0 end
     → values_behind t (past from o) ≡ past next o
 here_behind doc (of_path f) s t from end next h start ends goes = ap (λ (ps : List Tagged). of_path (record f { pairs = ps })) (by f.shared refl)
   where
@@ -97,7 +97,7 @@ pub past_none : (o : Operand) → past 0 o ≡ o
 past_none (of_path f) = refl
 past_none _ = refl
 
-pub compare_next : (doc : Data) (op : FilterToken) (a b : Operand) (l r : Side) (count t lf le ln rf re rn : ℕ) (holds : Bool) (xs ys : List Atom) (out out' all : List ℕ)
+pub compare_next : (doc : Document) (op : FilterToken) (a b : Operand) (l r : Side) (count t lf le ln rf re rn : ℕ) (holds : Bool) (xs ys : List Atom) (out out' all : List ℕ)
     → ShowsSide doc a l → ShowsSide doc b r → (l.is_constant ≡ true → lf ≡ 0) → (r.is_constant ≡ true → rf ≡ 0)
     → t < count → le ≡ end_of l t lf → re ≡ end_of r t rf → ln ≡ cond l.is_constant 0 le → rn ≡ cond r.is_constant 0 re
     → xs ≡ take (le - lf) (drop lf l.atoms.items) → ys ≡ take (re - rf) (drop rf r.atoms.items) → holds ≡ has_pair op (map seen_by xs) (map seen_by ys)
@@ -120,7 +120,7 @@ compare_next doc op a b l r count t lf le ln rf re rn holds xs ys out out' all h
     by false later e g = ap (λ (ts : List ℕ). ts ++ later) e ∙ g
 
 -- one tag more is compared, where the right side is the same for all tags
-pub compare_to_next : (doc : Data) (op : FilterToken) (a b : Operand) (l r : Side) (count t from end : ℕ) (holds : Bool) (xs : List Atom) (out out' all : List ℕ)
+pub compare_to_next : (doc : Document) (op : FilterToken) (a b : Operand) (l r : Side) (count t from end : ℕ) (holds : Bool) (xs : List Atom) (out out' all : List ℕ)
     → ShowsSide doc a l → ShowsSide doc b r → l.is_constant ≡ false → r.is_constant ≡ true → t < count → end ≡ from + prefix_len (λ u. u == t) (drop from l.tags.items)
     → xs ≡ take (end - from) (drop from l.atoms.items) → holds ≡ has_pair op (map seen_by xs) (map seen_by r.atoms.items) → out' ≡ cond holds (out ++ t ∷ []) out
     → out ++ compared doc op t (count - t) (past from a) b ≡ all → out' ++ compared doc op (t + 1) (count - (t + 1)) (past end a) b ≡ all
@@ -136,7 +136,7 @@ compare_to_next doc op a b l r count t from end holds xs out out' all ha hb own 
 -- ---- two sides that are the same for all tags
 
 -- an operand that is the same for all tags: a literal, or what was found from the root
-stays : (doc : Data) (o : Operand) (s : Side) (t : ℕ) → ShowsSide doc o s → s.is_constant ≡ true → (values_front doc t o ≡ map seen_by s.atoms.items) × (values_behind t o ≡ o)
+stays : (doc : Document) (o : Operand) (s : Side) (t : ℕ) → ShowsSide doc o s → s.is_constant ≡ true → (values_front doc t o ≡ map seen_by s.atoms.items) × (values_behind t o ≡ o)
 stays doc (of_path f) s t h constant = (
   ap (λ b. values_at doc (locations_at_tag b t f.pairs)) shares ∙ sym (seen_there doc (places f.pairs) s.atoms.items h.2),
   ap (λ b. of_path (record f { pairs = pairs_behind b t f.pairs })) shares,
@@ -147,7 +147,7 @@ stays doc (of_path f) s t h constant = (
 stays doc (tags ts) s t h constant = absurd h
 stays doc (literal vs) s t h constant = (sym h.1, refl)
 
-pub compared_once : (doc : Data) (op : FilterToken) (a b : Operand) (l r : Side) → ShowsSide doc a l → ShowsSide doc b r → l.is_constant ≡ true → r.is_constant ≡ true → (t count : ℕ)
+pub compared_once : (doc : Document) (op : FilterToken) (a b : Operand) (l r : Side) → ShowsSide doc a l → ShowsSide doc b r → l.is_constant ≡ true → r.is_constant ≡ true → (t count : ℕ)
     → all_tags_or_none (has_pair op (map seen_by l.atoms.items) (map seen_by r.atoms.items)) t count ≡ compared doc op t count a b
 compared_once doc op a b l r ha hb cl cr t zero = refl
 compared_once doc op a b l r ha hb cl cr t (suc count) =
@@ -162,18 +162,18 @@ some_each (a ∷ atoms) = ap (λ (xs : List (Option Seen)). Some (seen_by a) ∷
 
 -- ---- for marks of either kind: whether they keep their locations, where they stand, what they hold
 
-module _ {M : Type 0} (located : Bool) (stand_of : M → Location) (content_of : M → Data) where
+module _ {M : Type 0} (located : Bool) (stand_of : M → Location) (content_of : M → Document) where
   -- ---- one tag more
 
   -- ---- what an operand is seen as
 
-  seen_marks : (doc : Data) (ls : List Location) (marks : List M) → MarksStandAt located stand_of content_of doc ls marks → map (λ s. Some (seen (content_of s))) marks ≡ map (λ l. option_map seen (at doc l)) ls
+  seen_marks : (doc : Document) (ls : List Location) (marks : List M) → MarksStandAt located stand_of content_of doc ls marks → map (λ s. Some (seen (content_of s))) marks ≡ map (λ l. option_map seen (at doc l)) ls
   seen_marks doc [] [] h = refl
   seen_marks doc [] (s ∷ marks) h = cc
   seen_marks doc (l ∷ ls) [] h = cc
   seen_marks doc (l ∷ ls) (s ∷ marks) h =
       let here : (shown stand_of content_of) s ≡ look_kept located doc l = cc in
-      let there : at doc l ≡ Some (content_of s) = sym (ap (λ (x : Location × Option Data). x.1) here) in
+      let there : at doc l ≡ Some (content_of s) = sym (ap (λ (x : Location × Option Document). x.1) here) in
       let later : MarksStandAt located stand_of content_of doc ls marks = cc in
       rw there (ap (λ (xs : List (Option Seen)). Some (seen (content_of s)) ∷ xs) (seen_marks doc ls marks later))
 
@@ -181,7 +181,7 @@ module _ {M : Type 0} (located : Bool) (stand_of : M → Location) (content_of :
   some_seen [] = refl
   some_seen (s ∷ marks) = ap (λ (xs : List (Option Seen)). Some (seen (content_of s)) ∷ xs) (some_seen marks)
 
-  pub marks_side : (text : List ℕ) (doc : Data) (o : Operand) (x : ops.Operand M) (n : FoundOf M) (side : Side) → x ≡ found_on n → ShowsOperand located stand_of content_of text doc o x → side.is_constant ≡ n.is_shared → side.tags.items ≡ n.pairs.tags.items
+  pub marks_side : (text : List ℕ) (doc : Document) (o : Operand) (x : ops.Operand M) (n : FoundOf M) (side : Side) → x ≡ found_on n → ShowsOperand located stand_of content_of text doc o x → side.is_constant ≡ n.is_shared → side.tags.items ≡ n.pairs.tags.items
       → map seen_by side.atoms.items ≡ map (λ s. seen (content_of s)) n.pairs.marks.items → ShowsSide doc o side
   marks_side text doc o x n side is h constant same atoms = by o (subst (ShowsOperand located stand_of content_of text doc o) is h)
     where

@@ -3,13 +3,14 @@ use Rattle.std.proofs.Common.{◌≡◌, ℕ, zero, suc, ◌<◌, List, [], ◌�
 use Rattle.std.specs.Cmp.{bool_cmp_total}
 use Rattle.std.specs.List.{list_any}
 use Rattle.std.specs.Ordering.{is_ne}
-use Rattle.std.proofs.lemmas.Cmp.{nat_list_cmp_total, int_cmp_total}
+use Rattle.std.proofs.lemmas.Cmp.{nat_list_cmp_total}
 use Rattle.jsonpath_nodes.specs.compare.Atoms.{seen_by}
-use Rattle.jsonpath_nodes.specs.compare.Comparisons.{not_equal, Seen, truth, decimal, text, pair}
+use Rattle.jsonpath_nodes.specs.compare.Comparisons.{not_equal, Seen, truth, text, pair}
+use Rattle.jsonpath_nodes.specs.compare.Fractions.{fraction_total}
 use Rattle.jsonpath_nodes.specs.declared.compare.atom.Atom.{Atom}
 use Rattle.jsonpath_select.specs.plan.Deciders.{IsAmong}
 use Rattle.jsonpath_select.proofs.comparison.FlippedLemmas.{pair_turned}
-use Rattle.jsonpath_select.proofs.comparison.ByKindLemmas.{truth_or, decimal_or, text_or, two_kinds}
+use Rattle.jsonpath_select.proofs.comparison.ByKindLemmas.{number_over, truth_or, number_or, text_or, two_kinds}
 
 same_place : (o : Ordering) → is_ne o ≡ false → o ≡ Equal
 same_place Less e = cc
@@ -21,7 +22,7 @@ alike : (x f : Seen) → pair not_equal x f ≡ false → (a : Seen) → pair no
 alike =
     two_kinds (λ x f. pair not_equal x f ≡ false → (a : Seen) → pair not_equal x a ≡ pair not_equal f a) (λ h a. refl)
     (λ p q h. truth_or (λ a. pair not_equal (truth p) a ≡ pair not_equal (truth q) a) (λ r. ap is_ne (bool_cmp_total.congr p q r (same_place _ h))) (λ y other. (other not_equal p).1 ∙ sym (other not_equal q).1))
-    (λ p q h. decimal_or (λ a. pair not_equal (decimal p) a ≡ pair not_equal (decimal q) a) (λ r. ap is_ne (int_cmp_total.congr p q r (same_place _ h))) (λ y other. (other not_equal p).1 ∙ sym (other not_equal q).1))
+    (λ p q h. number_or (λ a. pair not_equal (number_over p) a ≡ pair not_equal (number_over q) a) (λ r. ap is_ne (fraction_total.congr p q r (same_place _ h))) (λ y other. (other not_equal p).1 ∙ sym (other not_equal q).1))
     (λ p q h. text_or (λ a. pair not_equal (text p) a ≡ pair not_equal (text q) a) (λ r. ap is_ne (nat_list_cmp_total.congr p q r (same_place _ h))) (λ y other. (other not_equal p).1 ∙ sym (other not_equal q).1))
     (λ x f apart h a. let never : true ≡ false = sym (apart not_equal).0 ∙ h in cc)
 

@@ -4,7 +4,7 @@ use Rattle.std.specs.Prelude.{filter}
 use Rattle.std.specs.List.{list_all}
 use Rattle.std.proofs.Math.Dec.{eqb-suc-zero}
 use Rattle.std.proofs.lemmas.List.{append_cancel_right, map-append, take-append-drop}
-use Rattle.serde_json.specs.Data.{Data}
+use Rattle.jsonpath_nodes.specs.document.Document.{Document}
 use Rattle.jsonpath_paths.specs.tree.Tree.{Path, path, PathSteps, no_steps, step_then, Inner, plain, Condition, lone, compare, join, Term, at_path}
 use Rattle.jsonpath_paths.specs.tree.Tree as tree
 use Rattle.jsonpath_paths.specs.declared.token.tokens.ParseToken.{ParseToken}
@@ -101,7 +101,7 @@ behind_begun left rest c ss begun is = is ∙ ap (behind_leave 0) begun ∙ past
 
 -- ---- where steps lead
 
-module _ (text : List ℕ) (doc : Data) where
+module _ (text : List ℕ) (doc : Document) where
   -- where no filter comes
   pub plain_followed : (left : List Instruction) (ss : PathSteps) (ls : List Location) → CodesSteps left ss → list_all is_plain_step left ≡ true → follow text doc ss ls ≡ along text doc left ls
   plain_followed [] no_steps ls e all = refl

@@ -2,7 +2,7 @@
 use Rattle.std.proofs.Common.{◌≡◌, ℕ, suc, ◌+◌, ◌<◌, Bool, false, List, [], ◌∷◌, ◌++◌, map, length, drop, get_or, Option, Some, None, refl, sym, ap, ◌∙◌, arith, drop-cons}
 use Rattle.std.proofs.lemmas.List.{map-append, drop-drop}
 use Rattle.std.specs.Prelude.{option_and_then}
-use Rattle.serde_json.specs.Data.{Data}
+use Rattle.jsonpath_nodes.specs.document.Document.{Document}
 use Rattle.jsonpath_paths.specs.declared.text.str_reader.StrRange.{StrRange}
 use Rattle.jsonpath_paths.specs.declared.token.tokens.ParseToken.{ParseToken}
 use Rattle.jsonpath_paths.specs.declared.token.tokens.ParseToken.TheVariants.{Key}
@@ -28,7 +28,7 @@ pub two_taken : (all : List Instruction) (at : ℕ) (i j : Instruction) (rest : 
 two_taken all at i j rest is =
     is ∙ ap (λ (is : List Instruction). i ∷ j ∷ is) (sym (ap (drop 2) is) ∙ drop-drop 2 at all)
 
-module _ (text : List ℕ) (doc : Data) where
+module _ (text : List ℕ) (doc : Document) where
   pub run_on : (is js : List code.Instruction) (s : State) → run_all text doc (is ++ js) s ≡ option_and_then (run_all text doc js) (run_all text doc is s)
   run_on [] js s = refl
   run_on (i ∷ is) js s = by (one text doc i s) (λ t. run_on is js t)
@@ -73,8 +73,8 @@ module _ (text : List ℕ) (doc : Data) where
 
 -- ---- for marks of either kind: whether they keep their locations, where they stand, what they hold
 
-module _ {M : Type 0} (located : Bool) (stand_of : M → Location) (content_of : M → Data) where
-  pub found_there : (text : List ℕ) (doc : Data) (g : machine.Found) (operands : List (Operand M)) → ShowsOperands located stand_of content_of text doc (of_path g ∷ []) operands → EndsInMarks operands
+module _ {M : Type 0} (located : Bool) (stand_of : M → Location) (content_of : M → Document) where
+  pub found_there : (text : List ℕ) (doc : Document) (g : machine.Found) (operands : List (Operand M)) → ShowsOperands located stand_of content_of text doc (of_path g ∷ []) operands → EndsInMarks operands
   found_there text doc g operands h = by h.1 h.2 h.3
     where
       by : (top : Operand M) → operands ≡ h.0 ++ top ∷ [] → ShowsOperand located stand_of content_of text doc (of_path g) top → EndsInMarks operands
@@ -82,5 +82,5 @@ module _ {M : Type 0} (located : Bool) (stand_of : M → Location) (content_of :
       by (operand.Tags v) e s = absurd s
       by (operand.Literal token) e s = absurd s
 
-  pub found_is : (text : List ℕ) (doc : Data) (g : machine.Found) (operands below : List (Operand M)) (n : Found M) → ShowsOperands located stand_of content_of text doc (of_path g ∷ []) operands → operands ≡ below ++ found_on n ∷ [] → ShowsFound located stand_of content_of doc g n
+  pub found_is : (text : List ℕ) (doc : Document) (g : machine.Found) (operands below : List (Operand M)) (n : Found M) → ShowsOperands located stand_of content_of text doc (of_path g ∷ []) operands → operands ≡ below ++ found_on n ∷ [] → ShowsFound located stand_of content_of doc g n
   found_is text doc g operands below n h e = (top_operand located stand_of content_of text doc (of_path g) [] operands below (found_on n) h e).0

@@ -1,7 +1,7 @@
 -- A tree's instructions leave the tree's meaning at each candidate.
 use Rattle.std.proofs.Common.{◌≡◌, ℕ, Bool, true, false, List, [], ◌∷◌, ◌++◌, length, Option, Some, refl, ap, ◌∙◌, append_assoc}
 use Rattle.std.specs.Prelude.{filter, option_map, option_and_then}
-use Rattle.serde_json.specs.Data.{Data}
+use Rattle.jsonpath_nodes.specs.document.Document.{Document}
 use Rattle.jsonpath_paths.specs.tree.Tree.{Path, path, PathSteps, no_steps, step_then, Inner, plain, Condition, lone, compare, join, Term, at_path}
 use Rattle.jsonpath_paths.specs.tree.Tree as tree
 use Rattle.jsonpath_nodes.specs.place.Location.{Location}
@@ -14,14 +14,14 @@ use Rattle.jsonpath_select.proofs.tagged.TagLemmas.{path_from, path_tags, term_f
 abbrev state : Found → List Found → List Operand → State
 state cand fs os = record { frames = cand ∷ fs; operands = os }
 
-pub entered-spread : (doc : Data) (leaves deep : Bool) (f : Location → List Location) (cs : List Location)
+pub entered-spread : (doc : Document) (leaves deep : Bool) (f : Location → List Location) (cs : List Location)
     → entered doc leaves deep (length cs) (spread f 0 cs) ≡ spread (λ c. gathered doc leaves deep (f c)) 0 cs
 entered-spread doc false false f cs = refl
 entered-spread doc true false f cs = each_tag-spread f (gathered doc true false) 0 cs
 entered-spread doc false true f cs = each_tag-spread f (gathered doc false true) 0 cs
 entered-spread doc true true f cs = each_tag-spread f (gathered doc true true) 0 cs
 
-module _ (text : List ℕ) (doc : Data) where
+module _ (text : List ℕ) (doc : Document) where
   -- what a condition leaves
   abbrev pub found : Condition → List Location → Operand
   found (lone p) cs = of_path (path_from text doc p 0 cs)

@@ -1,7 +1,7 @@
 -- The instructions of a path's token list are those of its steps, behind that of its root.
 use Rattle.std.proofs.Common.{◌≡◌, ℕ, ◌≤◌, ◌-◌, true, false, List, [], ◌∷◌, map, take, drop, length, refl, sym, ap, ◌∙◌, subst, arith}
 use Rattle.std.proofs.lemmas.List.{take_rest}
-use Rattle.serde_json.specs.Data.{Data}
+use Rattle.jsonpath_nodes.specs.document.Document.{Document}
 use Rattle.jsonpath_paths.specs.tree.Tree.{Path, path, PathSteps}
 use Rattle.jsonpath_paths.specs.tree.WellFormed.{IsPath}
 use Rattle.jsonpath_paths.specs.declared.token.tokens.ParseToken.{ParseToken}
@@ -14,14 +14,14 @@ use Rattle.jsonpath_select.specs.declared.machine.instruction.Instruction.{Instr
 use Rattle.jsonpath_select.proofs.machine.ScanLemmas.{scan_whole}
 
 -- behind the first instruction stand those of the steps, and what the path selects is where they lead from the root
-abbrev pub BeginsAtRoot : List ℕ → Data → Path → List Instruction → Type 0
+abbrev pub BeginsAtRoot : List ℕ → Document → Path → List Instruction → Type 0
 BeginsAtRoot text doc p is = (ss : PathSteps) × CodesSteps (take (length is - 1) (drop 1 is)) ss × (follow text doc ss ([] ∷ []) ≡ sel text doc p) × (1 ≤ length is)
 
-begins : (text : List ℕ) (doc : Data) (p : Path) (is : List Instruction) → IsPath p → map instruction_of is ≡ path_code p → BeginsAtRoot text doc p is
+begins : (text : List ℕ) (doc : Document) (p : Path) (is : List Instruction) → IsPath p → map instruction_of is ≡ path_code p → BeginsAtRoot text doc p is
 begins text doc (path true ss) [] h e = cc
 begins text doc (path true ss) (i ∷ is) h e = let later : CodesSteps is ss = cc in (ss, subst (λ (js : List Instruction). CodesSteps js ss) (sym (take_rest (i ∷ is) 1)) later, refl, omega arith)
 begins text doc (path false ss) is h e = let never : false ≡ true = h.0 in cc
 
-pub list_begins : (text : List ℕ) (doc : Data) (p : Path) (tokens : List ParseToken) (held found : List Instruction) → IsListOf text p tokens → held ≡ found → map instruction_of found ≡ (scan tokens).code → BeginsAtRoot text doc p held
+pub list_begins : (text : List ℕ) (doc : Document) (p : Path) (tokens : List ParseToken) (held found : List Instruction) → IsListOf text p tokens → held ≡ found → map instruction_of found ≡ (scan tokens).code → BeginsAtRoot text doc p held
 list_begins text doc p tokens held found h same is =
     begins text doc p held h.path (ap (λ (js : List Instruction). map instruction_of js) same ∙ is ∙ ap (λ (ts : List ParseToken). (scan ts).code) (sym h.list) ∙ scan_whole p h.path)

@@ -2,7 +2,7 @@
 use Rattle.std.proofs.Common.{◌≡◌, ℕ, zero, suc, ◌<◌, Bool, true, false, List, [], ◌∷◌, length, take, drop, Option, Some, None, refl, sym, ap, subst, arith}
 use Rattle.std.specs.Prelude.{ℤ}
 use Rattle.std.specs.List.{AllByRecursion, IsDistinct}
-use Rattle.serde_json.specs.Data.{Data}
+use Rattle.jsonpath_nodes.specs.document.Document.{Document}
 use Rattle.jsonpath_nodes.specs.place.Location.{Location, at, is_same}
 use Rattle.jsonpath_nodes.specs.place.Mark.{shown, look_kept, MarksStandAt}
 use Rattle.jsonpath_nodes.specs.step.Separate.{IsDisjoint, HasNamesInOrder, NamesInOrderAt, SelectsNoneTwice, goes_by_names, in_one_array, in_one_branch, is_every}
@@ -23,11 +23,11 @@ few_disjoint (l ∷ []) few = (tt, tt)
 few_disjoint (l ∷ m ∷ ls) few = absurd (omega arith)
 
 -- no name is `*`, nor is an index, be it a whole number or none
-pub no_star_by_name : (doc : Data) (p : Plain) (ls : List Location) → goes_by_names p ≡ true → is_every p ≡ true → NamesInOrderAt doc ls
+pub no_star_by_name : (doc : Document) (p : Plain) (ls : List Location) → goes_by_names p ≡ true → is_every p ≡ true → NamesInOrderAt doc ls
 no_star_by_name doc every ls h k = cc
 no_star_by_name doc _ ls h k = cc
 
-pub no_star_disjoint : (doc : Data) (p : Plain) (ls : List Location) → is_every p ≡ false → is_every p ≡ true → NamesInOrderAt doc ls
+pub no_star_disjoint : (doc : Document) (p : Plain) (ls : List Location) → is_every p ≡ false → is_every p ≡ true → NamesInOrderAt doc ls
 no_star_disjoint doc p ls h k = cc
 
 pub index_is_no_star : (o : Option ℤ) → is_every (at_index o) ≡ false
@@ -41,13 +41,13 @@ index_once (Some n) = tt
 
 -- ---- marks whose values have their names in order
 
-module _ {M : Type 0} (located : Bool) (stand : M → Location) (content : M → Data) where
-  pub named_in_order : (doc : Data) (ls : List Location) (ms : List M) → MarksStandAt located stand content doc ls ms → AllByRecursion (λ m. HasNamesInOrder (content m)) ms → NamesInOrderAt doc ls
+module _ {M : Type 0} (located : Bool) (stand : M → Location) (content : M → Document) where
+  pub named_in_order : (doc : Document) (ls : List Location) (ms : List M) → MarksStandAt located stand content doc ls ms → AllByRecursion (λ m. HasNamesInOrder (content m)) ms → NamesInOrderAt doc ls
   named_in_order doc [] ms e h = tt
   named_in_order doc (l ∷ ls) [] e h = cc
   named_in_order doc (l ∷ ls) (m ∷ ms) e h =
       let here : shown stand content m ≡ look_kept located doc l = cc in
-      let there : at doc l ≡ Some (content m) = sym (ap (λ (x : Location × Option Data). x.1) here) in
+      let there : at doc l ≡ Some (content m) = sym (ap (λ (x : Location × Option Document). x.1) here) in
       let later : MarksStandAt located stand content doc ls ms = cc in
       (λ d is. let same : content m ≡ d = cc in subst HasNamesInOrder same h.0, named_in_order doc ls ms later h.1)
 

@@ -2,7 +2,7 @@
 use Rattle.std.proofs.Common.{◌≡◌, ℕ, ◌+◌, ◌<◌, ◌&&◌, Bool, true, false, List, [], ◌∷◌, ◌++◌, map, length, get_or, cond, Option, Some, None, refl, sym, ap, ap₂, ◌∙◌, subst, length-append}
 use Rattle.std.specs.Prelude.{option_map, option_and_then}
 use Rattle.std.proofs.lemmas.List.{map-append}
-use Rattle.serde_json.specs.Data.{Data}
+use Rattle.jsonpath_nodes.specs.document.Document.{Document}
 use Rattle.jsonpath_paths.specs.declared.token.tokens.FilterToken.{FilterToken}
 use Rattle.jsonpath_paths.specs.declared.token.tokens.ParseToken.{ParseToken}
 use Rattle.jsonpath_nodes.specs.place.Location.{Location}
@@ -43,34 +43,34 @@ both_true false b e = cc
 
 -- ---- for marks of either kind: whether they keep their locations, where they stand, what they hold
 
-module _ {M : Type 0} (located : Bool) (stand_of : M → Location) (content_of : M → Data) where
+module _ {M : Type 0} (located : Bool) (stand_of : M → Location) (content_of : M → Document) where
   -- ---- where a path begins
 
-  pub copied_next : (doc : Data) (ps : List Tagged) (i : ℕ) (marks : List M) (out : List ℕ) (held : List M) (s copy : M) {out' : List ℕ} {held' : List M} → out' ≡ out ++ i ∷ [] → held' ≡ held ++ copy ∷ []
+  pub copied_next : (doc : Document) (ps : List Tagged) (i : ℕ) (marks : List M) (out : List ℕ) (held : List M) (s copy : M) {out' : List ℕ} {held' : List M} → out' ≡ out ++ i ∷ [] → held' ≡ held ++ copy ∷ []
       → s ≡ get_or marks i s → i < length marks → MarksStandAt located stand_of content_of doc (places ps) marks
       → shown stand_of content_of copy ≡ shown stand_of content_of s
       → Spread located stand_of content_of doc itself (places ps) i out held → Spread located stand_of content_of doc itself (places ps) (i + 1) out' held'
   copied_next doc ps i marks out held s copy {out'} {held'} e g is below stand same begun =
       spread_next located stand_of content_of doc itself (places ps) i 1 marks s out out' held held' stand is below (ap length g ∙ length-append held (copy ∷ [])) e
-      (λ l here. ap (map (shown stand_of content_of)) g ∙ map-append (shown stand_of content_of) held (copy ∷ []) ∙ ap (λ (x : Location × Option Data). map (shown stand_of content_of) held ++ x ∷ []) (same ∙ here)) begun
+      (λ l here. ap (map (shown stand_of content_of)) g ∙ map-append (shown stand_of content_of) held (copy ∷ []) ∙ ap (λ (x : Location × Option Document). map (shown stand_of content_of) held ++ x ∷ []) (same ∙ here)) begun
 
   -- ---- the top of a stack
 
-  pub top_frame : (doc : Data) (cand : machine.Found) (fs : List machine.Found) (frames below : List (Found M)) (frame : Found M) → ShowsFrames located stand_of content_of doc (cand ∷ fs) frames → frames ≡ below ++ frame ∷ []
+  pub top_frame : (doc : Document) (cand : machine.Found) (fs : List machine.Found) (frames below : List (Found M)) (frame : Found M) → ShowsFrames located stand_of content_of doc (cand ∷ fs) frames → frames ≡ below ++ frame ∷ []
       → ShowsFound located stand_of content_of doc cand frame × ShowsFrames located stand_of content_of doc fs below
   top_frame doc cand fs frames below frame h e =
       let both = snoc_same h.0 below h.1 frame (sym h.2 ∙ e) in
       (subst (ShowsFound located stand_of content_of doc cand) both.1 h.3, subst (ShowsFrames located stand_of content_of doc fs) both.0 h.4)
 
-  size : (doc : Data) (cand : machine.Found) (frame : Found M) → ShowsFound located stand_of content_of doc cand frame → length frame.pairs.marks.items ≡ length (places cand.pairs)
+  size : (doc : Document) (cand : machine.Found) (frame : Found M) → ShowsFound located stand_of content_of doc cand frame → length frame.pairs.marks.items ≡ length (places cand.pairs)
   size doc cand frame h = length-marks located stand_of content_of doc (places cand.pairs) frame.pairs.marks.items h.1.1
 
   -- how many candidates there are
-  number : (doc : Data) (cand : machine.Found) (fs : List machine.Found) (frames below : List (Found M)) (frame : Found M) (count : ℕ) → ShowsFrames located stand_of content_of doc (cand ∷ fs) frames → frames ≡ below ++ frame ∷ []
+  number : (doc : Document) (cand : machine.Found) (fs : List machine.Found) (frames below : List (Found M)) (frame : Found M) (count : ℕ) → ShowsFrames located stand_of content_of doc (cand ∷ fs) frames → frames ≡ below ++ frame ∷ []
       → count ≡ length frame.pairs.marks.items → count ≡ length (places cand.pairs)
   number doc cand fs frames below frame count h e many = many ∙ size doc cand frame (top_frame doc cand fs frames below frame h e).0
 
-  module _ (text : List ℕ) (doc : Data) where
+  module _ (text : List ℕ) (doc : Document) where
     pub top_operand : (o : machine.Operand) (os : List machine.Operand) (old below : List (Operand M)) (x : Operand M) → ShowsOperands located stand_of content_of text doc (o ∷ os) old → old ≡ below ++ x ∷ []
         → ShowsOperand located stand_of content_of text doc o x × ShowsOperands located stand_of content_of text doc os below
     top_operand o os old below x h e =

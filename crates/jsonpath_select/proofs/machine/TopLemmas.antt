@@ -1,7 +1,7 @@
 -- The machine at the steps of the path itself.
 use Rattle.std.proofs.Common.{◌≡◌, ℕ, true, List, [], ◌∷◌, ◌++◌, sym, ap, ◌∙◌, append-nil}
 use Rattle.std.specs.Prelude.{filter, option_map, option_and_then}
-use Rattle.serde_json.specs.Data.{Data}
+use Rattle.jsonpath_nodes.specs.document.Document.{Document}
 use Rattle.jsonpath_paths.specs.tree.Tree.{Condition}
 use Rattle.jsonpath_nodes.specs.place.Location.{Location}
 use Rattle.jsonpath_select.specs.Meaning.{holds}
@@ -12,7 +12,7 @@ use Rattle.jsonpath_select.specs.plan.Standing.{for_all}
 use Rattle.jsonpath_select.proofs.machine.RunLemmas.{tags-found, run_condition}
 use Rattle.jsonpath_select.proofs.tagged.TagLemmas.{kept-chosen, filter-spread}
 
-module _ (text : List ℕ) (doc : Data) where
+module _ (text : List ℕ) (doc : Document) where
   alone_is : (ls : List Location) → spread (λ _. ls) 0 ([] ∷ []) ≡ tagged 0 ls
   alone_is ls = append-nil (tagged 0 ls)
 

@@ -1,6 +1,6 @@
 -- The machine on a path without filters.
 use Rattle.std.proofs.Common.{◌≡◌, ℕ, Bool, true, List, [], ◌∷◌, Some, refl, ap, ◌∙◌, append-nil}
-use Rattle.serde_json.specs.Data.{Data}
+use Rattle.jsonpath_nodes.specs.document.Document.{Document}
 use Rattle.jsonpath_paths.specs.declared.token.tokens.ParseToken.{ParseToken}
 use Rattle.jsonpath_nodes.specs.place.Location.{Location}
 use Rattle.jsonpath_select.specs.plan.Code.{plain_step}
@@ -12,7 +12,7 @@ own_front [] = refl
 own_front (l ∷ ls) = ap (λ (ms : List Location). l ∷ ms) (own_front ls)
 
 -- a plain step, where what it leads is on top and is one list for all candidates
-pub led_once : (text : List ℕ) (doc : Data) (leaves : Bool) (token : ParseToken) (cand : Found) (fs : List Found) (os : List Operand) (ls : List Location)
+pub led_once : (text : List ℕ) (doc : Document) (leaves : Bool) (token : ParseToken) (cand : Found) (fs : List Found) (os : List Operand) (ls : List Location)
     → one text doc (plain_step leaves token) (record { frames = cand ∷ fs; operands = of_path (for_all ls) ∷ os }) ≡ Some (record { frames = cand ∷ fs; operands = of_path (for_all (stepped text doc leaves token ls)) ∷ os })
 led_once text doc leaves token cand fs os ls =
     ap (λ (ps : List Tagged). Some (record { frames = cand ∷ fs; operands = of_path (record { shared = true; pairs = ps }) ∷ os }))

@@ -3,7 +3,7 @@ use Rattle.std.proofs.Common.{Option, ◌≡◌, ℕ, suc, ◌+◌, ◌-◌, ◌
 use Rattle.std.specs.List.{prefix_len}
 use Rattle.std.proofs.lemmas.List.{map-append, drop-map, take-map, drop-drop, length-map, length-replicate}
 use Rattle.std.proofs.Common.{length-append}
-use Rattle.serde_json.specs.Data.{Data}
+use Rattle.jsonpath_nodes.specs.document.Document.{Document}
 use Rattle.jsonpath_nodes.specs.place.Location.{Location}
 use Rattle.jsonpath_select.specs.plan.Machine.{Tagged, tagged, places, front_of_tag, behind_tag, each_tag, spread}
 use Rattle.jsonpath_select.specs.plan.Shown.{tags_of, MarkStandsAt, ArePairs}
@@ -49,16 +49,16 @@ paired t n tags tags' fill = ap length fill ∙ length-append tags (replicate n 
 
 -- ---- for marks of either kind: whether they keep their locations, where they stand, what they hold
 
-module _ {M : Type 0} (located : Bool) (stand_of : M → Location) (content_of : M → Data) where
+module _ {M : Type 0} (located : Bool) (stand_of : M → Location) (content_of : M → Document) where
   -- ---- one tag more
 
-  module _ (doc : Data) (f : List Location → List Location) (ps : List Tagged) where
+  module _ (doc : Document) (f : List Location → List Location) (ps : List Tagged) where
     -- what is done, and that the rest follows
     abbrev pub Turned : ℕ → ℕ → ℕ → List ℕ → List M → Type 0
     Turned count tag from tags marks = (done : List Tagged) × ArePairs located stand_of content_of doc done tags marks × (done ++ each_tag f tag (count - tag) (drop from ps) ≡ each_tag f 0 count ps)
 
   -- the slice of the run stands at the locations of the run
-  pub run-StandAt : (doc : Data) (t from : ℕ) (ps : List Tagged) (marks : List M) → MarksStandAt located stand_of content_of doc (places ps) marks → MarksStandAt located stand_of content_of doc (front_of_tag t (drop from ps)) (take (run t (drop from ps)) (drop from marks))
+  pub run-StandAt : (doc : Document) (t from : ℕ) (ps : List Tagged) (marks : List M) → MarksStandAt located stand_of content_of doc (places ps) marks → MarksStandAt located stand_of content_of doc (front_of_tag t (drop from ps)) (take (run t (drop from ps)) (drop from marks))
   run-StandAt doc t from ps marks h =
       let n = run t (drop from ps) in
       sym (take-map (shown stand_of content_of) n (drop from marks))
@@ -66,7 +66,7 @@ module _ {M : Type 0} (located : Bool) (stand_of : M → Location) (content_of :
       ∙ take-map (look_kept located doc) n (drop from (places ps))
       ∙ ap (map (look_kept located doc)) (ap (take n) (drop-map (λ (p : Tagged). p.1) from ps) ∙ sym (front_of_tag-run t (drop from ps)))
 
-  gained_count : (held held' : List M) (found : List Location) (doc : Data) (n : ℕ) → length held' ≡ length held + n
+  gained_count : (held held' : List M) (found : List Location) (doc : Document) (n : ℕ) → length held' ≡ length held + n
       → map (shown stand_of content_of) held' ≡ map (shown stand_of content_of) held ++ map (look_kept located doc) found → n ≡ length found
   gained_count held held' found doc n longer gains =
       let whole : length held' ≡ length held + length found =
@@ -75,18 +75,18 @@ module _ {M : Type 0} (located : Bool) (stand_of : M → Location) (content_of :
       omega (arith, whole, longer)
 
   -- so many marks more, with one tag
-  pub more_pairs : (doc : Data) (tag n : ℕ) (done : List Tagged) (found : List Location) (out out' : List ℕ) (held held' : List M) → ArePairs located stand_of content_of doc done out held
+  pub more_pairs : (doc : Document) (tag n : ℕ) (done : List Tagged) (found : List Location) (out out' : List ℕ) (held held' : List M) → ArePairs located stand_of content_of doc done out held
       → length held' ≡ length held + n → out' ≡ out ++ replicate n tag → map (shown stand_of content_of) held' ≡ map (shown stand_of content_of) held ++ map (look_kept located doc) found
       → ArePairs located stand_of content_of doc (done ++ tagged tag found) out' held'
   more_pairs doc tag n done found out out' held held' are longer fill gains =
       let counted : n ≡ length found = gained_count held held' found doc n longer gains in
       let new = tagged tag found in (
         fill ∙ ap₂ (λ (us vs : List ℕ). us ++ vs) are.0 (ap (λ m. replicate m tag) counted ∙ sym (tags_tagged tag found)) ∙ sym (map-append (λ (p : Tagged). p.0) done new),
-        gains ∙ ap₂ (λ (us vs : List (Location × Option Data)). us ++ vs) are.1 (ap (map (look_kept located doc)) (sym (places_tagged tag found)))
+        gains ∙ ap₂ (λ (us vs : List (Location × Option Document)). us ++ vs) are.1 (ap (map (look_kept located doc)) (sym (places_tagged tag found)))
             ∙ sym (map-append (look_kept located doc) (places done) (places new)) ∙ ap (map (look_kept located doc)) (sym (map-append (λ (p : Tagged). p.1) done new)),
       )
 
-  pub turn_next : (doc : Data) (f : List Location → List Location) (ps : List Tagged) (tags : List ℕ) (marks : List M) (count tag from end n : ℕ) (out out' : List ℕ) (held held' slice : List M)
+  pub turn_next : (doc : Document) (f : List Location → List Location) (ps : List Tagged) (tags : List ℕ) (marks : List M) (count tag from end n : ℕ) (out out' : List ℕ) (held held' slice : List M)
       → ArePairs located stand_of content_of doc ps tags marks → tag < count → end ≡ from + prefix_len (λ u. u == tag) (drop from tags) → slice ≡ take (end - from) (drop from marks)
       → length held' ≡ length held + n → out' ≡ out ++ replicate n tag
       → ((ls : List Location) → MarksStandAt located stand_of content_of doc ls slice → map (shown stand_of content_of) held' ≡ map (shown stand_of content_of) held ++ map (look_kept located doc) (f ls))
@@ -112,19 +112,19 @@ module _ {M : Type 0} (located : Bool) (stand_of : M → Location) (content_of :
         append_assoc turned.0 new (each_tag f (tag + 1) (count - (tag + 1)) (drop end ps)) ∙ ap (λ (qs : List Tagged). turned.0 ++ qs) (sym rest) ∙ turned.2,
       )
 
-  pub turn_done : (doc : Data) (f : List Location → List Location) (ps : List Tagged) (count tag from : ℕ) (tags : List ℕ) (marks : List M) → count ≤ tag
+  pub turn_done : (doc : Document) (f : List Location → List Location) (ps : List Tagged) (count tag from : ℕ) (tags : List ℕ) (marks : List M) → count ≤ tag
       → Turned doc f ps count tag from tags marks → ArePairs located stand_of content_of doc (each_tag f 0 count ps) tags marks
   turn_done doc f ps count tag from tags marks over turned =
       let none : count - tag ≡ 0 = omega arith in
       let whole : turned.0 ≡ each_tag f 0 count ps = sym (append-nil turned.0) ∙ ap (λ k. turned.0 ++ each_tag f tag k (drop from ps)) (sym none) ∙ turned.2 in
       (turned.1.0 ∙ ap tags_of whole, turned.1.1 ∙ ap (λ (qs : List Tagged). map (look_kept located doc) (places qs)) whole)
 
-  pub turn_begins : (doc : Data) (f : List Location → List Location) (ps : List Tagged) (count : ℕ) → Turned doc f ps count 0 0 [] []
+  pub turn_begins : (doc : Document) (f : List Location → List Location) (ps : List Tagged) (count : ℕ) → Turned doc f ps count 0 0 [] []
   turn_begins doc f ps count = let all : count - 0 ≡ count = omega arith in ([], (refl, refl), ap (λ k. each_tag f 0 k ps) all)
 
   -- ---- one candidate more, where each is led by itself
 
-  module _ (doc : Data) (f : Location → List Location) (ls : List Location) where
+  module _ (doc : Document) (f : Location → List Location) (ls : List Location) where
     -- what is done, and that the rest follows
     abbrev pub Spread : ℕ → List ℕ → List M → Type 0
     Spread i out held = (done : List Tagged) × ArePairs located stand_of content_of doc done out held × (done ++ spread f i (drop i ls) ≡ spread f 0 ls)

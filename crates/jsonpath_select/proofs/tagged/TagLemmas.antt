@@ -1,7 +1,7 @@
 -- The machine's lists, where they come from one list for each candidate.
 use Rattle.std.proofs.Common.{◌≡◌, ℕ, suc, ◌==◌, ◌<◌, ◌≢◌, Bool, true, false, List, [], ◌∷◌, ◌++◌, length, cond, refl, ap, ap₂, ◌∙◌, append-nil, arith, eq-eqb, ne_eqb}
 use Rattle.std.specs.Prelude.{filter}
-use Rattle.serde_json.specs.Data.{Data}
+use Rattle.jsonpath_nodes.specs.document.Document.{Document}
 use Rattle.jsonpath_paths.specs.tree.Tree.{Path, path, Term}
 use Rattle.jsonpath_paths.specs.tree.Tree as tree
 use Rattle.jsonpath_paths.specs.declared.token.tokens.FilterToken.{FilterToken}
@@ -79,7 +79,7 @@ pub chosen-same : (b : Bool) (t : ℕ) (cs : List Location) → all_tags_or_none
 chosen-same b t [] = refl
 chosen-same b t (c ∷ cs) = ap (λ (ts : List ℕ). cond b (t ∷ ts) ts) (chosen-same b (suc t) cs)
 
-module _ (text : List ℕ) (doc : Data) where
+module _ (text : List ℕ) (doc : Document) where
   -- what a path finds, for candidates numbered from t on
   abbrev pub path_from : Path → ℕ → List Location → Found
   path_from (path true ss) t cs = record { shared = true; pairs = spread (reached text doc (path true ss)) 0 ([] ∷ []) }

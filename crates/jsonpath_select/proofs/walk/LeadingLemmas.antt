@@ -2,7 +2,7 @@
 use Rattle.std.proofs.Common.{◌≡◌, ℕ, Bool, true, false, cond, ◌&&◌, ◌||◌, List, [], ◌∷◌, ◌++◌, Ordering, Less, Equal, Greater, is_eq, refl, sym, ap, ◌∙◌, append_assoc, append-nil}
 use Rattle.std.specs.Prelude.{filter}
 use Rattle.std.specs.List.{list_any}
-use Rattle.serde_json.specs.Data.{Data}
+use Rattle.jsonpath_nodes.specs.document.Document.{Document}
 use Rattle.jsonpath_paths.specs.tree.Tree.{PathSteps, Inner}
 use Rattle.jsonpath_paths.specs.tree.Tree as tree
 use Rattle.jsonpath_nodes.specs.place.Location.{Location, location_cmp, is_same, below, flat}
@@ -81,14 +81,14 @@ kept_of f test none add (l ∷ ls) = by (list_any test (f (l ∷ []))) refl (kep
 
 -- ---- the parts of a step
 
-pub from_each-additive : (doc : Data) (f : Data → List Location) → Additive (from_each doc f)
+pub from_each-additive : (doc : Document) (f : Document → List Location) → Additive (from_each doc f)
 from_each-additive doc f l ls = ap (λ (xs : List Location). xs ++ from_each doc f ls) (sym (append-nil (from doc f l)))
 
-pub from_each-append : (doc : Data) (f : Data → List Location) (xs ys : List Location) → from_each doc f (xs ++ ys) ≡ from_each doc f xs ++ from_each doc f ys
+pub from_each-append : (doc : Document) (f : Document → List Location) (xs ys : List Location) → from_each doc f (xs ++ ys) ≡ from_each doc f xs ++ from_each doc f ys
 from_each-append doc f [] ys = refl
 from_each-append doc f (x ∷ xs) ys = ap (λ (zs : List Location). from doc f x ++ zs) (from_each-append doc f xs ys) ∙ sym (append_assoc (from doc f x) (from_each doc f xs) (from_each doc f ys))
 
-pub then_each : (doc : Data) (f : Data → List Location) (g : List Location → List Location) → Additive g → Additive (λ ls. from_each doc f (g ls))
+pub then_each : (doc : Document) (f : Document → List Location) (g : List Location → List Location) → Additive g → Additive (λ ls. from_each doc f (g ls))
 then_each doc f g add l ls = ap (from_each doc f) (add l ls) ∙ from_each-append doc f (g (l ∷ [])) (g ls)
 
 then_filter : (test : Location → Bool) (g : List Location → List Location) → Additive g → Additive (λ ls. filter test (g ls))
@@ -132,7 +132,7 @@ module _ (apart : (l m : Location) → location_cmp l m ≡ Equal → l ≡ m) (
 
 -- ---- the steps one after the other
 
-module _ (apart : (l m : Location) → location_cmp l m ≡ Equal → l ≡ m) (once_same : EachOnceKeepsMembers) (some_same : SomeOfASet) (text : List ℕ) (doc : Data) where
+module _ (apart : (l m : Location) → location_cmp l m ≡ Equal → l ≡ m) (once_same : EachOnceKeepsMembers) (some_same : SomeOfASet) (text : List ℕ) (doc : Document) where
   -- whether the steps lead somewhere from a location
   abbrev pub leads : PathSteps → Location → Bool
   leads ss l = is_some_location (follow text doc ss (l ∷ []))

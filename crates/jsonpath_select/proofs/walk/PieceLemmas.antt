@@ -3,7 +3,7 @@ use Rattle.std.proofs.Common.{◌≡◌, ℕ, ◌+◌, Option, Some, None, Bool,
 use Rattle.std.proofs.lemmas.List.{drop-drop, take-append-drop}
 use Rattle.std.specs.Prelude.{filter}
 use Rattle.std.specs.List.{list_any}
-use Rattle.serde_json.specs.Data.{Data}
+use Rattle.jsonpath_nodes.specs.document.Document.{Document}
 use Rattle.jsonpath_paths.specs.tree.Tree.{PathSteps, Inner, Condition}
 use Rattle.jsonpath_paths.specs.tree.Tree as tree
 use Rattle.jsonpath_nodes.specs.place.Location.{Location, location_cmp, is_same, below, flat}
@@ -31,7 +31,7 @@ each_once-begins before (x ∷ front) rest = by (list_any (is_same x) before) (e
     by true old new = old
     by false old new = (new.0, ap (λ (ls : List Location). x ∷ ls) new.1)
 
-module _ (text : List ℕ) (doc : Data) where
+module _ (text : List ℕ) (doc : Document) where
   -- a filter's candidates and those of them that pass
   passing-begins : (own : Bool) (pass : Location → Bool) (whole front : List Location) → Begins whole front
       → Begins (filter pass (cond own (flattened doc whole) whole)) (filter pass (cond own (flattened doc front) front))
@@ -40,7 +40,7 @@ module _ (text : List ℕ) (doc : Data) where
       filter-begins pass _ _ (once.0, ap (λ ls. flattened doc ls) h.1 ∙ ap each_once (from_each-append doc flat front h.0) ∙ once.1)
   passing-begins false pass whole front h = filter-begins pass whole front h
 
-  each-begins : (f : Data → List Location) (whole front : List Location) → Begins whole front → Begins (from_each doc f whole) (from_each doc f front)
+  each-begins : (f : Document → List Location) (whole front : List Location) → Begins whole front → Begins (from_each doc f whole) (from_each doc f front)
   each-begins f whole front h = (from_each doc f h.0, ap (from_each doc f) h.1 ∙ from_each-append doc f front h.0)
 
   inner_on-begins : (inner : Inner) (leaves : Bool) (whole front : List Location) → Begins whole front → Begins (inner_on text doc inner leaves whole) (inner_on text doc inner leaves front)
@@ -53,7 +53,7 @@ module _ (text : List ℕ) (doc : Data) where
   follow-begins tree.no_steps whole front h = h
   follow-begins (tree.step_then leaves bracket inner rest) whole front h = follow-begins rest _ _ (inner_on-begins inner leaves whole front h)
 
-module _ (apart : (l m : Location) → location_cmp l m ≡ Equal → l ≡ m) (once_same : EachOnceKeepsMembers) (some_same : SomeOfASet) (text : List ℕ) (doc : Data) where
+module _ (apart : (l m : Location) → location_cmp l m ≡ Equal → l ≡ m) (once_same : EachOnceKeepsMembers) (some_same : SomeOfASet) (text : List ℕ) (doc : Document) where
   pub first_of_pieces : (ss : PathSteps) (ls ms : List Location) → take 1 (follow text doc ss (ls ++ ms)) ≡ take 1 (follow text doc ss ls ++ follow text doc ss ms)
   first_of_pieces ss ls ms = by (follow text doc ss ls) refl
     where
@@ -73,7 +73,7 @@ module _ (apart : (l m : Location) → location_cmp l m ≡ Equal → l ≡ m) (
 
 -- ---- from nowhere
 
-module _ (text : List ℕ) (doc : Data) where
+module _ (text : List ℕ) (doc : Document) where
   follow-none : (ss : PathSteps) → follow text doc ss [] ≡ []
   follow-none tree.no_steps = refl
   follow-none (tree.step_then leaves bracket (tree.plain token) rest) = by leaves (follow-none rest)
@@ -108,7 +108,7 @@ module _ (g : List Location → List Location) (pieces : (xs ys : List Location)
   pub none_here : (i n end : ℕ) → end ≡ i + n → g (take n (drop i ls)) ≡ [] → take 1 (g (drop i ls)) ≡ take 1 (g (drop end ls))
   none_here i n end is none = halves i n ∙ ap (λ (ms : List Location). take 1 (ms ++ g (drop (i + n) ls))) none ∙ ap (λ k. take 1 (g (drop k ls))) (sym is)
 
-module _ {M : Type 0} (b : Bool) (stand : M → Location) (content : M → Data) (doc : Data) where
+module _ {M : Type 0} (b : Bool) (stand : M → Location) (content : M → Document) (doc : Document) where
   pub some_stands : (ls : List Location) (marks : List M) → MarksStandAt b stand content doc ls marks → (length marks == 0) ≡ false → is_some_location ls ≡ true
   some_stands [] [] h some = cc
   some_stands [] (m ∷ marks) h some = cc
@@ -119,10 +119,10 @@ module _ {M : Type 0} (b : Bool) (stand : M → Location) (content : M → Data)
   none_stands (l ∷ ls) [] h none = cc
   none_stands (l ∷ ls) (m ∷ marks) h none = absurd (let bad : false ≡ true = sym (ne_eqb (suc (length marks)) 0 (omega arith)) ∙ none in cc)
 
-pub kept-append : (text : List ℕ) (doc : Data) (f : Option Condition) (xs ys : List Location) → kept_by text doc f (xs ++ ys) ≡ kept_by text doc f xs ++ kept_by text doc f ys
+pub kept-append : (text : List ℕ) (doc : Document) (f : Option Condition) (xs ys : List Location) → kept_by text doc f (xs ++ ys) ≡ kept_by text doc f xs ++ kept_by text doc f ys
 kept-append text doc (Some f) xs ys = filter-append (λ l. holds text doc f l) xs ys
 kept-append text doc None xs ys = refl
 
-pub none_kept : (text : List ℕ) (doc : Data) (f : Option Condition) (ss : PathSteps) → follow text doc ss (kept_by text doc f []) ≡ []
+pub none_kept : (text : List ℕ) (doc : Document) (f : Option Condition) (ss : PathSteps) → follow text doc ss (kept_by text doc f []) ≡ []
 none_kept text doc (Some f) ss = follow-none text doc ss
 none_kept text doc None ss = follow-none text doc ss

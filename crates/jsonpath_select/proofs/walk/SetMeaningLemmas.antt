@@ -2,7 +2,7 @@
 use Rattle.std.proofs.Common.{◌≡◌, ℕ, List, [], ◌∷◌, Option, Some, None, Bool, true, false, cond, ◌||◌, refl, sym, ap, ap₂, subst, ◌∙◌}
 use Rattle.std.specs.Prelude.{filter, option_map}
 use Rattle.std.specs.List.{list_any, cons_option}
-use Rattle.serde_json.specs.Data.{Data}
+use Rattle.jsonpath_nodes.specs.document.Document.{Document}
 use Rattle.jsonpath_paths.specs.tree.Tree.{Path, PathSteps, Inner, Condition, Term}
 use Rattle.jsonpath_paths.specs.tree.Tree as tree
 use Rattle.jsonpath_paths.specs.declared.token.tokens.FilterToken.{FilterToken}
@@ -28,7 +28,7 @@ abbrev seen_holds : (Seen → Bool) → Option Seen → Bool
 seen_holds test None = false
 seen_holds test (Some x) = test x
 
-any_values : (doc : Data) (test : Seen → Bool) (ls : List Location) → list_any test (values_at doc ls) ≡ list_any (λ l. seen_holds test (option_map seen (at doc l))) ls
+any_values : (doc : Document) (test : Seen → Bool) (ls : List Location) → list_any test (values_at doc ls) ≡ list_any (λ l. seen_holds test (option_map seen (at doc l))) ls
 any_values doc test [] = refl
 any_values doc test (l ∷ ls) = by (option_map seen (at doc l)) (any_values doc test ls)
   where
@@ -51,20 +51,20 @@ module _ (step_same : StepOfASet) (below_same : BelowOfASet) (flat_same : Candid
   some-same : (ls ms : List Location) → SameMembers ls ms → is_some_location ls ≡ is_some_location ms
   some-same ls ms h = some_location ls ∙ any_same (λ l. true) ls ms h ∙ sym (some_location ms)
 
-  values-same : (doc : Data) (ls ms : List Location) → SameMembers ls ms → SameTests (values_at doc ls) (values_at doc ms)
+  values-same : (doc : Document) (ls ms : List Location) → SameMembers ls ms → SameTests (values_at doc ls) (values_at doc ms)
   values-same doc ls ms h test = any_values doc test ls ∙ any_same (λ l. seen_holds test (option_map seen (at doc l))) ls ms h ∙ sym (any_values doc test ms)
 
-  base-same : (doc : Data) (descend : Lessening) (leaves : Bool) (ls ms : List Location) → FindsAllBelow doc descend → SameMembers ls ms
+  base-same : (doc : Document) (descend : Lessening) (leaves : Bool) (ls ms : List Location) → FindsAllBelow doc descend → SameMembers ls ms
       → SameMembers (cond leaves (descend ls) ls) (cond leaves (all_below doc ms) ms)
   base-same doc descend true ls ms finds h = same-trans (descend ls) (all_below doc ls) (all_below doc ms) (finds ls) (below_same doc ls ms h)
   base-same doc descend false ls ms finds h = h
 
-  deep-same : (doc : Data) (descend : Lessening) (leaves : Bool) (ls ms : List Location) → FindsAllBelow doc descend → SameMembers ls ms
+  deep-same : (doc : Document) (descend : Lessening) (leaves : Bool) (ls ms : List Location) → FindsAllBelow doc descend → SameMembers ls ms
       → SameMembers (cond leaves (step doc every (descend ls)) ls) (cond leaves (step doc every (all_below doc ms)) ms)
   deep-same doc descend true ls ms finds h = step_same doc every (descend ls) (all_below doc ms) (base-same doc descend true ls ms finds h)
   deep-same doc descend false ls ms finds h = h
 
-  candidates-same : (doc : Data) (b : Bool) (ls ms : List Location) → SameMembers ls ms → SameMembers (cond b (flattened doc ls) ls) (cond b (flattened doc ms) ms)
+  candidates-same : (doc : Document) (b : Bool) (ls ms : List Location) → SameMembers ls ms → SameMembers (cond b (flattened doc ls) ls) (cond b (flattened doc ms) ms)
   candidates-same doc true ls ms h = flat_same doc ls ms h
   candidates-same doc false ls ms h = h
 
@@ -75,12 +75,12 @@ module _ (step_same : StepOfASet) (below_same : BelowOfASet) (flat_same : Candid
       same_list is = subst (λ (ns : List Location). SameMembers (filter test ms) ns) is (same-itself (filter test ms))
 
   mutual
-    reached-same : (less descend : Lessening) (text : List ℕ) (doc : Data) (p : Path) (l : Location) → KeepsMembers less → FindsAllBelow doc descend
+    reached-same : (less descend : Lessening) (text : List ℕ) (doc : Document) (p : Path) (l : Location) → KeepsMembers less → FindsAllBelow doc descend
         → SameMembers (reached_by less descend text doc p l) (reached text doc p l)
     reached-same less descend text doc (tree.path absolute steps) l keeps finds =
         follow-same less descend text doc steps (cond absolute [] l ∷ []) (cond absolute [] l ∷ []) keeps finds (same-itself (cond absolute [] l ∷ []))
 
-    follow-same : (less descend : Lessening) (text : List ℕ) (doc : Data) (steps : PathSteps) (ls ms : List Location) → KeepsMembers less → FindsAllBelow doc descend → SameMembers ls ms
+    follow-same : (less descend : Lessening) (text : List ℕ) (doc : Document) (steps : PathSteps) (ls ms : List Location) → KeepsMembers less → FindsAllBelow doc descend → SameMembers ls ms
         → SameMembers (follow_by less descend text doc steps ls) (follow text doc steps ms)
     follow-same less descend text doc tree.no_steps ls ms keeps finds h = h
     follow-same less descend text doc (tree.step_then leaves bracket inner rest) ls ms keeps finds h =
@@ -88,7 +88,7 @@ module _ (step_same : StepOfASet) (below_same : BelowOfASet) (flat_same : Candid
         follow-same less descend text doc rest (less found) (inner_on text doc inner leaves ms) keeps finds
         (same-trans (less found) found (inner_on text doc inner leaves ms) (keeps found) (inner-same less descend text doc inner leaves ls ms keeps finds h))
 
-    inner-same : (less descend : Lessening) (text : List ℕ) (doc : Data) (inner : Inner) (leaves : Bool) (ls ms : List Location) → KeepsMembers less → FindsAllBelow doc descend → SameMembers ls ms
+    inner-same : (less descend : Lessening) (text : List ℕ) (doc : Document) (inner : Inner) (leaves : Bool) (ls ms : List Location) → KeepsMembers less → FindsAllBelow doc descend → SameMembers ls ms
         → SameMembers (inner_by less descend text doc inner leaves ls) (inner_on text doc inner leaves ms)
     inner-same less descend text doc (tree.plain token) leaves ls ms keeps finds h =
         step_same doc (plain_of text token) (cond leaves (descend ls) ls) (cond leaves (all_below doc ms) ms) (base-same doc descend leaves ls ms finds h)
@@ -98,7 +98,7 @@ module _ (step_same : StepOfASet) (below_same : BelowOfASet) (flat_same : Candid
         (λ c. holds-same less descend text doc f c keeps finds)
         (candidates-same doc (has_own_step f) (cond leaves (step doc every (descend ls)) ls) (cond leaves (step doc every (all_below doc ms)) ms) (deep-same doc descend leaves ls ms finds h))
 
-    holds-same : (less descend : Lessening) (text : List ℕ) (doc : Data) (f : Condition) (c : Location) → KeepsMembers less → FindsAllBelow doc descend
+    holds-same : (less descend : Lessening) (text : List ℕ) (doc : Document) (f : Condition) (c : Location) → KeepsMembers less → FindsAllBelow doc descend
         → holds_by less descend text doc f c ≡ holds text doc f c
     holds-same less descend text doc (tree.lone p) c keeps finds = some-same (reached_by less descend text doc p c) (reached text doc p c) (reached-same less descend text doc p c keeps finds)
     holds-same less descend text doc (tree.compare l op r) c keeps finds =
@@ -107,7 +107,7 @@ module _ (step_same : StepOfASet) (below_same : BelowOfASet) (flat_same : Candid
     holds-same less descend text doc (tree.join op a b) c keeps finds =
         ap₂ (joined op) (holds-same less descend text doc a c keeps finds) (holds-same less descend text doc b c keeps finds)
 
-    terms-same : (less descend : Lessening) (text : List ℕ) (doc : Data) (t : Term) (c : Location) → KeepsMembers less → FindsAllBelow doc descend
+    terms-same : (less descend : Lessening) (text : List ℕ) (doc : Document) (t : Term) (c : Location) → KeepsMembers less → FindsAllBelow doc descend
         → SameTests (values_by less descend text doc t c) (values text doc t c)
     terms-same less descend text doc (tree.at_path p) c keeps finds =
         values-same doc (reached_by less descend text doc p c) (reached text doc p c) (reached-same less descend text doc p c keeps finds)

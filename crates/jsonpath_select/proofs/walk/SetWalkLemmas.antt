@@ -4,7 +4,7 @@ use Rattle.std.proofs.Math.Bool.{or-true}
 use Rattle.std.specs.Prelude.{filter}
 use Rattle.std.specs.List.{AllByRecursion, list_any}
 use Rattle.std.specs.Ordering.{ordering_reverse}
-use Rattle.serde_json.specs.Data.{Data}
+use Rattle.jsonpath_nodes.specs.document.Document.{Document}
 use Rattle.jsonpath_paths.specs.tree.Tree.{Path, path, Inner, Condition, Term}
 use Rattle.jsonpath_paths.specs.tree.Tree as tree
 use Rattle.jsonpath_paths.specs.declared.token.tokens.FilterToken.{FilterToken}
@@ -33,7 +33,7 @@ use Rattle.jsonpath_select.proofs.machine.RunLemmas.{entered-spread}
 use Rattle.jsonpath_select.proofs.tagged.TagLemmas.{kept-chosen, each_tag-spread, front_of_tag-spread, behind_tag-spread, some_tags-spread, places_alone, chosen-same}
 
 -- spots that show pairs
-abbrev pub ShowsSpots : Data → List Tagged → TaggedMarks Spot → Type 0
+abbrev pub ShowsSpots : Document → List Tagged → TaggedMarks Spot → Type 0
 ShowsSpots doc ps n = Shows true location_of value_of doc ps n
 
 -- ---- lists for each candidate
@@ -41,7 +41,7 @@ ShowsSpots doc ps n = Shows true location_of value_of doc ps n
 pub spread-same : (f g : Location → List Location) (n : ℕ) (cs : List Location) → ((c : Location) → f c ≡ g c) → spread f n cs ≡ spread g n cs
 spread-same f g n cs h = λ i. spread (λ c. h c i) n cs
 
-pub turned : (doc : Data) (g : List Location → List Location) (f : Location → List Location) (ls : List Location) (n : ℕ) (after : TaggedMarks Spot) → n ≡ length ls
+pub turned : (doc : Document) (g : List Location → List Location) (f : Location → List Location) (ls : List Location) (n : ℕ) (after : TaggedMarks Spot) → n ≡ length ls
     → ShowsSpots doc (each_tag g 0 n (spread f 0 ls)) after → ShowsSpots doc (spread (λ c. g (f c)) 0 ls) after
 turned doc g f ls n after is shows = subst (λ (ps : List Tagged). ShowsSpots doc ps after) (ap (λ k. each_tag g 0 k (spread f 0 ls)) is ∙ each_tag-spread f g 0 ls) shows
 
@@ -56,18 +56,18 @@ filter_tagged test t (l ∷ ls) = by (test l) (filter_tagged test t ls)
 
 -- ---- steps
 
-pub led_from : (text : List ℕ) (doc : Data) (inner : Inner) (leaves : Bool) (ls : List Location) → set_led text doc inner leaves (cond leaves (topmost ls) ls) ≡ set_inner text doc inner leaves ls
+pub led_from : (text : List ℕ) (doc : Document) (inner : Inner) (leaves : Bool) (ls : List Location) → set_led text doc inner leaves (cond leaves (topmost ls) ls) ≡ set_inner text doc inner leaves ls
 led_from text doc (tree.plain token) true ls = refl
 led_from text doc (tree.plain token) false ls = refl
 led_from text doc (tree.filter f) true ls = refl
 led_from text doc (tree.filter f) false ls = refl
 
-pub gathered_is : (doc : Data) (f : Condition) (deep leaves : Bool) (ls : List Location) → deep ≡ has_own_step f → gathered doc leaves deep ls ≡ candidates doc f (cond leaves (step doc every (all_below doc ls)) ls)
+pub gathered_is : (doc : Document) (f : Condition) (deep leaves : Bool) (ls : List Location) → deep ≡ has_own_step f → gathered doc leaves deep ls ≡ candidates doc f (cond leaves (step doc every (all_below doc ls)) ls)
 gathered_is doc f deep leaves ls is = ap (λ b. cond b (flattened doc (cond leaves (step doc every (all_below doc ls)) ls)) (cond leaves (step doc every (all_below doc ls)) ls)) is
 
 -- ---- conditions
 
-module _ (text : List ℕ) (doc : Data) where
+module _ (text : List ℕ) (doc : Document) where
   pub set_tags : (p : Path) (cs : List Location) → found_tags (found_sets text doc p cs).shared (length cs) (found_sets text doc p cs).pairs ≡ numbers_where (λ c. is_some_location (set_reached text doc p c)) 0 cs
   set_tags (path true ss) cs =
       ap (λ (ls : List Location). all_tags_or_none (is_some_location ls) 0 (length cs)) (places_alone 0 (set_reached text doc (path true ss) [])) ∙ chosen-same (is_some_location (set_reached text doc (path true ss) [])) 0 cs
@@ -179,35 +179,35 @@ module _ (apart : (l m : Location) → location_cmp l m ≡ Equal → l ≡ m) (
 
 -- ---- candidates
 
-pub standing : (doc : Data) (ls : List Location) (spots : List Spot) → StandAt doc ls spots → map location_of spots ≡ ls
+pub standing : (doc : Document) (ls : List Location) (spots : List Spot) → StandAt doc ls spots → map location_of spots ≡ ls
 standing doc [] [] h = refl
 standing doc [] (s ∷ spots) h = cc
 standing doc (l ∷ ls) [] h = cc
 standing doc (l ∷ ls) (s ∷ spots) h =
     let here : sight_of s ≡ look doc l = cc in
     let later : StandAt doc ls spots = cc in
-    ap₂ (λ (m : Location) (ms : List Location). m ∷ ms) (ap (λ (x : Location × Option Data). x.0) here) (standing doc ls spots later)
+    ap₂ (λ (m : Location) (ms : List Location). m ∷ ms) (ap (λ (x : Location × Option Document). x.0) here) (standing doc ls spots later)
 
-pub counted : (doc : Data) (ps : List Tagged) (n : TaggedMarks Spot) → ShowsSpots doc ps n → length n.marks.items ≡ length (places ps)
+pub counted : (doc : Document) (ps : List Tagged) (n : TaggedMarks Spot) → ShowsSpots doc ps n → length n.marks.items ≡ length (places ps)
 counted doc ps n shows = length-marks true location_of value_of doc (places ps) n.marks.items shows.1
 
 -- ---- the steps one after the other
 
-pub entered_lists : (doc : Data) (leaves deep : Bool) (f : Location → List Location) (ls : List Location) (n : ℕ) → n ≡ length ls
+pub entered_lists : (doc : Document) (leaves deep : Bool) (f : Location → List Location) (ls : List Location) (n : ℕ) → n ≡ length ls
     → entered doc leaves deep n (spread f 0 ls) ≡ spread (λ c. gathered doc leaves deep (f c)) 0 ls
 entered_lists doc leaves deep f ls n is = ap (λ k. entered doc leaves deep k (spread f 0 ls)) is ∙ entered-spread doc leaves deep f ls
 
-pub steps_next : (text : List ℕ) (doc : Data) (ss : List ParserStep) (i : ℕ) (s : ParserStep) (ls all : List Location) → i < length ss → s ≡ get_or ss i s
+pub steps_next : (text : List ℕ) (doc : Document) (ss : List ParserStep) (i : ℕ) (s : ParserStep) (ls all : List Location) → i < length ss → s ≡ get_or ss i s
     → set_follow text doc (steps_of_list (drop i ss)) ls ≡ all
     → set_follow text doc (steps_of_list (drop (i + 1) ss)) (set_step text doc (inner_of s.inner) s.leaves ls) ≡ all
 steps_next text doc ss i s ls all within is follows =
     let left : drop i ss ≡ s ∷ drop (i + 1) ss = drop-cons ss i s within ∙ ap₂ (λ (x : ParserStep) (xs : List ParserStep). x ∷ xs) (sym is) (rw add-one refl) in
     sym (ap (λ (xs : List ParserStep). set_follow text doc (steps_of_list xs) ls) left) ∙ follows
 
-pub shared_is : (text : List ℕ) (doc : Data) (n : ParserNode) (cs : List Location) → (out-ParserNode n).absolute ≡ (found_sets text doc (path_of n) cs).shared
+pub shared_is : (text : List ℕ) (doc : Document) (n : ParserNode) (cs : List Location) → (out-ParserNode n).absolute ≡ (found_sets text doc (path_of n) cs).shared
 shared_is text doc n cs = sym (ap (λ (p : Path). (found_sets text doc p cs).shared) (path_of_out n))
 
-pub sets_done : (text : List ℕ) (doc : Data) (n : ParserNode) (i : ℕ) (xs : List ParserStep) (ps : List Tagged) (f : Location → List Location) (found : TaggedMarks Spot)
+pub sets_done : (text : List ℕ) (doc : Document) (n : ParserNode) (i : ℕ) (xs : List ParserStep) (ps : List Tagged) (f : Location → List Location) (found : TaggedMarks Spot)
     → xs ≡ (out-ParserNode n).steps.items → length xs ≤ i → ShowsSpots doc (spread f 0 (starts (out-ParserNode n).absolute (places ps))) found
     → ((c : Location) → set_follow text doc (steps_of_list (drop i xs)) (f c) ≡ set_follow text doc (steps_of_list xs) (itself c))
     → ShowsSpots doc (found_sets text doc (path_of n) (places ps)).pairs found
@@ -227,17 +227,17 @@ sets_done text doc n i xs ps f found same over shows follows =
 
 -- ---- the meaning by sets is the meaning
 
-pub alone_sets : (text : List ℕ) (doc : Data) (p : Path) → places (found_sets text doc p ([] ∷ [])).pairs ≡ set_reached text doc p []
+pub alone_sets : (text : List ℕ) (doc : Document) (p : Path) → places (found_sets text doc p ([] ∷ [])).pairs ≡ set_reached text doc p []
 alone_sets text doc (path true ss) = places_alone 0 (set_reached text doc (path true ss) [])
 alone_sets text doc (path false ss) = places_alone 0 (set_reached text doc (path false ss) [])
 
-pub kept_sets_are : (text : List ℕ) (doc : Data) (f : Condition) (ls : List Location) → ((c : Location) → set_holds text doc f c ≡ holds text doc f c)
+pub kept_sets_are : (text : List ℕ) (doc : Document) (f : Condition) (ls : List Location) → ((c : Location) → set_holds text doc f c ≡ holds text doc f c)
     → places (filter (λ (p : Tagged). set_holds text doc f p.1) (tagged 0 ls)) ≡ filter (λ l. holds text doc f l) ls
 kept_sets_are text doc f ls same = filter_tagged (set_holds text doc f) 0 ls ∙ (λ i. filter (λ l. same l i) ls)
 
 -- ---- what leads on
 
-pub leading_done : (text : List ℕ) (doc : Data) (xs : List ParserStep) (i : ℕ) (f : Location → List Location) (ls : List Location) → length xs ≤ i
+pub leading_done : (text : List ℕ) (doc : Document) (xs : List ParserStep) (i : ℕ) (f : Location → List Location) (ls : List Location) → length xs ≤ i
     → ((c : Location) → set_follow text doc (steps_of_list (drop i xs)) (f c) ≡ set_follow text doc (steps_of_list xs) (itself c))
     → numbers_where (λ c. is_some_location (f c)) 0 ls ≡ numbers_where (set_holds text doc (tree.lone (path false (steps_of_list xs)))) 0 ls
 leading_done text doc xs i f ls over follows =
@@ -246,7 +246,7 @@ leading_done text doc xs i f ls over follows =
     λ k. numbers_where (λ c. is_some_location (each c k)) 0 ls
 
 -- of spots with one tag those that pass
-pub kept_tagged : (doc : Data) (test : Location → Bool) (ls : List Location) (numbers : List ℕ) (found : TaggedMarks Spot) → numbers ≡ numbers_where test 0 ls
+pub kept_tagged : (doc : Document) (test : Location → Bool) (ls : List Location) (numbers : List ℕ) (found : TaggedMarks Spot) → numbers ≡ numbers_where test 0 ls
     → ShowsSpots doc (kept_by_number 0 numbers (tagged 0 ls)) found → StandAt doc (filter test ls) found.marks.items
 kept_tagged doc test ls numbers found are shows =
     let left : places (kept_by_number 0 numbers (tagged 0 ls)) ≡ filter test ls =
@@ -254,7 +254,7 @@ kept_tagged doc test ls numbers found are shows =
     shows.1 ∙ ap (map (look doc)) left
 
 -- those that stand where some of the distinct ones pass
-pub among_passing : (doc : Data) (test : Location → Bool) (ls : List Location) (spots passing : List Spot) → ((l m : Location) → location_cmp l m ≡ Equal → l ≡ m)
+pub among_passing : (doc : Document) (test : Location → Bool) (ls : List Location) (spots passing : List Spot) → ((l m : Location) → location_cmp l m ≡ Equal → l ≡ m)
     → OnceInOrderKeepsMembers → KeptOfASet → SomeOfASet → StandAt doc ls spots → StandAt doc (filter test (once_in_order ls)) passing
     → numbers_where (λ l. list_any (is_same l) (once_in_order (map location_of passing))) 0 (map location_of spots) ≡ numbers_where test 0 ls
 among_passing doc test ls spots passing apart keeps kept_same some_same stand pass =

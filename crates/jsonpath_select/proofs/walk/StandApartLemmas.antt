@@ -3,7 +3,7 @@ use Rattle.std.proofs.Common.{◌≡◌, ℕ, suc, ◌+◌, ◌<◌, Bool, true,
 use Rattle.std.specs.Prelude.{option_and_then}
 use Rattle.std.specs.List.{list_all}
 use Rattle.std.proofs.lemmas.List.{map-append, take_more, take-append-drop, drop-drop}
-use Rattle.serde_json.specs.Data.{Data}
+use Rattle.jsonpath_nodes.specs.document.Document.{Document}
 use Rattle.jsonpath_paths.specs.declared.token.tokens.ParseToken.{ParseToken}
 use Rattle.jsonpath_nodes.specs.place.Location.{Location, at}
 use Rattle.jsonpath_nodes.specs.step.Steps.{flattened}
@@ -21,7 +21,7 @@ use Rattle.jsonpath_select.proofs.machine.UnfilteredLemmas.{own_front, led_once}
 
 -- ---- steps one after the other
 
-along_joined : (text : List ℕ) (doc : Data) (is js : List Instruction) (ls : List Location) → along text doc (is ++ js) ls ≡ along text doc js (along text doc is ls)
+along_joined : (text : List ℕ) (doc : Document) (is js : List Instruction) (ls : List Location) → along text doc (is ++ js) ls ≡ along text doc js (along text doc is ls)
 along_joined text doc [] js ls = refl
 along_joined text doc (Step leaves token ∷ is) js ls = along_joined text doc is js (stepped text doc leaves token.now ls)
 along_joined text doc (Start b ∷ is) js ls = along_joined text doc is js ls
@@ -35,7 +35,7 @@ along_joined text doc (Joins o ∷ is) js ls = along_joined text doc is js ls
 taken : (steps : List Instruction) (k : ℕ) (i : Instruction) (leaves : Bool) (token : Bor ParseToken) → k < length steps → i ≡ get_or steps k i → i ≡ Step leaves token → take (k + 1) steps ≡ take k steps ++ Step leaves token ∷ []
 taken steps k i leaves token below same plain = take_more steps k i below ∙ ap (λ (j : Instruction). take k steps ++ j ∷ []) (sym same ∙ plain)
 
-pub along_next : (text : List ℕ) (doc : Data) (steps : List Instruction) (k : ℕ) (i : Instruction) (leaves : Bool) (token : Bor ParseToken) (ls : List Location) → k < length steps → i ≡ get_or steps k i → i ≡ Step leaves token
+pub along_next : (text : List ℕ) (doc : Document) (steps : List Instruction) (k : ℕ) (i : Instruction) (leaves : Bool) (token : Bor ParseToken) (ls : List Location) → k < length steps → i ≡ get_or steps k i → i ≡ Step leaves token
     → along text doc (take (k + 1) steps) ls ≡ stepped text doc leaves token.now (along text doc (take k steps) ls)
 along_next text doc steps k i leaves token ls below same plain =
     ap (λ (is : List Instruction). along text doc is ls) (taken steps k i leaves token below same plain) ∙ along_joined text doc (take k steps) (Step leaves token ∷ []) ls
@@ -62,7 +62,7 @@ many_taken all at first last steps rest is =
 
 -- ---- the machine, over such steps and a filter behind them
 
-module _ (text : List ℕ) (doc : Data) where
+module _ (text : List ℕ) (doc : Document) where
   abbrev on_top : Found → List Found → List Operand → List Location → State
   on_top cand fs os ls = record { frames = cand ∷ fs; operands = of_path (for_all ls) ∷ os }
 
@@ -93,9 +93,9 @@ module _ (text : List ℕ) (doc : Data) where
       let both : Some t ≡ Some (entered_there cand fs os (along text doc steps ([] ∷ []))) = sym e ∙ there in
       cc
 
-module _ {M : Type 0} (located : Bool) (stand_of : M → Location) (content_of : M → Data) where
+module _ {M : Type 0} (located : Bool) (stand_of : M → Location) (content_of : M → Document) where
   -- what is shown behind them
-  pub shown_there : (text : List ℕ) (doc : Data) (steps : List Instruction) (s t : State) (frames frames' : List (FoundOf M)) (operands : List (OperandOf M)) (found : FoundOf M) → list_all is_plain_step steps ≡ true
+  pub shown_there : (text : List ℕ) (doc : Document) (steps : List Instruction) (s t : State) (frames frames' : List (FoundOf M)) (operands : List (OperandOf M)) (found : FoundOf M) → list_all is_plain_step steps ≡ true
       → ShowsState located stand_of content_of text doc s frames operands → run_all text doc (map instruction_of (Start true ∷ steps ++ Enter false true ∷ [])) s ≡ Some t
       → ShowsFound located stand_of content_of doc (for_all (flattened doc (along text doc steps ([] ∷ [])))) found → frames' ≡ frames ++ found ∷ []
       → ShowsState located stand_of content_of text doc t frames' operands

@@ -1,7 +1,7 @@
 -- The meaning of a path beside spots that stand in the document.
 use Rattle.std.proofs.Common.{Option, ◌≡◌, ℕ, suc, ◌≤◌, ◌<◌, List, [], ◌∷◌, ◌++◌, map, length, drop, Some, Bool, true, false, cond, not, ◌==◌, refl, sym, ap, ◌∙◌, append-nil, drop_of_length-le, get_or, arith, ne_eqb, ◌≢◌, ◌+◌, add-one, append_assoc, ap₂, take, ◌-◌, drop-cons, length-drop, subst}
 use Rattle.std.specs.Prelude.{filter, if◌then◌else◌}
-use Rattle.serde_json.specs.Data.{Data}
+use Rattle.jsonpath_nodes.specs.document.Document.{Document}
 use Rattle.jsonpath_paths.specs.tree.Tree as tree
 use Rattle.jsonpath_paths.specs.tree.View.{path_of, term_of, inner_of, steps_of_list}
 use Rattle.jsonpath_paths.specs.declared.tree.parser_node.ParserNode.{ParserNode, out-ParserNode}
@@ -18,13 +18,13 @@ use Rattle.jsonpath_select.proofs.walk.MarkLemmas.{length-marks, left_marks}
 
 -- ---- spots and what comparisons see of them
 
-pub values-StandAt : (doc : Data) (ls : List Location) (spots : List Spot) → StandAt doc ls spots → map (λ s. seen (value_of s)) spots ≡ values_at doc ls
+pub values-StandAt : (doc : Document) (ls : List Location) (spots : List Spot) → StandAt doc ls spots → map (λ s. seen (value_of s)) spots ≡ values_at doc ls
 values-StandAt doc [] [] h = refl
 values-StandAt doc [] (s ∷ spots) h = cc
 values-StandAt doc (l ∷ ls) [] h = cc
 values-StandAt doc (l ∷ ls) (s ∷ spots) h =
     let here : sight_of s ≡ look doc l = cc in
-    let there : at doc l ≡ Some (value_of s) = sym (ap (λ (x : Location × Option Data). x.1) here) in
+    let there : at doc l ≡ Some (value_of s) = sym (ap (λ (x : Location × Option Document). x.1) here) in
     let later : StandAt doc ls spots = cc in
     rw there (ap (λ (xs : List Seen). seen (value_of s) ∷ xs) (values-StandAt doc ls spots later))
 
@@ -39,7 +39,7 @@ pub own_step : (n : ParserNode) (b : Bool) → (out-ParserNode n).absolute ≡ b
 own_step n true is = ap has_own_step_path (path_of_out n) ∙ rw is refl
 own_step n false is = ap has_own_step_path (path_of_out n) ∙ rw is (sym (has_steps-list (out-ParserNode n).steps.items))
 
-pub reached_done : (text : List ℕ) (doc : Data) (n : ParserNode) (i : ℕ) (xs : List ParserStep) (l : Location) (ms : List Location) (spots : List Spot)
+pub reached_done : (text : List ℕ) (doc : Document) (n : ParserNode) (i : ℕ) (xs : List ParserStep) (l : Location) (ms : List Location) (spots : List Spot)
     → xs ≡ (out-ParserNode n).steps.items → length xs ≤ i → StandAt doc ms spots
     → follow text doc (steps_of_list (drop i xs)) ms ≡ follow text doc (steps_of_list xs) ((if (out-ParserNode n).absolute then [] else l) ∷ [])
     → StandAt doc (reached text doc (path_of n) l) spots
@@ -53,7 +53,7 @@ reached_done text doc n i xs l ms spots same over stand kept =
 
 -- ---- what a test keeps
 
-module _ (doc : Data) (test : Location → Bool) where
+module _ (doc : Document) (test : Location → Bool) where
   pub keep_done : (i : ℕ) (ls : List Location) (spots kept : List Spot) → length spots ≤ i → StandAt doc ls spots
       → map sight_of kept ++ map (look doc) (filter test (drop i ls)) ≡ map (look doc) (filter test ls) → StandAt doc (filter test ls) kept
   keep_done i ls spots kept over stand held =
@@ -69,12 +69,12 @@ module _ (doc : Data) (test : Location → Bool) where
       let at_i = left_marks true location_of value_of doc ls spots i d stand below in
       let passes : test at_i.0 ≡ true = sym (is at_i.0 at_i.1) in
       let ahead : map (look doc) (filter test (drop i ls)) ≡ look doc at_i.0 ∷ map (look doc) (filter test (drop (suc i) ls)) = rw (at_i.2, passes) refl in
-      rw (add-one, more, append_assoc) (ap (λ (x : Location × Option Data). map sight_of kept ++ x ∷ map (look doc) (filter test (drop (suc i) ls))) at_i.1 ∙ ap (λ (xs : List (Location × Option Data)). map sight_of kept ++ xs) (sym ahead) ∙ held)
+      rw (add-one, more, append_assoc) (ap (λ (x : Location × Option Document). map sight_of kept ++ x ∷ map (look doc) (filter test (drop (suc i) ls))) at_i.1 ∙ ap (λ (xs : List (Location × Option Document)). map sight_of kept ++ xs) (sym ahead) ∙ held)
   keep_more false i ls spots kept kept' d below stand is more held =
       let at_i = left_marks true location_of value_of doc ls spots i d stand below in
       let fails : test at_i.0 ≡ false = sym (is at_i.0 at_i.1) in
       let ahead : map (look doc) (filter test (drop i ls)) ≡ map (look doc) (filter test (drop (suc i) ls)) = rw (at_i.2, fails) refl in
-      rw (add-one, more, append-nil) (ap (λ (xs : List (Location × Option Data)). map sight_of kept ++ xs) (sym ahead) ∙ held)
+      rw (add-one, more, append-nil) (ap (λ (xs : List (Location × Option Document)). map sight_of kept ++ xs) (sym ahead) ∙ held)
 
   pub keep_next : (b : Bool) (i : ℕ) (ls : List Location) (spots kept kept' : List Spot) (s : Spot) → s ≡ get_or spots i s → i < length spots → StandAt doc ls spots
       → ((l : Location) → StandsAt doc l s → b ≡ test l) → map sight_of kept' ≡ map sight_of kept ++ cond b (sight_of s ∷ []) []
@@ -85,17 +85,17 @@ module _ (doc : Data) (test : Location → Bool) where
 
 -- ---- the values of a term
 
-pub values_done : (text : List ℕ) (doc : Data) (l : Location) (term : Term) (p : ParserNode) (found : List Spot) → term ≡ Path p → StandAt doc (reached text doc (path_of p) l) found
+pub values_done : (text : List ℕ) (doc : Document) (l : Location) (term : Term) (p : ParserNode) (found : List Spot) → term ≡ Path p → StandAt doc (reached text doc (path_of p) l) found
     → map (λ s. seen (value_of s)) found ≡ values text doc (term_of term) l
 values_done text doc l term p found is stand =
     values-StandAt doc (reached text doc (path_of p) l) found stand ∙ ap (λ (t : Term). values text doc (term_of t) l) (sym is)
 
 -- ---- what leads on, step by step
 
-pub root_marks : (doc : Data) (s : Spot) (items : List Spot) → items ≡ s ∷ [] → location_of s ≡ [] → value_of s ≡ doc → StandAt doc ([] ∷ []) items
-root_marks doc s items is place value = ap (map sight_of) is ∙ ap₂ (λ (l : Location) (d : Data). (l, Some d) ∷ []) place value
+pub root_marks : (doc : Document) (s : Spot) (items : List Spot) → items ≡ s ∷ [] → location_of s ≡ [] → value_of s ≡ doc → StandAt doc ([] ∷ []) items
+root_marks doc s items is place value = ap (map sight_of) is ∙ ap₂ (λ (l : Location) (d : Document). (l, Some d) ∷ []) place value
 
-pub all_steps : (text : List ℕ) (doc : Data) (n : ParserNode) (xs : List ParserStep) → xs ≡ (out-ParserNode n).steps.items → follow text doc (steps_of_list xs) ([] ∷ []) ≡ reached text doc (path_of n) []
+pub all_steps : (text : List ℕ) (doc : Document) (n : ParserNode) (xs : List ParserStep) → xs ≡ (out-ParserNode n).steps.items → follow text doc (steps_of_list xs) ([] ∷ []) ≡ reached text doc (path_of n) []
 all_steps text doc n xs same =
     ap (λ (ss : List ParserStep). follow text doc (steps_of_list ss) ([] ∷ [])) same
     ∙ begin (out-ParserNode n).absolute ∙ sym (ap (λ (p : tree.Path). reached text doc p []) (path_of_out n))
@@ -107,14 +107,14 @@ all_steps text doc n xs same =
 pub rest_of : {X : Type 0} (xs : List X) (i : ℕ) → take (length xs - i) (drop i xs) ≡ drop i xs
 rest_of xs i = ap (λ n. take n (drop i xs)) (sym (length-drop i xs)) ∙ take-length (drop i xs)
 
-pub follow_next : (text : List ℕ) (doc : Data) (xs : List ParserStep) (i : ℕ) (s : ParserStep) (ls all : List Location) → i < length xs → s ≡ get_or xs i s
+pub follow_next : (text : List ℕ) (doc : Document) (xs : List ParserStep) (i : ℕ) (s : ParserStep) (ls all : List Location) → i < length xs → s ≡ get_or xs i s
     → follow text doc (steps_of_list (drop i xs)) ls ≡ all → follow text doc (steps_of_list (drop (i + 1) xs)) (inner_on text doc (inner_of s.inner) s.leaves ls) ≡ all
 follow_next text doc xs i s ls all within is follows =
     let left : drop i xs ≡ s ∷ drop (i + 1) xs = drop-cons xs i s within ∙ ap₂ (λ (x : ParserStep) (ys : List ParserStep). x ∷ ys) (sym is) (rw add-one refl) in
     sym (ap (λ (ys : List ParserStep). follow text doc (steps_of_list ys) ls) left) ∙ follows
 
 -- A path is followed from spots that lead on, to all that it selects, or to the first of that.
-module _ (front : List Location → List Location) (text : List ℕ) (doc : Data) (n : ParserNode) (xs : List ParserStep) where
+module _ (front : List Location → List Location) (text : List ℕ) (doc : Document) (n : ParserNode) (xs : List ParserStep) where
   abbrev leading : List ParserStep → List Location → List Location
   leading ss ls = front (filter (λ l. holds text doc (tree.lone (tree.path false (steps_of_list ss))) l) ls)
 

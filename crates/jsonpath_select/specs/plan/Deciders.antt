@@ -2,12 +2,12 @@
 use Rattle.std.specs.Prelude.{◌≡◌, Bool, true, false, List, [], ◌∷◌, ◌++◌, map, Option, Some, None}
 use Rattle.std.specs.Cmp.Lexicographic.{slice_cmp}
 use Rattle.std.specs.List.{list_any}
-use Rattle.std.specs.Ordering.{nat_cmp, int_cmp, is_eq}
+use Rattle.std.specs.Ordering.{nat_cmp, is_eq}
 use Rattle.jsonpath_paths.specs.Numbers.{decimal_units}
 use Rattle.jsonpath_paths.specs.declared.token.tokens.FilterToken.{FilterToken}
 use Rattle.jsonpath_paths.specs.declared.token.tokens.FilterToken.TheVariants.{Little, LittleOrEqual, Greater, GreaterOrEqual}
 use Rattle.jsonpath_nodes.specs.compare.Atoms.{seen_by}
-use Rattle.jsonpath_nodes.specs.compare.Comparisons.{Seen, null_value, truth, decimal, text}
+use Rattle.jsonpath_nodes.specs.compare.Comparisons.{Seen, null_value, truth, fraction, decimal, text, fraction_cmp}
 use Rattle.jsonpath_select.specs.Parts.{is_pair}
 use Rattle.jsonpath_select.specs.declared.comparison.decider.Decider.{Decider}
 use Rattle.jsonpath_select.specs.declared.comparison.decider.Decider.TheVariants.{All, Few, ValueSet as Looked}
@@ -53,7 +53,7 @@ abbrev pub is_among_known : ValueSet → Seen → Bool
 is_among_known k null_value = k.has_null
 is_among_known k (truth true) = k.has_true
 is_among_known k (truth false) = k.has_false
-is_among_known k (decimal u) = list_any (λ d. is_eq (int_cmp u (decimal_units d))) k.numbers.keys
+is_among_known k (fraction a m) = list_any (λ d. is_eq (fraction_cmp a m (decimal_units d) 18)) k.numbers.keys
 is_among_known k (text s) = list_any (λ t. is_eq (slice_cmp nat_cmp s t.now)) k.texts.keys
 is_among_known k _ = false
 

@@ -2,7 +2,7 @@
 -- which is the candidate's number, and a location; a condition is an ascending list of tags. What begins at the root is led
 -- once, as if for one candidate, and serves them all.
 use Rattle.std.specs.Prelude.{ℕ, zero, suc, ◌==◌, Bool, true, false, ◌&&◌, List, [], ◌∷◌, ◌++◌, map, length, if◌then◌else◌, Option, Some, None, option_map, option_and_then}
-use Rattle.serde_json.specs.Data.{Data}
+use Rattle.jsonpath_nodes.specs.document.Document.{Document}
 use Rattle.jsonpath_paths.specs.declared.token.tokens.FilterToken.{FilterToken}
 use Rattle.jsonpath_paths.specs.declared.token.tokens.ParseToken.{ParseToken}
 use Rattle.jsonpath_nodes.specs.place.Location.{Location}
@@ -81,7 +81,7 @@ pub data Operand : Type 0 where
   literal : List Seen → Operand
 
 -- what a comparison sees of an operand at a tag, and what is behind it
-abbrev pub values_front : Data → ℕ → Operand → List Seen
+abbrev pub values_front : Document → ℕ → Operand → List Seen
 values_front doc t (of_path f) = values_at doc (locations_at_tag f.shared t f.pairs)
 values_front doc t (tags ts) = []
 values_front doc t (literal vs) = vs
@@ -92,7 +92,7 @@ values_behind t (tags ts) = tags ts
 values_behind t (literal vs) = literal vs
 
 -- the tags at which some left and some right value satisfy the comparison
-abbrev pub compared : Data → FilterToken → ℕ → ℕ → Operand → Operand → List ℕ
+abbrev pub compared : Document → FilterToken → ℕ → ℕ → Operand → Operand → List ℕ
 compared doc op t zero a b = []
 compared doc op t (suc k) a b =
     let later = compared doc op (suc t) k (values_behind t a) (values_behind t b) in
@@ -142,17 +142,17 @@ is_side (tags ts) = false
 is_side (literal vs) = true
 
 -- where a plain step leads
-abbrev pub stepped : List ℕ → Data → Bool → ParseToken → List Location → List Location
+abbrev pub stepped : List ℕ → Document → Bool → ParseToken → List Location → List Location
 stepped text doc leaves token ls = step doc (plain_of text token) (if leaves then all_below doc ls else ls)
 
 -- the candidates of a filter
-abbrev pub gathered : Data → Bool → Bool → List Location → List Location
+abbrev pub gathered : Document → Bool → Bool → List Location → List Location
 gathered doc leaves deep ls =
     let base = if leaves then step doc every (all_below doc ls) else ls in
     if deep then flattened doc base else base
 
 -- the candidates of a filter for each tag, of so many
-abbrev pub entered : Data → Bool → Bool → ℕ → List Tagged → List Tagged
+abbrev pub entered : Document → Bool → Bool → ℕ → List Tagged → List Tagged
 entered doc false false count ps = ps
 entered doc leaves deep count ps = each_tag (gathered doc leaves deep) 0 count ps
 
@@ -173,7 +173,7 @@ abbrev pub number_of : Found → ℕ
 number_of cand = length (places cand.pairs)
 
 -- one instruction, at the innermost candidates and the operands
-abbrev pub on_operands : List ℕ → Data → Instruction → Found → List Operand → Option (List Operand)
+abbrev pub on_operands : List ℕ → Document → Instruction → Found → List Operand → Option (List Operand)
 on_operands text doc (start absolute) cand os = Some (of_path (start_of_path absolute (places cand.pairs)) ∷ os)
 on_operands text doc (plain_step leaves token) cand (of_path f ∷ os) = Some (of_path (record f { pairs = each_tag (stepped text doc leaves token) 0 (list_count_for_candidates f.shared (number_of cand)) f.pairs }) ∷ os)
 on_operands text doc (constant token) cand os = Some (literal (literals text token) ∷ os)
@@ -184,7 +184,7 @@ on_operands text doc (joins op) cand (b ∷ a ∷ os) =
 on_operands text doc _ cand os = None
 
 -- the locations on top become the candidates of a filter
-abbrev pub opened : Data → Bool → Bool → List Found → List Operand → Option State
+abbrev pub opened : Document → Bool → Bool → List Found → List Operand → Option State
 opened doc leaves deep (cand ∷ fs) (of_path f ∷ os) =
     Some (record { frames = record f { pairs = entered doc leaves deep (list_count_for_candidates f.shared (number_of cand)) f.pairs } ∷ cand ∷ fs; operands = os })
 opened doc leaves deep _ _ = None
@@ -194,17 +194,17 @@ abbrev pub filter_closed : List Found → List Operand → Option State
 filter_closed (cand ∷ fs) (o ∷ os) = option_map (λ ts. record { frames = fs; operands = of_path (record cand { pairs = kept_by_number 0 ts cand.pairs }) ∷ os }) (as_tags (number_of cand) o)
 filter_closed _ _ = None
 
-abbrev pub inside : List ℕ → Data → Instruction → List Found → List Operand → Option State
+abbrev pub inside : List ℕ → Document → Instruction → List Found → List Operand → Option State
 inside text doc i [] os = None
 inside text doc i (cand ∷ fs) os = option_map (λ more. record { frames = cand ∷ fs; operands = more }) (on_operands text doc i cand os)
 
 -- one instruction; none where an operand is missing or of the wrong kind
-abbrev pub one : List ℕ → Data → Instruction → State → Option State
+abbrev pub one : List ℕ → Document → Instruction → State → Option State
 one text doc (enter leaves deep) s = opened doc leaves deep s.frames s.operands
 one text doc leave s = filter_closed s.frames s.operands
 one text doc i s = inside text doc i s.frames s.operands
 
-abbrev pub run_all : List ℕ → Data → List Instruction → State → Option State
+abbrev pub run_all : List ℕ → Document → List Instruction → State → Option State
 run_all text doc [] s = Some s
 run_all text doc (i ∷ is) s = option_and_then (run_all text doc is) (one text doc i s)
 

@@ -1,6 +1,6 @@
 -- How the code holds tagged locations.
 use Rattle.std.specs.Prelude.{◌≡◌, ℕ, Bool, List, map, true, false}
-use Rattle.serde_json.specs.Data.{Data}
+use Rattle.jsonpath_nodes.specs.document.Document.{Document}
 use Rattle.jsonpath_nodes.specs.place.Location.{Location}
 use Rattle.jsonpath_nodes.specs.place.Mark.{shown, look_kept, MarksStandAt}
 use Rattle.jsonpath_nodes.specs.place.Order.{once_in_order}
@@ -15,7 +15,7 @@ abbrev pub tags_of : List Tagged → List ℕ
 tags_of ps = map (λ (p : Tagged). p.0) ps
 
 -- where a way leads the locations of one tag
-abbrev pub led : Data → Move → List Location → List Location
+abbrev pub led : Document → Move → List Location → List Location
 led doc (Step leaves token text) ls = stepped text.now doc leaves token.now ls
 led doc (Member key) ls = step doc (named key.now) ls
 led doc Lower ls = gathered doc true false ls
@@ -27,16 +27,16 @@ led doc Topmost ls = topmost ls
 -- ---- marks, by whether they keep their locations, where they stand and what they hold
 
 -- the mark stands at this location of the document
-abbrev pub MarkStandsAt : {M : Type 0} → Bool → (M → Location) → (M → Data) → Data → Location → M → Type 0
+abbrev pub MarkStandsAt : {M : Type 0} → Bool → (M → Location) → (M → Document) → Document → Location → M → Type 0
 MarkStandsAt b stand content doc l m = shown stand content m ≡ look_kept b doc l
 
 -- these tags and marks are those pairs
-abbrev pub ArePairs : {M : Type 0} → Bool → (M → Location) → (M → Data) → Data → List Tagged → List ℕ → List M → Type 0
+abbrev pub ArePairs : {M : Type 0} → Bool → (M → Location) → (M → Document) → Document → List Tagged → List ℕ → List M → Type 0
 ArePairs b stand content doc ps tags marks = (tags ≡ tags_of ps) × MarksStandAt b stand content doc (places ps) marks
 
-abbrev pub Shows : {M : Type 0} → Bool → (M → Location) → (M → Data) → Data → List Tagged → TaggedMarks M → Type 0
+abbrev pub Shows : {M : Type 0} → Bool → (M → Location) → (M → Document) → Document → List Tagged → TaggedMarks M → Type 0
 Shows b stand content doc ps n = ArePairs b stand content doc ps n.tags.items n.marks.items
 
 -- wherever the first pairs are, the others are those that f gives
-abbrev pub LeadsPairs : {M : Type 0} → Bool → (M → Location) → (M → Data) → (Data → List Tagged → List Tagged) → TaggedMarks M → TaggedMarks M → Type 0
-LeadsPairs b stand content f n m = (doc : Data) (ps : List Tagged) → Shows b stand content doc ps n → Shows b stand content doc (f doc ps) m
+abbrev pub LeadsPairs : {M : Type 0} → Bool → (M → Location) → (M → Document) → (Document → List Tagged → List Tagged) → TaggedMarks M → TaggedMarks M → Type 0
+LeadsPairs b stand content f n m = (doc : Document) (ps : List Tagged) → Shows b stand content doc ps n → Shows b stand content doc (f doc ps) m

@@ -1,7 +1,7 @@
 -- How the locations stand that plain steps lead to, one after the other.
 use Rattle.std.specs.Prelude.{◌≡◌, ℕ, Bool, true, false, List, [], ◌∷◌, ◌++◌}
 use Rattle.std.specs.List.{list_all}
-use Rattle.serde_json.specs.Data.{Data}
+use Rattle.jsonpath_nodes.specs.document.Document.{Document}
 use Rattle.jsonpath_nodes.specs.place.Location.{Location}
 use Rattle.jsonpath_nodes.specs.place.Mark.{MarksStandAt}
 use Rattle.jsonpath_nodes.specs.step.Separate.{HasNoRepeat, IsApart, IsDisjoint}
@@ -14,7 +14,7 @@ use Rattle.jsonpath_select.specs.declared.machine.instruction.Instruction.{Instr
 use Rattle.jsonpath_select.specs.declared.machine.instruction.Instruction.TheVariants.{Start, Step, Enter}
 
 -- where plain steps lead, each in turn
-abbrev pub along : List ℕ → Data → List Instruction → List Location → List Location
+abbrev pub along : List ℕ → Document → List Instruction → List Location → List Location
 along text doc [] ls = ls
 along text doc (Step leaves token ∷ steps) ls = along text doc steps (stepped text doc leaves token.now ls)
 along text doc (_ ∷ steps) ls = along text doc steps ls
@@ -31,7 +31,7 @@ IsStanding Distinct ls = HasNoRepeat ls
 IsStanding Unknown ls = Unit {0}
 
 -- the marks stand at these locations of the document, of which this is known
-abbrev pub AreStanding : {M : Type 0} → Bool → (M → Location) → (M → Data) → Data → List Location → StandingMarks M → Type 0
+abbrev pub AreStanding : {M : Type 0} → Bool → (M → Location) → (M → Document) → Document → List Location → StandingMarks M → Type 0
 AreStanding b stand content doc ls found = MarksStandAt b stand content doc ls found.marks.items × IsStanding found.standing ls
 
 -- plain steps lead to a filter whose own `@` has a step

@@ -1,6 +1,7 @@
 //! The first of the values that a path selects, and whether there is any.
 ghost use Rattle.std.specs.Prelude.{◌≡◌, option_map, IfOk, IfErr};
 ghost use Rattle.serde_json.specs.View.{view};
+ghost use Rattle.jsonpath_nodes.specs.document.OfData.{document_of};
 ghost use Rattle.jsonpath_paths.specs.Listed.{IsListOfText};
 ghost use Rattle.jsonpath_select.specs.answer.Counted.{IsFirstOf, TellsIfAny};
 ghost use Rattle.jsonpath_select.specs.AnyPath.{ArePartsOf};
@@ -26,7 +27,7 @@ pub(crate) fn first_by_parts<'a>(
     path: PathParts<'_>,
 ) -> Result<Option<&'a Value>, JsonPathError>
     requires { ArePartsOf path.text.now path }
-    ensures ok { IfOk result (λ first. IsFirstOf (Selects path.entry.text.now (view json.now)) (option_map (λ v. view v.now) first)) }
+    ensures ok { IfOk result (λ first. IsFirstOf (Selects path.entry.text.now (document_of (view json.now))) (option_map (λ v. document_of (view v.now)) first)) }
     ensures refused { IfErr result (λ e. e ≡ JsonPathError.OutOfMemory) }
 {
     let text = path.text;
@@ -45,7 +46,7 @@ pub(crate) fn exists_by_parts(
     path: PathParts<'_>,
 ) -> Result<bool, JsonPathError>
     requires { ArePartsOf path.text.now path }
-    ensures ok { IfOk result (TellsIfAny (Selects path.entry.text.now (view json.now))) }
+    ensures ok { IfOk result (TellsIfAny (Selects path.entry.text.now (document_of (view json.now)))) }
     ensures refused { IfErr result (λ e. e ≡ JsonPathError.OutOfMemory) }
 {
     let text = path.text;
@@ -69,7 +70,7 @@ fn first_by_tokens<'a>(
     tokens: &[ParseToken],
 ) -> Result<Option<&'a Value>, NoMemory>
     requires { IsListOfText text.now tokens.now }
-    ensures { IfOk result (λ first. IsFirstOf (Selects text.now (view json.now)) (option_map (λ v. view v.now) first)) }
+    ensures { IfOk result (λ first. IsFirstOf (Selects text.now (document_of (view json.now))) (option_map (λ v. document_of (view v.now)) first)) }
 {
     let machine = Machine {
         alloc,

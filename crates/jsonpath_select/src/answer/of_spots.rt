@@ -1,7 +1,8 @@
 //! The locations of nodes, and their values.
 ghost use Rattle.std.specs.Prelude.{◌≡◌, List, ℕ, map, IfOk, IfErr};
-ghost use Rattle.serde_json.specs.Data.{Data};
+ghost use Rattle.jsonpath_nodes.specs.document.Document.{Document};
 ghost use Rattle.serde_json.specs.View.{view};
+ghost use Rattle.jsonpath_nodes.specs.document.OfData.{document_of};
 ghost use Rattle.jsonpath_select.specs.Meaning.{Selects, SelectsAt, SelectsSpots};
 
 use crate::error::JsonPathError;
@@ -16,7 +17,7 @@ pub(crate) fn locations_of_selected_spots(
     alloc: Global,
     spots: &[Spot<'_>],
 ) -> Result<Vec<Location>, JsonPathError>
-    ensures ok { IfOk result (λ found. (text : List ℕ) (doc : Data) → SelectsSpots text doc spots.now → SelectsAt text doc found.items) }
+    ensures ok { IfOk result (λ found. (text : List ℕ) (doc : Document) → SelectsSpots text doc spots.now → SelectsAt text doc found.items) }
     ensures refused { IfErr result (λ e. e ≡ JsonPathError.OutOfMemory) }
 {
     spots_show_their_locations();
@@ -33,7 +34,7 @@ pub(crate) fn values_of_selected_spots<'a>(
     alloc: Global,
     spots: &[Spot<'a>],
 ) -> Result<Vec<&'a Value>, JsonPathError>
-    ensures ok { IfOk result (λ found. (text : List ℕ) (doc : Data) → SelectsSpots text doc spots.now → Selects text doc (map (λ v. view v.now) found.items)) }
+    ensures ok { IfOk result (λ found. (text : List ℕ) (doc : Document) → SelectsSpots text doc spots.now → Selects text doc (map (λ v. document_of (view v.now)) found.items)) }
     ensures refused { IfErr result (λ e. e ≡ JsonPathError.OutOfMemory) }
 {
     let mut found = Vec::new(alloc);

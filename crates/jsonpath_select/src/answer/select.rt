@@ -1,6 +1,7 @@
 //! What a compiled path or a bare token list selects in a value, as nodes and as values.
 ghost use Rattle.std.specs.Prelude.{◌≡◌, map, IfOk, IfErr};
 ghost use Rattle.serde_json.specs.View.{view};
+ghost use Rattle.jsonpath_nodes.specs.document.OfData.{document_of};
 ghost use Rattle.jsonpath_nodes.specs.place.SpotPlace.{StandAt};
 ghost use Rattle.jsonpath_paths.specs.Listed.{IsListOf, IsListOfText, IsSomePath};
 ghost use Rattle.jsonpath_select.specs.AnyPath.{ArePartsOf};
@@ -35,7 +36,7 @@ pub fn select_path<'a>(
     json: &'a Value,
     path: &PathParser<'_>,
 ) -> Result<Vec<Spot<'a>>, JsonPathError>
-    ensures ok { IfOk result (λ found. SelectsSpots path.now (view json.now) found.items) }
+    ensures ok { IfOk result (λ found. SelectsSpots path.now (document_of (view json.now)) found.items) }
     ensures refused { IfErr result (λ e. e ≡ JsonPathError.OutOfMemory) }
 {
     spots_by_parts(alloc, json, path.parts())
@@ -63,7 +64,7 @@ pub fn select_tokens<'a>(
     tokens: &[ParseToken],
 ) -> Result<Vec<Spot<'a>>, JsonPathError>
     requires { IsSomePath text.now tokens.now }
-    ensures ok { IfOk result (λ found. (p : Path) → IsListOf text.now p tokens.now → StandAt (view json.now) (sel text.now (view json.now) p) found.items) }
+    ensures ok { IfOk result (λ found. (p : Path) → IsListOf text.now p tokens.now → StandAt (document_of (view json.now)) (sel text.now (document_of (view json.now)) p) found.items) }
     ensures refused { IfErr result (λ e. e ≡ JsonPathError.OutOfMemory) }
 {
     let machine = Machine {
@@ -88,7 +89,7 @@ pub fn select_path_in_any_order<'a>(
     json: &'a Value,
     path: &PathParser<'_>,
 ) -> Result<Vec<Spot<'a>>, JsonPathError>
-    ensures ok { IfOk result (λ found. SelectsSet path.now (view json.now) found.items) }
+    ensures ok { IfOk result (λ found. SelectsSet path.now (document_of (view json.now)) found.items) }
     ensures refused { IfErr result (λ e. e ≡ JsonPathError.OutOfMemory) }
 {
     spot_set_by_parts(alloc, json, path.parts())
@@ -102,7 +103,7 @@ pub(crate) fn spots_by_parts<'a>(
     path: PathParts<'_>,
 ) -> Result<Vec<Spot<'a>>, JsonPathError>
     requires { ArePartsOf path.text.now path }
-    ensures ok { IfOk result (λ found. SelectsSpots path.entry.text.now (view json.now) found.items) }
+    ensures ok { IfOk result (λ found. SelectsSpots path.entry.text.now (document_of (view json.now)) found.items) }
     ensures refused { IfErr result (λ e. e ≡ JsonPathError.OutOfMemory) }
 {
     let text = path.text;
@@ -120,7 +121,7 @@ pub(crate) fn values_by_parts<'a>(
     path: PathParts<'_>,
 ) -> Result<Vec<&'a Value>, JsonPathError>
     requires { ArePartsOf path.text.now path }
-    ensures ok { IfOk result (λ found. Selects path.entry.text.now (view json.now) (map (λ v. view v.now) found.items)) }
+    ensures ok { IfOk result (λ found. Selects path.entry.text.now (document_of (view json.now)) (map (λ v. document_of (view v.now)) found.items)) }
     ensures refused { IfErr result (λ e. e ≡ JsonPathError.OutOfMemory) }
 {
     let text = path.text;
@@ -137,7 +138,7 @@ pub(crate) fn spot_set_by_parts<'a>(
     path: PathParts<'_>,
 ) -> Result<Vec<Spot<'a>>, JsonPathError>
     requires { ArePartsOf path.text.now path }
-    ensures ok { IfOk result (λ found. SelectsSet path.entry.text.now (view json.now) found.items) }
+    ensures ok { IfOk result (λ found. SelectsSet path.entry.text.now (document_of (view json.now)) found.items) }
     ensures refused { IfErr result (λ e. e ≡ JsonPathError.OutOfMemory) }
 {
     let text = path.text;
@@ -156,7 +157,7 @@ pub(crate) fn spots_by_tree<'a>(
     tree: &ParserNode,
 ) -> Result<Vec<Spot<'a>>, JsonPathError>
     requires { Spells text.now (path_of tree.now) }
-    ensures ok { IfOk result (λ found. SelectsSpots text.now (view json.now) found.items) }
+    ensures ok { IfOk result (λ found. SelectsSpots text.now (document_of (view json.now)) found.items) }
     ensures refused { IfErr result (λ e. e ≡ JsonPathError.OutOfMemory) }
 {
     let walk = Walk {
@@ -176,7 +177,7 @@ pub(crate) fn values_by_tree<'a>(
     tree: &ParserNode,
 ) -> Result<Vec<&'a Value>, JsonPathError>
     requires { Spells text.now (path_of tree.now) }
-    ensures ok { IfOk result (λ found. Selects text.now (view json.now) (map (λ v. view v.now) found.items)) }
+    ensures ok { IfOk result (λ found. Selects text.now (document_of (view json.now)) (map (λ v. document_of (view v.now)) found.items)) }
     ensures refused { IfErr result (λ e. e ≡ JsonPathError.OutOfMemory) }
 {
     let spots = spots_by_tree(alloc, json, text, tree)?;
@@ -192,7 +193,7 @@ pub(crate) fn spot_set_by_tree<'a>(
     tree: &ParserNode,
 ) -> Result<Vec<Spot<'a>>, JsonPathError>
     requires { Spells text.now (path_of tree.now) }
-    ensures ok { IfOk result (λ found. SelectsSet text.now (view json.now) found.items) }
+    ensures ok { IfOk result (λ found. SelectsSet text.now (document_of (view json.now)) found.items) }
     ensures refused { IfErr result (λ e. e ≡ JsonPathError.OutOfMemory) }
 {
     let walk = Walk {
@@ -212,7 +213,7 @@ pub(crate) fn values_by_tokens<'a>(
     tokens: &[ParseToken],
 ) -> Result<Vec<&'a Value>, JsonPathError>
     requires { IsListOfText text.now tokens.now }
-    ensures ok { IfOk result (λ found. Selects text.now (view json.now) (map (λ v. view v.now) found.items)) }
+    ensures ok { IfOk result (λ found. Selects text.now (document_of (view json.now)) (map (λ v. document_of (view v.now)) found.items)) }
     ensures refused { IfErr result (λ e. e ≡ JsonPathError.OutOfMemory) }
 {
     let machine = Machine {

@@ -2,6 +2,7 @@
 ghost use Rattle.std.specs.Prelude.{◌≡◌, IfErr, IfOk};
 ghost use Rattle.std.specs.List.Sorted.{IsStrictlySortedBy};
 ghost use Rattle.serde_json.specs.View.{view};
+ghost use Rattle.jsonpath_nodes.specs.document.OfData.{document_of};
 ghost use Rattle.jsonpath_nodes.specs.place.Location.{location_cmp};
 ghost use Rattle.jsonpath_select.specs.AnyPath.{ArePartsOf};
 ghost use Rattle.jsonpath_select.specs.Targets.{AreTargets};
@@ -20,7 +21,7 @@ pub(crate) fn targets_of(
     path: PathParts<'_>,
 ) -> Result<Vec<Location>, JsonPathError>
     requires { ArePartsOf path.text.now path }
-    ensures ok { IfOk result (λ found. AreTargets path.entry.text.now (view value.now) found.items) }
+    ensures ok { IfOk result (λ found. AreTargets path.entry.text.now (document_of (view value.now)) found.items) }
     ensures ordered { IfOk result (λ found. IsStrictlySortedBy location_cmp found.items) }
     ensures refused { IfErr result (λ e. e ≡ JsonPathError.OutOfMemory) }
 {

@@ -1,6 +1,7 @@
 //! Updates by a closure that may return an error.
 ghost use Rattle.std.specs.Prelude.{◌≡◌, Ok, IfErr, OnOk};
 ghost use Rattle.serde_json.specs.View.{view};
+ghost use Rattle.jsonpath_nodes.specs.document.OfData.{document_of};
 ghost use Rattle.jsonpath_select.specs.AnyPath.{ArePartsOf};
 ghost use Rattle.jsonpath_select.specs.Tried.{IsTried, IsEnded, try_fault_text, error_behind};
 
@@ -75,8 +76,8 @@ pub(crate) fn try_replace_at_targets<E, F: FnMut(&Value) -> Result<Option<Value>
 ) -> Result<(), TryFault<E>>
     requires path { ArePartsOf path.text.now path }
     requires callable { F.IsAlwaysCallable fun.old }
-    ensures ok { OnOk result (IsTried F.FnMut path.entry.text.now (view value.old) fun.old (Ok tt) fun.new (view value.new)) }
-    ensures refused { IfErr result (IsEnded F.FnMut (λ e. e ≡ JsonPathError.OutOfMemory) path.entry.text.now (view value.old) fun.old fun.new (view value.new)) }
+    ensures ok { OnOk result (IsTried F.FnMut path.entry.text.now (document_of (view value.old)) fun.old (Ok tt) fun.new (document_of (view value.new))) }
+    ensures refused { IfErr result (IsEnded F.FnMut (λ e. e ≡ JsonPathError.OutOfMemory) path.entry.text.now (document_of (view value.old)) fun.old fun.new (document_of (view value.new))) }
     ensures callable { F.IsAlwaysCallable fun.new }
 {
     let locations = match targets_of(alloc, value, path) {

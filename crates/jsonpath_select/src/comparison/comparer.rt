@@ -3,7 +3,7 @@
 ghost use Rattle.std.specs.Prelude.{◌≡◌, ◌≤◌, ◌+◌, ◌==◌, length, drop, true, false, if◌then◌else◌, IfOk};
 ghost use Rattle.std.specs.Cow.{cow_str_bytes};
 ghost use Rattle.std.specs.List.{prefix_len};
-ghost use Rattle.serde_json.specs.Data.{Data};
+ghost use Rattle.jsonpath_nodes.specs.document.Document.{Document};
 ghost use Rattle.jsonpath_select.specs.plan.Machine as machine;
 ghost use Rattle.jsonpath_select.specs.plan.Machine.{compared};
 ghost use Rattle.jsonpath_select.specs.plan.Stack.{IsOfTerm, ShowsOperand, quoted_text_of_operand};
@@ -44,7 +44,7 @@ impl<'t> Comparer<'t> {
     ) -> Result<Vec<usize>, NoMemory>
         requires left { IsOfTerm left }
         requires right { IsOfTerm right }
-        ensures { IfOk result (λ ts. (doc : Data) (a b : machine.Operand) → ShowsOperand M.located M.stand M.content self.now.text.now doc a left.entry → ShowsOperand M.located M.stand M.content self.now.text.now doc b right.entry
+        ensures { IfOk result (λ ts. (doc : Document) (a b : machine.Operand) → ShowsOperand M.located M.stand M.content self.now.text.now doc a left.entry → ShowsOperand M.located M.stand M.content self.now.text.now doc b right.entry
             → ts.items ≡ compared doc self.now.op 0 self.now.count a b) }
     {
         let left_text = quoted_text_of_operand(self.alloc, &left, self.text)?;
@@ -65,7 +65,7 @@ impl<'t> Comparer<'t> {
         requires left { IsOfTerm left }
         requires right { IsOfTerm right }
         ensures { IfOk result (λ ts. texts.entry.0.now ≡ quoted_text_of_operand self.now.text.now left.entry → texts.entry.1.now ≡ quoted_text_of_operand self.now.text.now right.entry
-            → (doc : Data) (a b : machine.Operand) → ShowsOperand M.located M.stand M.content self.now.text.now doc a left.entry → ShowsOperand M.located M.stand M.content self.now.text.now doc b right.entry → ts.items ≡ compared doc self.now.op 0 self.now.count a b) }
+            → (doc : Document) (a b : machine.Operand) → ShowsOperand M.located M.stand M.content self.now.text.now doc a left.entry → ShowsOperand M.located M.stand M.content self.now.text.now doc b right.entry → ts.items ≡ compared doc self.now.op 0 self.now.count a b) }
     {
         let left_side = side_of_operand(self.alloc, left, texts.0, self.text)?;
         let right_side = side_of_operand(self.alloc, right, texts.1, self.text)?;
@@ -76,7 +76,7 @@ impl<'t> Comparer<'t> {
     // The numbers of the candidates at which some atom of the left side and some atom of the right one satisfy the
     // comparison.
     fn compare_sides<'b>(&self, left: &Side<'b>, right: &Side<'b>) -> Result<Vec<usize>, NoMemory>
-        ensures { IfOk result (λ ts. (doc : Data) (a b : machine.Operand) → ShowsSide doc a left.now → ShowsSide doc b right.now → ts.items ≡ compared doc self.now.op 0 self.now.count a b) }
+        ensures { IfOk result (λ ts. (doc : Document) (a b : machine.Operand) → ShowsSide doc a left.now → ShowsSide doc b right.now → ts.items ≡ compared doc self.now.op 0 self.now.count a b) }
     {
         match (left.is_constant, right.is_constant) {
             (true, true) => self.compare_constants(left, right),
@@ -102,7 +102,7 @@ impl<'t> Comparer<'t> {
     ) -> Result<Vec<usize>, NoMemory>
         requires left { left.now.is_constant ≡ true }
         requires right { right.now.is_constant ≡ true }
-        ensures { IfOk result (λ ts. (doc : Data) (a b : machine.Operand) → ShowsSide doc a left.now → ShowsSide doc b right.now → ts.items ≡ compared doc self.now.op 0 self.now.count a b) }
+        ensures { IfOk result (λ ts. (doc : Document) (a b : machine.Operand) → ShowsSide doc a left.now → ShowsSide doc b right.now → ts.items ≡ compared doc self.now.op 0 self.now.count a b) }
     {
         let holds = has_pair(
             self.alloc,
@@ -123,7 +123,7 @@ impl<'t> Comparer<'t> {
     ) -> Result<Vec<usize>, NoMemory>
         requires left { left.now.is_constant ≡ false }
         requires right { right.now.is_constant ≡ true }
-        ensures { IfOk result (λ ts. (doc : Data) (a b : machine.Operand) → ShowsSide doc a left.now → ShowsSide doc b right.now → ts.items ≡ compared doc self.now.op 0 self.now.count a b) }
+        ensures { IfOk result (λ ts. (doc : Document) (a b : machine.Operand) → ShowsSide doc a left.now → ShowsSide doc b right.now → ts.items ≡ compared doc self.now.op 0 self.now.count a b) }
     {
         let decider = Decider::for_right_values(self.alloc, self.op, right.atoms.as_slice())?;
         let atoms = left.atoms.as_slice();
@@ -144,7 +144,7 @@ impl<'t> Comparer<'t> {
         left: &Side<'b>,
         right: &Side<'b>,
     ) -> Result<Vec<usize>, NoMemory>
-        ensures { IfOk result (λ ts. (doc : Data) (a b : machine.Operand) → ShowsSide doc a left.now → ShowsSide doc b right.now → ts.items ≡ compared doc self.now.op 0 self.now.count a b) }
+        ensures { IfOk result (λ ts. (doc : Document) (a b : machine.Operand) → ShowsSide doc a left.now → ShowsSide doc b right.now → ts.items ≡ compared doc self.now.op 0 self.now.count a b) }
     {
         let left_atoms = left.atoms.as_slice();
         let right_atoms = right.atoms.as_slice();
@@ -204,7 +204,7 @@ fn side_of_operand<'b, 'a: 'b, M: Carried<'a>>(
     text: &str,
 ) -> Result<Side<'b>, NoMemory>
     requires { IsOfTerm operand }
-    ensures { IfOk result (λ side. literal.now ≡ quoted_text_of_operand text.now operand.entry → (doc : Data) (o : machine.Operand) → ShowsOperand M.located M.stand M.content text.now doc o operand.entry → ShowsSide doc o side) }
+    ensures { IfOk result (λ side. literal.now ≡ quoted_text_of_operand text.now operand.entry → (doc : Document) (o : machine.Operand) → ShowsOperand M.located M.stand M.content text.now doc o operand.entry → ShowsSide doc o side) }
 {
     match operand {
         Operand::Marks(Found { is_shared, pairs }) => {

@@ -1,6 +1,7 @@
 //! A compiled path of any kind: what it selects in a document, and updates at what it selects.
 ghost use Rattle.std.specs.Prelude.{◌≡◌, ℕ, List, Ok, map, option_map, string_bytes, vec_len, IfOk, IfErr, OnOk, OnErr};
 ghost use Rattle.serde_json.specs.View.{view};
+ghost use Rattle.jsonpath_nodes.specs.document.OfData.{document_of};
 ghost use Rattle.jsonpath_select.specs.answer.Counted.{IsCountOf, IsFirstOf, TellsIfAny};
 ghost use Rattle.jsonpath_select.specs.answer.Given.{IsTextOfAnswer, IsTypedCountOf, IsTextRefusedOf, IsTypedRefusedOf};
 ghost use Rattle.jsonpath_select.specs.AnyPath.{ArePartsOf};
@@ -77,7 +78,7 @@ pub trait AnyPath {
     /// assert!(rt; list_to_text(alloc, found.as_slice())?.as_str() == "[2,3]");
     /// ```
     fn select<'v>(&self, alloc: Global, value: &'v Value) -> Result<Vec<&'v Value>, JsonPathError>
-        ensures ok { IfOk result (λ found. Selects (spelling self.now) (view value.now) (map (λ v. view v.now) found.items)) }
+        ensures ok { IfOk result (λ found. Selects (spelling self.now) (document_of (view value.now)) (map (λ v. document_of (view v.now)) found.items)) }
         ensures refused { IfErr result (λ e. e ≡ JsonPathError.OutOfMemory) }
     {
         values_by_parts(alloc, value, self.parts())
@@ -98,7 +99,7 @@ pub trait AnyPath {
         alloc: Global,
         value: &'v Value,
     ) -> Result<Vec<Spot<'v>>, JsonPathError>
-        ensures ok { IfOk result (λ found. SelectsSpots (spelling self.now) (view value.now) found.items) }
+        ensures ok { IfOk result (λ found. SelectsSpots (spelling self.now) (document_of (view value.now)) found.items) }
         ensures refused { IfErr result (λ e. e ≡ JsonPathError.OutOfMemory) }
     {
         spots_by_parts(alloc, value, self.parts())
@@ -114,7 +115,7 @@ pub trait AnyPath {
     /// assert!(rt; found[1].to_string(alloc)?.as_str() == "$[2]");
     /// ```
     fn select_locations(&self, alloc: Global, value: &Value) -> Result<Vec<Location>, JsonPathError>
-        ensures ok { IfOk result (λ found. SelectsAt (spelling self.now) (view value.now) found.items) }
+        ensures ok { IfOk result (λ found. SelectsAt (spelling self.now) (document_of (view value.now)) found.items) }
         ensures refused { IfErr result (λ e. e ≡ JsonPathError.OutOfMemory) }
     {
         let spots = self.select_spots(alloc, value)?;
@@ -131,8 +132,8 @@ pub trait AnyPath {
     /// assert!(rt; path.select_as_str(alloc, &document)?.as_str() == "[2,3]");
     /// ```
     fn select_as_str(&self, alloc: Global, value: &Value) -> Result<String, JsonPathError>
-        ensures ok { IfOk result (λ text. IsTextOfAnswer (Selects (spelling self.now) (view value.now)) (string_bytes text)) }
-        ensures refused { IfErr result (IsTextRefusedOf (Selects (spelling self.now) (view value.now))) }
+        ensures ok { IfOk result (λ text. IsTextOfAnswer (Selects (spelling self.now) (document_of (view value.now))) (string_bytes text)) }
+        ensures refused { IfErr result (IsTextRefusedOf (Selects (spelling self.now) (document_of (view value.now)))) }
     {
         let found = self.select(alloc, value)?;
         list_to_text(alloc, found.as_slice())
@@ -154,8 +155,8 @@ pub trait AnyPath {
         alloc: Global,
         value: &Value,
     ) -> Result<Vec<T>, JsonPathError>
-        ensures ok { IfOk result (λ found. IsTypedCountOf (Selects (spelling self.now) (view value.now)) (vec_len found)) }
-        ensures refused { IfErr result (IsTypedRefusedOf (Selects (spelling self.now) (view value.now))) }
+        ensures ok { IfOk result (λ found. IsTypedCountOf (Selects (spelling self.now) (document_of (view value.now))) (vec_len found)) }
+        ensures refused { IfErr result (IsTypedRefusedOf (Selects (spelling self.now) (document_of (view value.now)))) }
     {
         let found = self.select(alloc, value)?;
         list_to_typed(alloc, found.as_slice())
@@ -170,7 +171,7 @@ pub trait AnyPath {
     /// assert_eq!(rt; path.count(alloc, &document)?, 3);
     /// ```
     fn count(&self, alloc: Global, value: &Value) -> Result<usize, JsonPathError>
-        ensures ok { IfOk result (IsCountOf (Selects (spelling self.now) (view value.now))) }
+        ensures ok { IfOk result (IsCountOf (Selects (spelling self.now) (document_of (view value.now)))) }
         ensures refused { IfErr result (λ e. e ≡ JsonPathError.OutOfMemory) }
     {
         let found = self.select(alloc, value)?;
@@ -187,7 +188,7 @@ pub trait AnyPath {
     /// assert!(rt; first.as_u64() == Some(3));
     /// ```
     fn first<'v>(&self, alloc: Global, value: &'v Value) -> Result<Option<&'v Value>, JsonPathError>
-        ensures ok { IfOk result (λ first. IsFirstOf (Selects (spelling self.now) (view value.now)) (option_map (λ v. view v.now) first)) }
+        ensures ok { IfOk result (λ first. IsFirstOf (Selects (spelling self.now) (document_of (view value.now))) (option_map (λ v. document_of (view v.now)) first)) }
         ensures refused { IfErr result (λ e. e ≡ JsonPathError.OutOfMemory) }
     {
         first_by_parts(alloc, value, self.parts())
@@ -201,7 +202,7 @@ pub trait AnyPath {
     /// assert!(rt; path.exists(alloc, &document)?);
     /// ```
     fn exists(&self, alloc: Global, value: &Value) -> Result<bool, JsonPathError>
-        ensures ok { IfOk result (TellsIfAny (Selects (spelling self.now) (view value.now))) }
+        ensures ok { IfOk result (TellsIfAny (Selects (spelling self.now) (document_of (view value.now)))) }
         ensures refused { IfErr result (λ e. e ≡ JsonPathError.OutOfMemory) }
     {
         exists_by_parts(alloc, value, self.parts())
@@ -217,7 +218,7 @@ pub trait AnyPath {
     /// assert!(rt; document_to_text(alloc, &document)?.as_str() == "[1,[null,3]]");
     /// ```
     fn delete_in(&self, alloc: Global, value: &mut Value) -> Result<(), JsonPathError>
-        ensures ok { OnOk result (IsDeleted (spelling self.now) (view value.old) (view value.new)) }
+        ensures ok { OnOk result (IsDeleted (spelling self.now) (document_of (view value.old)) (document_of (view value.new))) }
         ensures refused { IfErr result (λ e. e ≡ JsonPathError.OutOfMemory) }
         ensures kept { OnErr result (value.new ≡ value.old) }
     {
@@ -236,7 +237,7 @@ pub trait AnyPath {
     /// assert!(rt; document_to_text(alloc, &document)?.as_str() == "[2]");
     /// ```
     fn remove_in(&self, alloc: Global, value: &mut Value) -> Result<(), JsonPathError>
-        ensures ok { OnOk result (IsRemoved (spelling self.now) (view value.old) (view value.new)) }
+        ensures ok { OnOk result (IsRemoved (spelling self.now) (document_of (view value.old)) (document_of (view value.new))) }
         ensures refused { IfErr result (λ e. e ≡ JsonPathError.OutOfMemory) }
         ensures kept { OnErr result (value.new ≡ value.old) }
     {
@@ -255,7 +256,7 @@ pub trait AnyPath {
     /// assert!(rt; document_to_text(alloc, &document)?.as_str() == "[true,[true,3]]");
     /// ```
     fn set_in(&self, alloc: Global, value: &mut Value, new: &Value) -> Result<(), JsonPathError>
-        ensures ok { OnOk result (IsSet (spelling self.now) (view new.now) (view value.old) (view value.new)) }
+        ensures ok { OnOk result (IsSet (spelling self.now) (document_of (view new.now)) (document_of (view value.old)) (document_of (view value.new))) }
         ensures refused { IfErr result (λ e. e ≡ JsonPathError.OutOfMemory) }
         ensures kept { OnErr result (value.new ≡ value.old) }
     {
@@ -282,7 +283,7 @@ pub trait AnyPath {
         fun: &mut F,
     ) -> Result<(), JsonPathError>
         requires { F.IsAlwaysCallable fun.old }
-        ensures ok { OnOk result (IsReplaced F.FnMut (spelling self.now) (view value.old) fun.old fun.new (view value.new)) }
+        ensures ok { OnOk result (IsReplaced F.FnMut (spelling self.now) (document_of (view value.old)) fun.old fun.new (document_of (view value.new))) }
         ensures refused { IfErr result (λ e. e ≡ JsonPathError.OutOfMemory) }
         ensures kept { OnErr result (value.new ≡ value.old) }
         ensures unasked { OnErr result (fun.new ≡ fun.old) }
@@ -317,8 +318,8 @@ pub trait AnyPath {
         fun: &mut F,
     ) -> Result<(), TryFault<E>>
         requires { F.IsAlwaysCallable fun.old }
-        ensures ok { OnOk result (IsTried F.FnMut (spelling self.now) (view value.old) fun.old (Ok tt) fun.new (view value.new)) }
-        ensures refused { IfErr result (IsEnded F.FnMut (λ e. e ≡ JsonPathError.OutOfMemory) (spelling self.now) (view value.old) fun.old fun.new (view value.new)) }
+        ensures ok { OnOk result (IsTried F.FnMut (spelling self.now) (document_of (view value.old)) fun.old (Ok tt) fun.new (document_of (view value.new))) }
+        ensures refused { IfErr result (IsEnded F.FnMut (λ e. e ≡ JsonPathError.OutOfMemory) (spelling self.now) (document_of (view value.old)) fun.old fun.new (document_of (view value.new))) }
         ensures callable { F.IsAlwaysCallable fun.new }
     {
         try_replace_at_targets(alloc, value, self.parts(), fun)

@@ -4,6 +4,7 @@
 
 ghost use Rattle.std.specs.Prelude.{◌<◌, ◌≤◌, [], ◌∷◌, List, IfOk, Option};
 ghost use Rattle.serde_json.specs.View.{view};
+ghost use Rattle.jsonpath_nodes.specs.document.OfData.{document_of};
 ghost use Rattle.jsonpath_paths.specs.tree.Tree.{Path, PathSteps};
 ghost use Rattle.jsonpath_nodes.specs.place.Location.{Location};
 ghost use Rattle.jsonpath_paths.specs.Listed.{IsListOf, IsSomePath};
@@ -33,7 +34,7 @@ impl<'a, 't> Machine<'a, 't> {
         tokens: &[ParseToken],
     ) -> Result<Vec<M>, M::Stop>
         requires { IsSomePath self.now.text.now tokens.now }
-        ensures { IfOk result (λ found. (p : Path) → IsListOf self.now.text.now p tokens.now → BeginAs M.located M.stand M.content (view self.now.root.now) (sel self.now.text.now (view self.now.root.now) p) found.items) }
+        ensures { IfOk result (λ found. (p : Path) → IsListOf self.now.text.now p tokens.now → BeginAs M.located M.stand M.content (document_of (view self.now.root.now)) (sel self.now.text.now (document_of (view self.now.root.now)) p) found.items) }
     {
         let code = instructions_of_token_list(self.alloc, tokens)?;
         self.first_by_instructions(&code.as_slice()[1..])
@@ -45,7 +46,7 @@ impl<'a, 't> Machine<'a, 't> {
         left: &[Instruction<'_>],
     ) -> Result<Vec<M>, M::Stop>
         requires { (ss : PathSteps) × CodesSteps left.now ss }
-        ensures { IfOk result (λ found. (ss : PathSteps) → CodesSteps left.now ss → BeginAs M.located M.stand M.content (view self.now.root.now) (follow self.now.text.now (view self.now.root.now) ss ([] ∷ [])) found.items) }
+        ensures { IfOk result (λ found. (ss : PathSteps) → CodesSteps left.now ss → BeginAs M.located M.stand M.content (document_of (view self.now.root.now)) (follow self.now.text.now (document_of (view self.now.root.now)) ss ([] ∷ [])) found.items) }
     {
         let root = self.root_marks()?;
         match next_filter(left) {
@@ -79,9 +80,9 @@ impl<'a, 't> Machine<'a, 't> {
     ) -> Result<Vec<M>, M::Stop>
         requires is { (f : Option Condition) × CodesOptionalCondition condition f }
         requires steps { (ss : PathSteps) × CodesSteps left.now ss }
-        requires there { (ls : List Location) × MarksStandAt M.located M.stand M.content (view self.now.root.now) ls starts.now × IsStanding standing ls }
-        ensures { IfOk result (λ found. (f : Option Condition) (ss : PathSteps) (ls : List Location) → CodesOptionalCondition condition.entry f → CodesSteps left.now ss → MarksStandAt M.located M.stand M.content (view self.now.root.now) ls starts.now → IsStanding standing ls
-            → BeginAs M.located M.stand M.content (view self.now.root.now) (follow self.now.text.now (view self.now.root.now) ss (kept_by self.now.text.now (view self.now.root.now) f ls)) found.items) }
+        requires there { (ls : List Location) × MarksStandAt M.located M.stand M.content (document_of (view self.now.root.now)) ls starts.now × IsStanding standing ls }
+        ensures { IfOk result (λ found. (f : Option Condition) (ss : PathSteps) (ls : List Location) → CodesOptionalCondition condition.entry f → CodesSteps left.now ss → MarksStandAt M.located M.stand M.content (document_of (view self.now.root.now)) ls starts.now → IsStanding standing ls
+            → BeginAs M.located M.stand M.content (document_of (view self.now.root.now)) (follow self.now.text.now (document_of (view self.now.root.now)) ss (kept_by self.now.text.now (document_of (view self.now.root.now)) f ls)) found.items) }
     {
         first_is_of_first_piece();
         let mut from = 0;
@@ -108,9 +109,9 @@ impl<'a, 't> Machine<'a, 't> {
     ) -> Result<Vec<M>, M::Stop>
         requires is { (f : Option Condition) × CodesOptionalCondition condition f }
         requires steps { (ss : PathSteps) × CodesSteps left.now ss }
-        requires there { (ls : List Location) × AreStanding M.located M.stand M.content (view self.now.root.now) ls slice }
-        ensures { IfOk result (λ found. (f : Option Condition) (ss : PathSteps) (ls : List Location) → CodesOptionalCondition condition.entry f → CodesSteps left.now ss → AreStanding M.located M.stand M.content (view self.now.root.now) ls slice
-            → MarksStandAt M.located M.stand M.content (view self.now.root.now) (follow self.now.text.now (view self.now.root.now) ss (kept_by self.now.text.now (view self.now.root.now) f ls)) found.items) }
+        requires there { (ls : List Location) × AreStanding M.located M.stand M.content (document_of (view self.now.root.now)) ls slice }
+        ensures { IfOk result (λ found. (f : Option Condition) (ss : PathSteps) (ls : List Location) → CodesOptionalCondition condition.entry f → CodesSteps left.now ss → AreStanding M.located M.stand M.content (document_of (view self.now.root.now)) ls slice
+            → MarksStandAt M.located M.stand M.content (document_of (view self.now.root.now)) (follow self.now.text.now (document_of (view self.now.root.now)) ss (kept_by self.now.text.now (document_of (view self.now.root.now)) f ls)) found.items) }
     {
         match condition {
             Some(condition) => {

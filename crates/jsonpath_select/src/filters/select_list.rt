@@ -5,6 +5,7 @@
 ghost use Rattle.std.specs.Prelude.{List, filter, IfOk, IsTrue};
 ghost use Rattle.std.specs.List.{list_all};
 ghost use Rattle.serde_json.specs.View.{view};
+ghost use Rattle.jsonpath_nodes.specs.document.OfData.{document_of};
 ghost use Rattle.jsonpath_paths.specs.tree.Tree.{Condition, Path, PathSteps};
 ghost use Rattle.jsonpath_nodes.specs.place.Location.{Location};
 ghost use Rattle.jsonpath_nodes.specs.place.Mark.{MarksLeadBy, MarksStandAt};
@@ -40,7 +41,7 @@ impl<'a, 't> Machine<'a, 't> {
         tokens: &[ParseToken],
     ) -> Result<Vec<M>, M::Stop>
         requires { IsSomePath self.now.text.now tokens.now }
-        ensures { IfOk result (λ found. (p : Path) → IsListOf self.now.text.now p tokens.now → MarksStandAt M.located M.stand M.content (view self.now.root.now) (sel self.now.text.now (view self.now.root.now) p) found.items) }
+        ensures { IfOk result (λ found. (p : Path) → IsListOf self.now.text.now p tokens.now → MarksStandAt M.located M.stand M.content (document_of (view self.now.root.now)) (sel self.now.text.now (document_of (view self.now.root.now)) p) found.items) }
     {
         let code = instructions_of_token_list(self.alloc, tokens)?;
         let root = self.root_marks()?;
@@ -55,9 +56,9 @@ impl<'a, 't> Machine<'a, 't> {
         from: StandingMarks<M>,
     ) -> Result<Vec<M>, M::Stop>
         requires steps { (ss : PathSteps) × CodesSteps left.now ss }
-        requires there { (ls : List Location) × AreStanding M.located M.stand M.content (view self.now.root.now) ls from }
-        ensures { IfOk result (λ found. (ss : PathSteps) (ls : List Location) → CodesSteps left.now ss → AreStanding M.located M.stand M.content (view self.now.root.now) ls from
-            → MarksStandAt M.located M.stand M.content (view self.now.root.now) (follow self.now.text.now (view self.now.root.now) ss ls) found.items) }
+        requires there { (ls : List Location) × AreStanding M.located M.stand M.content (document_of (view self.now.root.now)) ls from }
+        ensures { IfOk result (λ found. (ss : PathSteps) (ls : List Location) → CodesSteps left.now ss → AreStanding M.located M.stand M.content (document_of (view self.now.root.now)) ls from
+            → MarksStandAt M.located M.stand M.content (document_of (view self.now.root.now)) (follow self.now.text.now (document_of (view self.now.root.now)) ss ls) found.items) }
     {
         let shallow = instruction_count_after_last_filter_with_own_step(left);
         let mut rest = left;
@@ -82,9 +83,9 @@ impl<'a, 't> Machine<'a, 't> {
     ) -> Result<StandingMarks<M>, M::Stop>
         requires steps { IsTrue (list_all is_plain_step way.steps.now) }
         requires is { (f : Condition) × CodesCondition condition.now f }
-        requires there { (ls : List Location) × AreStanding M.located M.stand M.content (view self.now.root.now) ls from }
-        ensures { IfOk result (λ found. (f : Condition) (ls : List Location) → CodesCondition condition.now f → AreStanding M.located M.stand M.content (view self.now.root.now) ls from
-            → AreStanding M.located M.stand M.content (view self.now.root.now) (filter (λ l. holds self.now.text.now (view self.now.root.now) f l) (gathered (view self.now.root.now) way.entry.leaves way.entry.deep (along self.now.text.now (view self.now.root.now) way.entry.steps.now ls))) found) }
+        requires there { (ls : List Location) × AreStanding M.located M.stand M.content (document_of (view self.now.root.now)) ls from }
+        ensures { IfOk result (λ found. (f : Condition) (ls : List Location) → CodesCondition condition.now f → AreStanding M.located M.stand M.content (document_of (view self.now.root.now)) ls from
+            → AreStanding M.located M.stand M.content (document_of (view self.now.root.now)) (filter (λ l. holds self.now.text.now (document_of (view self.now.root.now)) f l) (gathered (document_of (view self.now.root.now)) way.entry.leaves way.entry.deep (along self.now.text.now (document_of (view self.now.root.now)) way.entry.steps.now ls))) found) }
     {
         let led = self.follow_steps(way.steps, asks_standing, from)?;
         let candidates = self.candidates_of_places(way, asks_standing, led)?;
@@ -99,7 +100,7 @@ impl<'a, 't> Machine<'a, 't> {
         asks_standing: bool,
         led: StandingMarks<M>,
     ) -> Result<StandingMarks<M>, M::Stop>
-        ensures { IfOk result (λ found. (ls : List Location) → AreStanding M.located M.stand M.content (view self.now.root.now) ls led → AreStanding M.located M.stand M.content (view self.now.root.now) (gathered (view self.now.root.now) way.entry.leaves way.entry.deep ls) found) }
+        ensures { IfOk result (λ found. (ls : List Location) → AreStanding M.located M.stand M.content (document_of (view self.now.root.now)) ls led → AreStanding M.located M.stand M.content (document_of (view self.now.root.now)) (gathered (document_of (view self.now.root.now)) way.entry.leaves way.entry.deep ls) found) }
     {
         apart_locations_meet_candidates_once();
         match (way.leaves, way.deep) {
@@ -124,8 +125,8 @@ impl<'a, 't> Machine<'a, 't> {
         standing: Standing,
         marks: &[M],
     ) -> Result<Vec<M>, M::Stop>
-        ensures { IfOk result (λ found. (ls : List Location) → IsStanding standing ls → MarksStandAt M.located M.stand M.content (view self.now.root.now) ls marks.now
-            → MarksStandAt M.located M.stand M.content (view self.now.root.now) (flattened (view self.now.root.now) (step (view self.now.root.now) every (all_below (view self.now.root.now) ls))) found.items) }
+        ensures { IfOk result (λ found. (ls : List Location) → IsStanding standing ls → MarksStandAt M.located M.stand M.content (document_of (view self.now.root.now)) ls marks.now
+            → MarksStandAt M.located M.stand M.content (document_of (view self.now.root.now)) (flattened (document_of (view self.now.root.now)) (step (document_of (view self.now.root.now)) every (all_below (document_of (view self.now.root.now)) ls))) found.items) }
     {
         if marks.len() < 2 || !standing.are_disjoint() {
             return M::candidates_below_once(self.alloc, marks);
@@ -143,9 +144,9 @@ impl<'a, 't> Machine<'a, 't> {
         candidates: StandingMarks<M>,
     ) -> Result<StandingMarks<M>, M::Stop>
         requires is { (f : Condition) × CodesCondition condition.now f }
-        requires there { (cs : List Location) × AreStanding M.located M.stand M.content (view self.now.root.now) cs candidates }
-        ensures { IfOk result (λ found. (f : Condition) (cs : List Location) → CodesCondition condition.now f → AreStanding M.located M.stand M.content (view self.now.root.now) cs candidates
-            → AreStanding M.located M.stand M.content (view self.now.root.now) (filter (λ l. holds self.now.text.now (view self.now.root.now) f l) cs) found) }
+        requires there { (cs : List Location) × AreStanding M.located M.stand M.content (document_of (view self.now.root.now)) cs candidates }
+        ensures { IfOk result (λ found. (f : Condition) (cs : List Location) → CodesCondition condition.now f → AreStanding M.located M.stand M.content (document_of (view self.now.root.now)) cs candidates
+            → AreStanding M.located M.stand M.content (document_of (view self.now.root.now)) (filter (λ l. holds self.now.text.now (document_of (view self.now.root.now)) f l) cs) found) }
     {
         let standing = candidates.standing.after_filter_or_indexes();
         let all = marks_shared_by_candidates(self.alloc, candidates.marks)?;

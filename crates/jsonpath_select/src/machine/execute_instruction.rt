@@ -2,8 +2,9 @@
 //! `..` comes before a step or a filter, and `deep` that a filter uses a relative query with at least one segment.
 
 ghost use Rattle.std.specs.Prelude.{IfOk, OnOk};
-ghost use Rattle.serde_json.specs.Data.{Data};
+ghost use Rattle.jsonpath_nodes.specs.document.Document.{Document};
 ghost use Rattle.serde_json.specs.View.{view};
+ghost use Rattle.jsonpath_nodes.specs.document.OfData.{document_of};
 ghost use Rattle.jsonpath_select.specs.plan.Code as code;
 ghost use Rattle.jsonpath_select.specs.plan.Machine.{each_tag, stepped};
 ghost use Rattle.jsonpath_select.specs.plan.Shown.{LeadsPairs};
@@ -34,7 +35,7 @@ impl<'a, 't> Machine<'a, 't> {
         stacks: &mut Stacks<'c, M>,
     ) -> Result<(), M::Stop>
         requires { CanExecute M.located M.stand M.content self.now.text.now (instruction_of instruction) stacks.old }
-        ensures { OnOk result (Executes M.located M.stand M.content self.now.text.now (view self.now.root.now) (instruction_of instruction.entry) stacks.old stacks.new) }
+        ensures { OnOk result (Executes M.located M.stand M.content self.now.text.now (document_of (view self.now.root.now)) (instruction_of instruction.entry) stacks.old stacks.new) }
     {
         match instruction {
             Instruction::Start { absolute } => Ok(self.start_path(absolute, stacks)?),
@@ -57,7 +58,7 @@ impl<'a, 't> Machine<'a, 't> {
         stacks: &mut Stacks<'_, M>,
     ) -> Result<(), NoMemory>
         requires { CanExecute M.located M.stand M.content self.now.text.now (code.start absolute) stacks.old }
-        ensures { OnOk result (Executes M.located M.stand M.content self.now.text.now (view self.now.root.now) (code.start absolute) stacks.old stacks.new) }
+        ensures { OnOk result (Executes M.located M.stand M.content self.now.text.now (document_of (view self.now.root.now)) (code.start absolute) stacks.old stacks.new) }
     {
         let found = start_of_path(
             self.alloc,
@@ -77,7 +78,7 @@ impl<'a, 't> Machine<'a, 't> {
         stacks: &mut Stacks<'_, M>,
     ) -> Result<(), NoMemory>
         requires { EndsInOne stacks.old.frames.items }
-        ensures { OnOk result ((doc : Data) → Reaches M.located M.stand M.content self.now.text.now doc span stacks.old stacks.new) }
+        ensures { OnOk result ((doc : Document) → Reaches M.located M.stand M.content self.now.text.now doc span stacks.old stacks.new) }
     {
         let key = name_at(self.alloc, self.text, span)?;
         let candidates = stacks.innermost_candidates().pairs.marks.as_slice();
@@ -98,7 +99,7 @@ impl<'a, 't> Machine<'a, 't> {
         stacks: &mut Stacks<'_, M>,
     ) -> Result<(), M::Stop>
         requires { CanExecute M.located M.stand M.content self.now.text.now (code.plain_step leaves token.now) stacks.old }
-        ensures { OnOk result ((doc : Data) → Executes M.located M.stand M.content self.now.text.now doc (code.plain_step leaves token.now) stacks.old stacks.new) }
+        ensures { OnOk result ((doc : Document) → Executes M.located M.stand M.content self.now.text.now doc (code.plain_step leaves token.now) stacks.old stacks.new) }
     {
         let Found { is_shared, pairs } = pop_marks(&mut stacks.operands);
         let lists = list_count_for_candidates(is_shared, stacks.candidate_count());
@@ -148,7 +149,7 @@ impl<'a, 't> Machine<'a, 't> {
         stacks: &mut Stacks<'_, M>,
     ) -> Result<(), M::Stop>
         requires { CanExecute M.located M.stand M.content self.now.text.now (code.enter leaves deep) stacks.old }
-        ensures { OnOk result ((doc : Data) → Executes M.located M.stand M.content self.now.text.now doc (code.enter leaves deep) stacks.old stacks.new) }
+        ensures { OnOk result ((doc : Document) → Executes M.located M.stand M.content self.now.text.now doc (code.enter leaves deep) stacks.old stacks.new) }
     {
         let Found { is_shared, pairs } = pop_marks(&mut stacks.operands);
         let lists = list_count_for_candidates(is_shared, stacks.candidate_count());
@@ -160,7 +161,7 @@ impl<'a, 't> Machine<'a, 't> {
     // operands.
     fn end_filter<M: Carried<'a>>(&self, stacks: &mut Stacks<'_, M>) -> Result<(), NoMemory>
         requires { CanExecute M.located M.stand M.content self.now.text.now code.leave stacks.old }
-        ensures { OnOk result ((doc : Data) → Executes M.located M.stand M.content self.now.text.now doc code.leave stacks.old stacks.new) }
+        ensures { OnOk result ((doc : Document) → Executes M.located M.stand M.content self.now.text.now doc code.leave stacks.old stacks.new) }
     {
         let condition = pop_top(&mut stacks.operands);
         let Found { is_shared, pairs } = pop_top(&mut stacks.frames);
@@ -180,7 +181,7 @@ impl<'a, 't> Machine<'a, 't> {
         stacks: &mut Stacks<'_, M>,
     ) -> Result<(), NoMemory>
         requires { CanExecute M.located M.stand M.content self.now.text.now (code.compares op) stacks.old }
-        ensures { OnOk result ((doc : Data) → Executes M.located M.stand M.content self.now.text.now doc (code.compares op) stacks.old stacks.new) }
+        ensures { OnOk result ((doc : Document) → Executes M.located M.stand M.content self.now.text.now doc (code.compares op) stacks.old stacks.new) }
     {
         let right = pop_top(&mut stacks.operands);
         let left = pop_top(&mut stacks.operands);
@@ -203,7 +204,7 @@ impl<'a, 't> Machine<'a, 't> {
         stacks: &mut Stacks<'_, M>,
     ) -> Result<(), NoMemory>
         requires { CanExecute M.located M.stand M.content self.now.text.now (code.joins op) stacks.old }
-        ensures { OnOk result ((doc : Data) → Executes M.located M.stand M.content self.now.text.now doc (code.joins op) stacks.old stacks.new) }
+        ensures { OnOk result ((doc : Document) → Executes M.located M.stand M.content self.now.text.now doc (code.joins op) stacks.old stacks.new) }
     {
         let right = pop_top(&mut stacks.operands);
         let left = pop_top(&mut stacks.operands);

@@ -2,6 +2,7 @@
 
 ghost use Rattle.std.specs.Prelude.{◌<◌, length, drop, IfOk, IfSome, OnOk, List, filter};
 ghost use Rattle.serde_json.specs.View.{view};
+ghost use Rattle.jsonpath_nodes.specs.document.OfData.{document_of};
 ghost use Rattle.jsonpath_select.specs.plan.Machine.{at_first};
 ghost use Rattle.jsonpath_select.specs.plan.Stack.{ShowsStacks, ExecutesAll, CanGoOn, Advances, IsStepByName, BeginsWithName, ShowsFound};
 ghost use Rattle.jsonpath_paths.specs.tree.Tree.{Condition};
@@ -32,7 +33,7 @@ pub struct Machine<'a, 't> {
 impl<'a, 't> Machine<'a, 't> {
     // The stacks with which the machine begins: the root as the one candidate, and no operand.
     pub(crate) fn stacks_at_start<'c, M: Carried<'a>>(&self) -> Result<Stacks<'c, M>, NoMemory>
-        ensures { IfOk result (λ stacks. ShowsStacks M.located M.stand M.content self.now.text.now (view self.now.root.now) at_first stacks) }
+        ensures { IfOk result (λ stacks. ShowsStacks M.located M.stand M.content self.now.text.now (document_of (view self.now.root.now)) at_first stacks) }
     {
         let first = root_shared_by_candidates(self.alloc, self.root)?;
         let mut frames = Vec::new(self.alloc);
@@ -47,8 +48,8 @@ impl<'a, 't> Machine<'a, 't> {
         code: &[Instruction<'c>],
         stacks: &mut Stacks<'c, M>,
     ) -> Result<(), M::Stop>
-        requires { CanGoOn M.located M.stand M.content self.now.text.now (view self.now.root.now) code.now stacks.old }
-        ensures { OnOk result (ExecutesAll M.located M.stand M.content self.now.text.now (view self.now.root.now) code.now stacks.old stacks.new) }
+        requires { CanGoOn M.located M.stand M.content self.now.text.now (document_of (view self.now.root.now)) code.now stacks.old }
+        ensures { OnOk result (ExecutesAll M.located M.stand M.content self.now.text.now (document_of (view self.now.root.now)) code.now stacks.old stacks.new) }
     {
         let mut at = 0;
         while at < code.len() {
@@ -64,9 +65,9 @@ impl<'a, 't> Machine<'a, 't> {
         candidates: Found<M>,
     ) -> Result<Found<M>, M::Stop>
         requires is { (f : Condition) × CodesCondition condition.now f }
-        requires there { (cs : List Location) × ShowsFound M.located M.stand M.content (view self.now.root.now) (for_all cs) candidates }
-        ensures { IfOk result (λ found. (f : Condition) (cs : List Location) → CodesCondition condition.now f → ShowsFound M.located M.stand M.content (view self.now.root.now) (for_all cs) candidates
-            → ShowsFound M.located M.stand M.content (view self.now.root.now) (for_all (filter (λ l. holds self.now.text.now (view self.now.root.now) f l) cs)) found) }
+        requires there { (cs : List Location) × ShowsFound M.located M.stand M.content (document_of (view self.now.root.now)) (for_all cs) candidates }
+        ensures { IfOk result (λ found. (f : Condition) (cs : List Location) → CodesCondition condition.now f → ShowsFound M.located M.stand M.content (document_of (view self.now.root.now)) (for_all cs) candidates
+            → ShowsFound M.located M.stand M.content (document_of (view self.now.root.now)) (for_all (filter (λ l. holds self.now.text.now (document_of (view self.now.root.now)) f l) cs)) found) }
     {
         let mut stacks = self.stacks_at_start()?;
         push_top(&mut stacks.frames, candidates)?;
@@ -85,8 +86,8 @@ impl<'a, 't> Machine<'a, 't> {
         stacks: &mut Stacks<'c, M>,
     ) -> Result<usize, M::Stop>
         requires some { at < length code.now }
-        requires can { CanGoOn M.located M.stand M.content self.now.text.now (view self.now.root.now) (drop at code.now) stacks.old }
-        ensures { IfOk result (λ next. Advances M.located M.stand M.content self.now.text.now (view self.now.root.now) code.now at stacks.old next stacks.new) }
+        requires can { CanGoOn M.located M.stand M.content self.now.text.now (document_of (view self.now.root.now)) (drop at code.now) stacks.old }
+        ensures { IfOk result (λ next. Advances M.located M.stand M.content self.now.text.now (document_of (view self.now.root.now)) code.now at stacks.old next stacks.new) }
     {
         if let Some(span) = leading_name_span(&code[at..]) {
             self.start_at_member(span, stacks)?;

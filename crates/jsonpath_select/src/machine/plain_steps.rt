@@ -4,6 +4,7 @@
 ghost use Rattle.std.specs.Prelude.{List, [], ◌∷◌, true, IfOk, IfSome, IsTrue};
 ghost use Rattle.std.specs.List.{list_all};
 ghost use Rattle.serde_json.specs.View.{view};
+ghost use Rattle.jsonpath_nodes.specs.document.OfData.{document_of};
 ghost use Rattle.jsonpath_nodes.specs.place.Location.{Location};
 ghost use Rattle.jsonpath_nodes.specs.place.Mark.{MarksStandAt};
 ghost use Rattle.jsonpath_nodes.specs.step.Steps.{flattened};
@@ -66,7 +67,7 @@ impl<'a, 't> Machine<'a, 't> {
         from: StandingMarks<M>,
     ) -> Result<StandingMarks<M>, NoMemory>
         requires { IsTrue (list_all is_plain_step steps.now) }
-        ensures { IfOk result (λ led. (ls : List Location) → AreStanding M.located M.stand M.content (view self.now.root.now) ls from → AreStanding M.located M.stand M.content (view self.now.root.now) (along self.now.text.now (view self.now.root.now) steps.now ls) led) }
+        ensures { IfOk result (λ led. (ls : List Location) → AreStanding M.located M.stand M.content (document_of (view self.now.root.now)) ls from → AreStanding M.located M.stand M.content (document_of (view self.now.root.now)) (along self.now.text.now (document_of (view self.now.root.now)) steps.now ls) led) }
     {
         let mut led = from;
         for step in steps {
@@ -80,7 +81,7 @@ impl<'a, 't> Machine<'a, 't> {
 
     // The list with which a path from the root begins: the root alone.
     pub(crate) fn root_marks<M: Carried<'a>>(&self) -> Result<StandingMarks<M>, NoMemory>
-        ensures { IfOk result (AreStanding M.located M.stand M.content (view self.now.root.now) ([] ∷ [])) }
+        ensures { IfOk result (AreStanding M.located M.stand M.content (document_of (view self.now.root.now)) ([] ∷ [])) }
     {
         let mut marks = Vec::with_capacity(self.alloc, 1)?;
         marks.push(M::root(self.alloc, self.root))?;
@@ -99,7 +100,7 @@ impl<'a, 't> Machine<'a, 't> {
         asks_standing: bool,
         from: StandingMarks<M>,
     ) -> Result<StandingMarks<M>, NoMemory>
-        ensures { IfOk result (λ led. (ls : List Location) → AreStanding M.located M.stand M.content (view self.now.root.now) ls from → AreStanding M.located M.stand M.content (view self.now.root.now) (stepped self.now.text.now (view self.now.root.now) leaves token.now ls) led) }
+        ensures { IfOk result (λ led. (ls : List Location) → AreStanding M.located M.stand M.content (document_of (view self.now.root.now)) ls from → AreStanding M.located M.stand M.content (document_of (view self.now.root.now)) (stepped self.now.text.now (document_of (view self.now.root.now)) leaves token.now ls) led) }
     {
         let before = from.marks.as_slice();
         let marks = marks_after_plain_step(self.alloc, self.text, leaves, token, before)?;
@@ -128,7 +129,7 @@ impl<'a, 't> Machine<'a, 't> {
         steps: &[Instruction<'_>],
     ) -> Result<Found<M>, M::Stop>
         requires { IsTrue (list_all is_plain_step steps.now) }
-        ensures { IfOk result (λ found. ShowsFound M.located M.stand M.content (view self.now.root.now) (for_all (flattened (view self.now.root.now) (along self.now.text.now (view self.now.root.now) steps.now ([] ∷ [])))) found) }
+        ensures { IfOk result (λ found. ShowsFound M.located M.stand M.content (document_of (view self.now.root.now)) (for_all (flattened (document_of (view self.now.root.now)) (along self.now.text.now (document_of (view self.now.root.now)) steps.now ([] ∷ [])))) found) }
     {
         let root = self.root_marks()?;
         let led = self.follow_steps(steps, true, root)?;
@@ -145,7 +146,7 @@ impl<'a, 't> Machine<'a, 't> {
         standing: Standing,
         marks: &[M],
     ) -> Result<Vec<M>, M::Stop>
-        ensures { IfOk result (λ found. (ls : List Location) → IsStanding standing ls → MarksStandAt M.located M.stand M.content (view self.now.root.now) ls marks.now → MarksStandAt M.located M.stand M.content (view self.now.root.now) (flattened (view self.now.root.now) ls) found.items) }
+        ensures { IfOk result (λ found. (ls : List Location) → IsStanding standing ls → MarksStandAt M.located M.stand M.content (document_of (view self.now.root.now)) ls marks.now → MarksStandAt M.located M.stand M.content (document_of (view self.now.root.now)) (flattened (document_of (view self.now.root.now)) ls) found.items) }
     {
         if standing.are_apart() {
             apart_locations_meet_candidates_once();

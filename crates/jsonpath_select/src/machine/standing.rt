@@ -2,8 +2,9 @@
 //! candidate twice.
 
 ghost use Rattle.std.specs.Prelude.{◌≡◌, ◌<◌, Bool, List, false, filter, length, true, IfOk, IsTrue};
-ghost use Rattle.serde_json.specs.Data.{Data};
+ghost use Rattle.jsonpath_nodes.specs.document.Document.{Document};
 ghost use Rattle.serde_json.specs.View.{view};
+ghost use Rattle.jsonpath_nodes.specs.document.OfData.{document_of};
 ghost use Rattle.jsonpath_nodes.specs.place.Location.{Location};
 ghost use Rattle.jsonpath_nodes.specs.place.Mark.{MarksStandAt};
 ghost use Rattle.jsonpath_nodes.specs.step.Separate.{goes_by_names, is_every, IsApart, IsDisjoint, NamesInOrderAt, SelectsNoneTwice};
@@ -70,7 +71,7 @@ impl Standing {
     // different indexes leads: as those before. The clause `indexes` is of each step but `*` that selects no child twice.
     pub(crate) fn after_filter_or_indexes(self) -> Standing
         ensures filter { (ls : List Location) (test : Location → Bool) → IsStanding self ls → IsStanding result (filter test ls) }
-        ensures indexes { (doc : Data) (p : Plain) (ls : List Location) → is_every p ≡ false → SelectsNoneTwice p → IsStanding self ls → IsStanding result (step doc p ls) }
+        ensures indexes { (doc : Document) (p : Plain) (ls : List Location) → is_every p ≡ false → SelectsNoneTwice p → IsStanding self ls → IsStanding result (step doc p ls) }
     {
         steps_keep_locations_disjoint();
         steps_keep_locations_apart();
@@ -86,7 +87,7 @@ impl Standing {
     // How the candidates of a filter whose own `@` has a step stand to each other: what is reached out of arrays in
     // arrays from places that stand so, each once.
     pub(crate) fn after_flattening(self) -> Standing
-        ensures { (doc : Data) (ls : List Location) → IsStanding self ls → IsStanding result (flattened doc ls) }
+        ensures { (doc : Document) (ls : List Location) → IsStanding self ls → IsStanding result (flattened doc ls) }
     {
         steps_keep_locations_disjoint();
         apart_locations_meet_candidates_once();
@@ -99,7 +100,7 @@ impl Standing {
     // How the places to which a name, or a list of different names, leads stand to each other, where those that it
     // leads from stand as this says.
     pub(crate) fn after_names(self) -> Standing
-        ensures { (doc : Data) (p : Plain) (ls : List Location) → goes_by_names p ≡ true → SelectsNoneTwice p → IsStanding self ls → IsStanding result (step doc p ls) }
+        ensures { (doc : Document) (p : Plain) (ls : List Location) → goes_by_names p ≡ true → SelectsNoneTwice p → IsStanding self ls → IsStanding result (step doc p ls) }
     {
         steps_keep_locations_disjoint();
         apart_locations_meet_candidates_once();
@@ -115,7 +116,7 @@ impl Standing {
     // How the places to which `*` leads stand to each other, where those that it leads from stand as this says and the
     // names of each object there ascend.
     pub(crate) fn after_wildcard(self) -> Standing
-        ensures { (doc : Data) (ls : List Location) → NamesInOrderAt doc ls → IsStanding self ls → IsStanding result (step doc every ls) }
+        ensures { (doc : Document) (ls : List Location) → NamesInOrderAt doc ls → IsStanding self ls → IsStanding result (step doc every ls) }
     {
         steps_keep_locations_disjoint();
         apart_locations_meet_candidates_once();
@@ -136,7 +137,7 @@ impl Standing {
         text: &str,
         token: &ParseToken,
     ) -> Result<Standing, NoMemory>
-        ensures { IfOk result (λ next. (doc : Data) (ls : List Location) → IsStanding self ls → IsStanding next (step doc (plain_of text.now token.now) ls)) }
+        ensures { IfOk result (λ next. (doc : Document) (ls : List Location) → IsStanding self ls → IsStanding next (step doc (plain_of text.now token.now) ls)) }
     {
         match token {
             ParseToken::Key(_) => Ok(self.after_names()),
@@ -172,7 +173,7 @@ impl<'a, 't> Machine<'a, 't> {
         marks: &[M],
         count: usize,
     ) -> Result<Standing, NoMemory>
-        ensures { IfOk result (λ next. (ls : List Location) → MarksStandAt M.located M.stand M.content (view self.now.root.now) ls marks.now → length (stepped self.now.text.now (view self.now.root.now) leaves token.now ls) ≡ count → IsStanding standing ls → IsStanding next (stepped self.now.text.now (view self.now.root.now) leaves token.now ls)) }
+        ensures { IfOk result (λ next. (ls : List Location) → MarksStandAt M.located M.stand M.content (document_of (view self.now.root.now)) ls marks.now → length (stepped self.now.text.now (document_of (view self.now.root.now)) leaves token.now ls) ≡ count → IsStanding standing ls → IsStanding next (stepped self.now.text.now (document_of (view self.now.root.now)) leaves token.now ls)) }
     {
         if count < 2 {
             return Ok(Standing::Disjoint);
@@ -195,7 +196,7 @@ impl<'a, 't> Machine<'a, 't> {
         leaves: bool,
         token: &ParseToken,
     ) -> Result<Standing, NoMemory>
-        ensures { IfOk result (λ next. (ls : List Location) → IsStanding standing ls → IsStanding next (stepped self.now.text.now (view self.now.root.now) leaves token.now ls)) }
+        ensures { IfOk result (λ next. (ls : List Location) → IsStanding standing ls → IsStanding next (stepped self.now.text.now (document_of (view self.now.root.now)) leaves token.now ls)) }
     {
         if leaves {
             self.standing_after_descent(standing, token)
@@ -212,7 +213,7 @@ impl<'a, 't> Machine<'a, 't> {
         standing: Standing,
         token: &ParseToken,
     ) -> Result<Standing, NoMemory>
-        ensures { IfOk result (λ next. (ls : List Location) → IsStanding standing ls → IsStanding next (step (view self.now.root.now) (plain_of self.now.text.now token.now) (all_below (view self.now.root.now) ls))) }
+        ensures { IfOk result (λ next. (ls : List Location) → IsStanding standing ls → IsStanding next (step (document_of (view self.now.root.now)) (plain_of self.now.text.now token.now) (all_below (document_of (view self.now.root.now)) ls))) }
     {
         if !standing.are_disjoint() {
             return Ok(Standing::Unknown);
@@ -230,7 +231,7 @@ impl<'a, 't> Machine<'a, 't> {
 // Goes over the marks when the program runs, for the proof alone: it then knows that the names of each object among
 // them ascend.
 pub(crate) fn prove_names_ascend_at_marks<'a, M: Mark<'a>>(marks: &[M])
-    ensures { (doc : Data) (ls : List Location) → MarksStandAt M.located M.stand M.content doc ls marks.now → NamesInOrderAt doc ls }
+    ensures { (doc : Document) (ls : List Location) → MarksStandAt M.located M.stand M.content doc ls marks.now → NamesInOrderAt doc ls }
 {
     for mark in marks {
         object_names_ascend(mark.value());

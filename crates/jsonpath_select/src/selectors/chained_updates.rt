@@ -2,6 +2,7 @@
 ghost use Rattle.std.specs.Prelude.{◌≡◌, IfOk, IfErr, OnErr};
 ghost use Rattle.std.specs.Borrow.{sem};
 ghost use Rattle.serde_json.specs.View.{view};
+ghost use Rattle.jsonpath_nodes.specs.document.OfData.{document_of};
 ghost use Rattle.jsonpath_select.specs.selectors.Held.{document, IsSelectRefused};
 ghost use Rattle.jsonpath_select.specs.selectors.HeldChanges.{DeletesHeld, RemovesHeld, SetsHeld, ReplacesHeld};
 ghost use Rattle.jsonpath_select.specs.selectors.PairLends.{held_lends};
@@ -76,7 +77,7 @@ impl<P: AnyPath> HeldPair<P, Value> {
         ensures* kept { sem 𝓛 (held_lends P.row P.AnyPath self.entry result) }
         ensures place { IfOk result (λ s. s.ghost_name ≡ self.entry.ghost_name) }
         ensures path { IfOk result (λ s. s.now.path ≡ self.old.path) }
-        ensures ok { IfOk result (λ s. SetsHeld (view new.now) self.old.path (document self.old) (document s.now)) }
+        ensures ok { IfOk result (λ s. SetsHeld (document_of (view new.now)) self.old.path (document self.old) (document s.now)) }
         ensures refused { IfErr result (IsSelectRefused self.old.path (document self.old)) }
     {
         match self.set_in_place(alloc, new) {

@@ -1,6 +1,7 @@
 //! A pair of a path and a value, and what the path selects in the value.
 ghost use Rattle.std.specs.Prelude.{◌≡◌, Some, None, option_map, string_bytes, vec_len, IfOk, IfErr};
 ghost use Rattle.serde_json.specs.View.{view};
+ghost use Rattle.jsonpath_nodes.specs.document.OfData.{document_of};
 ghost use Rattle.serde_json.specs.declared.value.Value.{Value};
 ghost use Rattle.jsonpath_select.specs.selectors.Held.{document, AreLocationsFor, AreValuesFor, IsTextFor, IsCountFor, IsSelectRefused, IsTextRefusedFor, IsTypedRefusedFor};
 ghost use Rattle.jsonpath_select.specs.answer.Counted.{IsCountOf, TellsIfAny};
@@ -94,7 +95,7 @@ impl<P: AnyPath, V: HeldValue> HeldPair<P, V> {
     // value is.
     pub(crate) fn path_and_value(&self) -> Result<(&P, &V), JsonPathError>
         ensures path { IfOk result (λ held. self.now.path ≡ Some (P.spelling held.0.now)) }
-        ensures value { IfOk result (λ held. document self.now ≡ Some (view (V.held held.1.now))) }
+        ensures value { IfOk result (λ held. document self.now ≡ Some (document_of (view (V.held held.1.now)))) }
         ensures refused { IfErr result (IsSelectRefused self.now.path (document self.now)) }
     {
         let path = self.path.as_ref().ok_or(JsonPathError::EmptyPath)?;

@@ -1,6 +1,7 @@
 //! Selectors, which borrow their value; their answers borrow it, too.
 ghost use Rattle.std.specs.Prelude.{◌≡◌, Some, map, option_map, IfOk, IfErr};
 ghost use Rattle.serde_json.specs.View.{view};
+ghost use Rattle.jsonpath_nodes.specs.document.OfData.{document_of};
 ghost use Rattle.jsonpath_select.specs.selectors.Held.{document, AreSpotsFor, AreValuesFor, IsSelectRefused};
 ghost use Rattle.jsonpath_select.specs.answer.Counted.{IsFirstOf};
 
@@ -57,7 +58,7 @@ impl<'a, P: AnyPath> HeldPair<P, &'a Value> {
     /// assert!(rt; list_to_text(alloc, found.as_slice())?.as_str() == "[2,3]");
     /// ```
     pub fn select(&self, alloc: Global) -> Result<Vec<&'a Value>, JsonPathError>
-        ensures ok { IfOk result (λ found. AreValuesFor self.now.path (document self.now) (map (λ v. view v.now) found.items)) }
+        ensures ok { IfOk result (λ found. AreValuesFor self.now.path (document self.now) (map (λ v. document_of (view v.now)) found.items)) }
         ensures refused { IfErr result (IsSelectRefused self.now.path (document self.now)) }
     {
         let (path, value) = self.path_and_value()?;
@@ -96,7 +97,7 @@ impl<'a, P: AnyPath> HeldPair<P, &'a Value> {
     /// assert!(rt; first.as_u64() == Some(2));
     /// ```
     pub fn first(&self, alloc: Global) -> Result<Option<&'a Value>, JsonPathError>
-        ensures ok { IfOk result (λ first. IsFirstOf (AreValuesFor self.now.path (document self.now)) (option_map (λ v. view v.now) first)) }
+        ensures ok { IfOk result (λ first. IsFirstOf (AreValuesFor self.now.path (document self.now)) (option_map (λ v. document_of (view v.now)) first)) }
         ensures refused { IfErr result (IsSelectRefused self.now.path (document self.now)) }
     {
         let (path, value) = self.path_and_value()?;

@@ -1,6 +1,7 @@
 //! Update types, which own their document: how it is set, read and taken out.
 ghost use Rattle.std.specs.Prelude.{◌≡◌, Some, None, map, option_map, IfOk, IfErr};
 ghost use Rattle.serde_json.specs.View.{view};
+ghost use Rattle.jsonpath_nodes.specs.document.OfData.{document_of};
 ghost use Rattle.jsonpath_select.specs.selectors.Held.{document, AreSpotsFor, AreValuesFor, IsSelectRefused};
 ghost use Rattle.jsonpath_select.specs.answer.Counted.{IsFirstOf};
 
@@ -55,7 +56,7 @@ impl<P: AnyPath> HeldPair<P, Value> {
     /// assert!(rt; list_to_text(alloc, found.as_slice())?.as_str() == "[2,3]");
     /// ```
     pub fn select(&self, alloc: Global) -> Result<Vec<&Value>, JsonPathError>
-        ensures ok { IfOk result (λ found. AreValuesFor self.now.path (document self.now) (map (λ v. view v.now) found.items)) }
+        ensures ok { IfOk result (λ found. AreValuesFor self.now.path (document self.now) (map (λ v. document_of (view v.now)) found.items)) }
         ensures refused { IfErr result (IsSelectRefused self.now.path (document self.now)) }
     {
         let (path, value) = self.path_and_value()?;
@@ -91,7 +92,7 @@ impl<P: AnyPath> HeldPair<P, Value> {
     /// assert!(rt; first.as_u64() == Some(2));
     /// ```
     pub fn first(&self, alloc: Global) -> Result<Option<&Value>, JsonPathError>
-        ensures ok { IfOk result (λ first. IsFirstOf (AreValuesFor self.now.path (document self.now)) (option_map (λ v. view v.now) first)) }
+        ensures ok { IfOk result (λ first. IsFirstOf (AreValuesFor self.now.path (document self.now)) (option_map (λ v. document_of (view v.now)) first)) }
         ensures refused { IfErr result (IsSelectRefused self.now.path (document self.now)) }
     {
         let (path, value) = self.path_and_value()?;

@@ -1,6 +1,7 @@
 //! Updates of the document of an update type, as statements: each returns `Ok(())` or an error.
 ghost use Rattle.std.specs.Prelude.{◌≡◌, Ok, IfErr, OnOk, OnErr};
 ghost use Rattle.serde_json.specs.View.{view};
+ghost use Rattle.jsonpath_nodes.specs.document.OfData.{document_of};
 ghost use Rattle.jsonpath_select.specs.selectors.Held.{document, IsSelectRefused};
 ghost use Rattle.jsonpath_select.specs.selectors.HeldChanges.{DeletesHeld, RemovesHeld, SetsHeld, ReplacesHeld, TriesHeld, EndsHeld};
 
@@ -72,7 +73,7 @@ impl<P: AnyPath> HeldPair<P, Value> {
     /// ```
     pub fn set_in_place(&mut self, alloc: Global, new: &Value) -> Result<(), JsonPathError>
         ensures path { self.new.path ≡ self.old.path }
-        ensures ok { OnOk result (SetsHeld (view new.now) self.old.path (document self.old) (document self.new)) }
+        ensures ok { OnOk result (SetsHeld (document_of (view new.now)) self.old.path (document self.old) (document self.new)) }
         ensures refused { IfErr result (IsSelectRefused self.old.path (document self.old)) }
         ensures kept { OnErr result (self.new ≡ self.old) }
     {

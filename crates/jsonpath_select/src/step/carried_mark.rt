@@ -2,6 +2,7 @@
 
 ghost use Rattle.std.specs.Prelude.{◌≡◌, [], ◌∷◌, IfOk};
 ghost use Rattle.serde_json.specs.View.{view};
+ghost use Rattle.jsonpath_nodes.specs.document.OfData.{document_of};
 ghost use Rattle.jsonpath_nodes.specs.place.Mark.{shown, MarksStandAt, MarksLeadBy};
 ghost use Rattle.jsonpath_nodes.specs.place.Order.{once_in_order};
 ghost use Rattle.jsonpath_nodes.specs.step.SameMembers.{topmost};
@@ -21,7 +22,7 @@ pub trait Carried<'a>: Mark<'a> {
 
     // The mark at the root of the document.
     fn root(alloc: Global, value: &'a Value) -> Self
-        ensures { MarksStandAt Self.located Self.stand Self.content (view value.now) ([] ∷ []) (result ∷ []) };
+        ensures { MarksStandAt Self.located Self.stand Self.content (document_of (view value.now)) ([] ∷ []) (result ∷ []) };
 
     // One more mark at the same place.
     fn copy(&self) -> Result<Self, NoMemory>

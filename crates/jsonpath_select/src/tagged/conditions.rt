@@ -2,7 +2,7 @@
 //! hold.
 
 ghost use Rattle.std.specs.Prelude.{◌≡◌, ℕ, List, IfOk};
-ghost use Rattle.serde_json.specs.Data.{Data};
+ghost use Rattle.jsonpath_nodes.specs.document.Document.{Document};
 ghost use Rattle.jsonpath_select.specs.Parts.{joined};
 ghost use Rattle.jsonpath_select.specs.plan.Machine as machine;
 ghost use Rattle.jsonpath_select.specs.plan.Machine.{Tagged, all_tags_or_none, as_tags, found_tags, joined_tags, some_tags};
@@ -25,7 +25,7 @@ pub(crate) fn condition_tags<'a, M: Carried<'a>>(
     operand: Operand<'_, M>,
 ) -> Result<Vec<usize>, NoMemory>
     requires { IsOfCondition operand }
-    ensures { IfOk result (λ ts. (text : List ℕ) (doc : Data) (o : machine.Operand) → ShowsOperand M.located M.stand M.content text doc o operand.entry → as_tags count o ≡ Some ts.items) }
+    ensures { IfOk result (λ ts. (text : List ℕ) (doc : Document) (o : machine.Operand) → ShowsOperand M.located M.stand M.content text doc o operand.entry → as_tags count o ≡ Some ts.items) }
 {
     match operand {
         Operand::Marks(Found { is_shared, pairs }) => tags_where_marks_found(

@@ -1,7 +1,7 @@
 //! Lists of node references that all candidates share.
 
 ghost use Rattle.std.specs.Prelude.{◌≡◌, List, IfOk, map};
-ghost use Rattle.serde_json.specs.Data.{Data};
+ghost use Rattle.jsonpath_nodes.specs.document.Document.{Document};
 ghost use Rattle.jsonpath_nodes.specs.place.Location.{Location};
 ghost use Rattle.jsonpath_nodes.specs.place.Mark.{MarksStandAt, shown};
 ghost use Rattle.jsonpath_select.specs.plan.Machine.{list_count_for_candidates};
@@ -19,7 +19,7 @@ pub(crate) fn marks_shared_by_candidates<'a, M: Carried<'a>>(
     alloc: Global,
     marks: Vec<M>,
 ) -> Result<Found<M>, NoMemory>
-    ensures { IfOk result (λ found. (doc : Data) (ls : List Location) → MarksStandAt M.located M.stand M.content doc ls marks.items → ShowsFound M.located M.stand M.content doc (for_all ls) found) }
+    ensures { IfOk result (λ found. (doc : Document) (ls : List Location) → MarksStandAt M.located M.stand M.content doc ls marks.items → ShowsFound M.located M.stand M.content doc (for_all ls) found) }
 {
     let count = marks.as_slice().len();
     let mut tags = Vec::with_capacity(alloc, count)?;

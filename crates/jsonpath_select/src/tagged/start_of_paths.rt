@@ -1,8 +1,9 @@
 //! The tagged node references with which a path starts: the root, the candidates, or their members of one name.
 
 ghost use Rattle.std.specs.Prelude.{List, IfOk, ◌<◌, ◌-◌, true, [], ◌∷◌};
-ghost use Rattle.serde_json.specs.Data.{Data};
+ghost use Rattle.jsonpath_nodes.specs.document.Document.{Document};
 ghost use Rattle.serde_json.specs.View.{view};
+ghost use Rattle.jsonpath_nodes.specs.document.OfData.{document_of};
 ghost use Rattle.jsonpath_nodes.specs.place.Location.{Location};
 ghost use Rattle.jsonpath_nodes.specs.place.Mark.{MarksStandAt};
 ghost use Rattle.jsonpath_select.specs.plan.Machine.{Tagged, start_of_path, itself, places, spread, root_shared_by_candidates};
@@ -23,7 +24,7 @@ pub(crate) fn root_shared_by_candidates<'a, M: Carried<'a>>(
     alloc: Global,
     root: &'a Value,
 ) -> Result<Found<M>, NoMemory>
-    ensures { IfOk result (λ f. ShowsFound M.located M.stand M.content (view root.now) root_shared_by_candidates f) }
+    ensures { IfOk result (λ f. ShowsFound M.located M.stand M.content (document_of (view root.now)) root_shared_by_candidates f) }
 {
     let mut tags = Vec::new(alloc);
     let mut marks = Vec::new(alloc);
@@ -42,7 +43,7 @@ pub(crate) fn start_of_path<'a, M: Carried<'a>>(
     absolute: bool,
     candidates: &TaggedMarks<M>,
 ) -> Result<Found<M>, NoMemory>
-    ensures { IfOk result (λ found. (ps : List Tagged) → Shows M.located M.stand M.content (view root.now) ps candidates.now → ShowsFound M.located M.stand M.content (view root.now) (start_of_path absolute (places ps)) found) }
+    ensures { IfOk result (λ found. (ps : List Tagged) → Shows M.located M.stand M.content (document_of (view root.now)) ps candidates.now → ShowsFound M.located M.stand M.content (document_of (view root.now)) (start_of_path absolute (places ps)) found) }
 {
     if absolute {
         root_shared_by_candidates(alloc, root)
@@ -60,7 +61,7 @@ pub(crate) fn numbered_candidates<'a, M: Carried<'a>>(
     alloc: Global,
     frame: &TaggedMarks<M>,
 ) -> Result<TaggedMarks<M>, NoMemory>
-    ensures { IfOk result (λ found. (doc : Data) (ps : List Tagged) → Shows M.located M.stand M.content doc ps frame.now → Shows M.located M.stand M.content doc (spread itself 0 (places ps)) found) }
+    ensures { IfOk result (λ found. (doc : Document) (ps : List Tagged) → Shows M.located M.stand M.content doc ps frame.now → Shows M.located M.stand M.content doc (spread itself 0 (places ps)) found) }
 {
     let count = frame.marks.as_slice().len();
     let mut tags = Vec::with_capacity(alloc, count)?;
@@ -79,7 +80,7 @@ pub(crate) fn members_named<'a, M: Carried<'a>>(
     candidates: &[M],
     name: &str,
 ) -> Result<TaggedMarks<M>, NoMemory>
-    ensures { IfOk result (λ found. (doc : Data) (ls : List Location) → MarksStandAt M.located M.stand M.content doc ls candidates.now → Shows M.located M.stand M.content doc (spread (λ l. step doc (named name.now) (l ∷ [])) 0 ls) found) }
+    ensures { IfOk result (λ found. (doc : Document) (ls : List Location) → MarksStandAt M.located M.stand M.content doc ls candidates.now → Shows M.located M.stand M.content doc (spread (λ l. step doc (named name.now) (l ∷ [])) 0 ls) found) }
 {
     let mut tags = Vec::with_capacity(alloc, candidates.len())?;
     let mut marks = Vec::with_capacity(alloc, candidates.len())?;

@@ -3,8 +3,9 @@
 //! with no ancestor in the set.
 
 ghost use Rattle.std.specs.Prelude.{◌≡◌, List, length, map, filter, if◌then◌else◌, true, false, IfOk};
-ghost use Rattle.serde_json.specs.Data.{Data};
+ghost use Rattle.jsonpath_nodes.specs.document.Document.{Document};
 ghost use Rattle.serde_json.specs.View.{view};
+ghost use Rattle.jsonpath_nodes.specs.document.OfData.{document_of};
 ghost use Rattle.jsonpath_paths.specs.tree.Tree.{lone, path};
 ghost use Rattle.jsonpath_paths.specs.tree.View.{path_of, inner_of, condition_of, term_of, steps_of_list};
 ghost use Rattle.jsonpath_nodes.specs.place.Location.{Location};
@@ -48,7 +49,7 @@ impl<'a, 't> Walk<'a, 't> {
         condition: &Condition,
         spots: &[Spot<'a>],
     ) -> Result<Vec<Spot<'a>>, NoMemory>
-        ensures { IfOk result (λ found. LeadsIn (view self.now.root.now) (filter (λ l. holds self.now.text.now (view self.now.root.now) (condition_of condition.now) l)) spots.now found.items) }
+        ensures { IfOk result (λ found. LeadsIn (document_of (view self.now.root.now)) (filter (λ l. holds self.now.text.now (document_of (view self.now.root.now)) (condition_of condition.now) l)) spots.now found.items) }
     {
         value_is_document(self.root);
         locations_once_in_order_ascend();
@@ -61,7 +62,7 @@ impl<'a, 't> Walk<'a, 't> {
 
     // Spots at what a path selects in the document, each location once.
     pub(crate) fn select_spot_set(&self, path: &ParserNode) -> Result<Vec<Spot<'a>>, NoMemory>
-        ensures { IfOk result (λ found. once_in_order (map location_of found.items) ≡ once_in_order (sel self.now.text.now (view self.now.root.now) (path_of path.now))) }
+        ensures { IfOk result (λ found. once_in_order (map location_of found.items) ≡ once_in_order (sel self.now.text.now (document_of (view self.now.root.now)) (path_of path.now))) }
     {
         value_is_document(self.root);
         locations_once_in_order_ascend();
@@ -78,7 +79,7 @@ impl<'a, 't> Walk<'a, 't> {
         steps: &[ParserStep],
         spots: &[Spot<'a>],
     ) -> Result<Vec<Spot<'a>>, NoMemory>
-        ensures { IfOk result (λ found. LeadsIn (view self.now.root.now) (filter (λ l. holds self.now.text.now (view self.now.root.now) (lone (path false (steps_of_list steps.now))) l)) spots.now found.items) }
+        ensures { IfOk result (λ found. LeadsIn (document_of (view self.now.root.now)) (filter (λ l. holds self.now.text.now (document_of (view self.now.root.now)) (lone (path false (steps_of_list steps.now))) l)) spots.now found.items) }
     {
         value_is_document(self.root);
         locations_once_in_order_ascend();
@@ -100,7 +101,7 @@ impl<'a, 't> Walk<'a, 't> {
         steps: &[ParserStep],
         spots: &[Spot<'a>],
     ) -> Result<Vec<Spot<'a>>, NoMemory>
-        ensures { IfOk result (λ found. LeadsIn (view self.now.root.now) (filter (λ l. set_holds self.now.text.now (view self.now.root.now) (lone (path false (steps_of_list steps.now))) l)) spots.now found.items) }
+        ensures { IfOk result (λ found. LeadsIn (document_of (view self.now.root.now)) (filter (λ l. set_holds self.now.text.now (document_of (view self.now.root.now)) (lone (path false (steps_of_list steps.now))) l)) spots.now found.items) }
     {
         let candidates = spots_as_candidates(self.alloc, spots)?;
         let count = spots.len();
@@ -121,7 +122,7 @@ impl<'a, 't> Walk<'a, 't> {
         path: &ParserNode,
         candidates: &TaggedMarks<Spot<'a>>,
     ) -> Result<Found<Spot<'a>>, NoMemory>
-        ensures { IfOk result (λ found. (ps : List Tagged) → Shows true location_of value_of (view self.now.root.now) ps candidates.now → ShowsFound true location_of value_of (view self.now.root.now) (found_sets self.now.text.now (view self.now.root.now) (path_of path.now) (places ps)) found) }
+        ensures { IfOk result (λ found. (ps : List Tagged) → Shows true location_of value_of (document_of (view self.now.root.now)) ps candidates.now → ShowsFound true location_of value_of (document_of (view self.now.root.now)) (found_sets self.now.text.now (document_of (view self.now.root.now)) (path_of path.now) (places ps)) found) }
     {
         let mut pairs = start_of_path(self.alloc, self.root, path.absolute, candidates)?.pairs;
         let lists = list_count_for_candidates(path.absolute, candidates.marks.as_slice().len());
@@ -142,8 +143,8 @@ impl<'a, 't> Walk<'a, 't> {
         lists: usize,
         pairs: TaggedMarks<Spot<'a>>,
     ) -> Result<TaggedMarks<Spot<'a>>, NoMemory>
-        ensures { IfOk result (λ found. (f : Location → List Location) (ls : List Location) → lists ≡ length ls → Shows true location_of value_of (view self.now.root.now) (spread f 0 ls) pairs.entry
-            → Shows true location_of value_of (view self.now.root.now) (spread (λ c. set_step self.now.text.now (view self.now.root.now) (inner_of step.now.inner) step.now.leaves (f c)) 0 ls) found) }
+        ensures { IfOk result (λ found. (f : Location → List Location) (ls : List Location) → lists ≡ length ls → Shows true location_of value_of (document_of (view self.now.root.now)) (spread f 0 ls) pairs.entry
+            → Shows true location_of value_of (document_of (view self.now.root.now)) (spread (λ c. set_step self.now.text.now (document_of (view self.now.root.now)) (inner_of step.now.inner) step.now.leaves (f c)) 0 ls) found) }
     {
         let top = self.topmost_before_descent(step.leaves, lists, pairs)?;
         let found = self.lists_after_token_or_filter(&step.inner, step.leaves, lists, top)?;
@@ -160,8 +161,8 @@ impl<'a, 't> Walk<'a, 't> {
         lists: usize,
         pairs: TaggedMarks<Spot<'a>>,
     ) -> Result<TaggedMarks<Spot<'a>>, NoMemory>
-        ensures { IfOk result (λ found. (f : Location → List Location) (ls : List Location) → lists ≡ length ls → Shows true location_of value_of (view self.now.root.now) (spread f 0 ls) pairs.entry
-            → Shows true location_of value_of (view self.now.root.now) (spread (λ c. set_led self.now.text.now (view self.now.root.now) (inner_of inner.now) leaves (f c)) 0 ls) found) }
+        ensures { IfOk result (λ found. (f : Location → List Location) (ls : List Location) → lists ≡ length ls → Shows true location_of value_of (document_of (view self.now.root.now)) (spread f 0 ls) pairs.entry
+            → Shows true location_of value_of (document_of (view self.now.root.now)) (spread (λ c. set_led self.now.text.now (document_of (view self.now.root.now)) (inner_of inner.now) leaves (f c)) 0 ls) found) }
     {
         match inner {
             Inner::Token(token) => {
@@ -188,7 +189,7 @@ impl<'a, 't> Walk<'a, 't> {
         lists: usize,
         pairs: TaggedMarks<Spot<'a>>,
     ) -> Result<TaggedMarks<Spot<'a>>, NoMemory>
-        ensures { IfOk result (λ found. (doc : Data) (f : Location → List Location) (ls : List Location) → lists ≡ length ls → Shows true location_of value_of doc (spread f 0 ls) pairs.entry
+        ensures { IfOk result (λ found. (doc : Document) (f : Location → List Location) (ls : List Location) → lists ≡ length ls → Shows true location_of value_of doc (spread f 0 ls) pairs.entry
             → Shows true location_of value_of doc (spread (λ c. if leaves then topmost (f c) else f c) 0 ls) found) }
     {
         if leaves {
@@ -205,8 +206,8 @@ impl<'a, 't> Walk<'a, 't> {
         condition: &Condition,
         candidates: TaggedMarks<Spot<'a>>,
     ) -> Result<TaggedMarks<Spot<'a>>, NoMemory>
-        ensures { IfOk result (λ found. (ps : List Tagged) → Shows true location_of value_of (view self.now.root.now) ps candidates.entry
-            → Shows true location_of value_of (view self.now.root.now) (filter (λ (p : Tagged). set_holds self.now.text.now (view self.now.root.now) (condition_of condition.now) p.1) ps) found) }
+        ensures { IfOk result (λ found. (ps : List Tagged) → Shows true location_of value_of (document_of (view self.now.root.now)) ps candidates.entry
+            → Shows true location_of value_of (document_of (view self.now.root.now)) (filter (λ (p : Tagged). set_holds self.now.text.now (document_of (view self.now.root.now)) (condition_of condition.now) p.1) ps) found) }
     {
         let numbers = self.indexes_of_passing_candidates_by_location(condition, &candidates)?;
         keep_marks_at_indexes(self.alloc, candidates, numbers.as_slice())
@@ -219,7 +220,7 @@ impl<'a, 't> Walk<'a, 't> {
         condition: &Condition,
         candidates: &TaggedMarks<Spot<'a>>,
     ) -> Result<Vec<usize>, NoMemory>
-        ensures { IfOk result (λ numbers. (ps : List Tagged) → Shows true location_of value_of (view self.now.root.now) ps candidates.now → numbers.items ≡ numbers_where (set_holds self.now.text.now (view self.now.root.now) (condition_of condition.now)) 0 (places ps)) }
+        ensures { IfOk result (λ numbers. (ps : List Tagged) → Shows true location_of value_of (document_of (view self.now.root.now)) ps candidates.now → numbers.items ≡ numbers_where (set_holds self.now.text.now (document_of (view self.now.root.now)) (condition_of condition.now)) 0 (places ps)) }
     {
         let marks = candidates.marks.as_slice();
         let distinct = in_document_order(self.alloc, marks)?;
@@ -242,7 +243,7 @@ impl<'a, 't> Walk<'a, 't> {
         condition: &Condition,
         candidates: &TaggedMarks<Spot<'a>>,
     ) -> Result<Vec<usize>, NoMemory>
-        ensures { IfOk result (λ numbers. (ps : List Tagged) → Shows true location_of value_of (view self.now.root.now) ps candidates.now → numbers.items ≡ numbers_where (set_holds self.now.text.now (view self.now.root.now) (condition_of condition.now)) 0 (places ps)) }
+        ensures { IfOk result (λ numbers. (ps : List Tagged) → Shows true location_of value_of (document_of (view self.now.root.now)) ps candidates.now → numbers.items ≡ numbers_where (set_holds self.now.text.now (document_of (view self.now.root.now)) (condition_of condition.now)) 0 (places ps)) }
     {
         let count = candidates.marks.as_slice().len();
         match condition {
@@ -277,7 +278,7 @@ impl<'a, 't> Walk<'a, 't> {
         candidates: &TaggedMarks<Spot<'a>>,
     ) -> Result<Operand<'c, Spot<'a>>, NoMemory>
         ensures kind { IfOk result (λ operand. IsOfTerm operand) }
-        ensures ok { IfOk result (λ operand. (ps : List Tagged) → Shows true location_of value_of (view self.now.root.now) ps candidates.now → ShowsOperand true location_of value_of self.now.text.now (view self.now.root.now) (term_sets self.now.text.now (view self.now.root.now) (term_of term.now) (places ps)) operand) }
+        ensures ok { IfOk result (λ operand. (ps : List Tagged) → Shows true location_of value_of (document_of (view self.now.root.now)) ps candidates.now → ShowsOperand true location_of value_of self.now.text.now (document_of (view self.now.root.now)) (term_sets self.now.text.now (document_of (view self.now.root.now)) (term_of term.now) (places ps)) operand) }
     {
         match term {
             Term::Path(path) => {
@@ -294,7 +295,7 @@ fn spots_as_candidates<'a>(
     alloc: Global,
     spots: &[Spot<'a>],
 ) -> Result<TaggedMarks<Spot<'a>>, NoMemory>
-    ensures { IfOk result (λ found. (doc : Data) (ls : List Location) → StandAt doc ls spots.now → Shows true location_of value_of doc (tagged 0 ls) found) }
+    ensures { IfOk result (λ found. (doc : Document) (ls : List Location) → StandAt doc ls spots.now → Shows true location_of value_of doc (tagged 0 ls) found) }
 {
     let marks = copied_marks(alloc, spots)?;
     let found = marks_shared_by_candidates(alloc, marks)?;

@@ -4,6 +4,7 @@
 ghost use Rattle.std.specs.Prelude.{◌≡◌, [], ◌∷◌, ◌++◌, map, filter, IfOk, OnOk, if◌then◌else◌};
 ghost use Rattle.std.specs.Cow.{cow_str_bytes};
 ghost use Rattle.serde_json.specs.View.{view};
+ghost use Rattle.jsonpath_nodes.specs.document.OfData.{document_of};
 ghost use Rattle.jsonpath_paths.specs.tree.Tree.{filter as filter_of};
 ghost use Rattle.jsonpath_paths.specs.tree.View.{path_of, inner_of, condition_of, term_of};
 ghost use Rattle.jsonpath_nodes.specs.place.Location.{Location};
@@ -38,7 +39,7 @@ pub struct Walk<'a, 't> {
 impl<'a, 't> Walk<'a, 't> {
     // Spots at what a path selects in the document, in the path's order, with its repeats.
     pub(crate) fn select_spots(&self, path: &ParserNode) -> Result<Vec<Spot<'a>>, NoMemory>
-        ensures { IfOk result (λ found. StandAt (view self.now.root.now) (sel self.now.text.now (view self.now.root.now) (path_of path.now)) found.items) }
+        ensures { IfOk result (λ found. StandAt (document_of (view self.now.root.now)) (sel self.now.text.now (document_of (view self.now.root.now)) (path_of path.now)) found.items) }
     {
         if self.choice().has_repeating_steps(path, MANY)? {
             return self.select_keeping_what_leads_on(path);
@@ -57,7 +58,7 @@ impl<'a, 't> Walk<'a, 't> {
 
     // What a path selects, where after each step those spots alone are kept that lead on to something.
     fn select_keeping_what_leads_on(&self, path: &ParserNode) -> Result<Vec<Spot<'a>>, NoMemory>
-        ensures { IfOk result (λ found. StandAt (view self.now.root.now) (sel self.now.text.now (view self.now.root.now) (path_of path.now)) found.items) }
+        ensures { IfOk result (λ found. StandAt (document_of (view self.now.root.now)) (sel self.now.text.now (document_of (view self.now.root.now)) (path_of path.now)) found.items) }
     {
         what_leads_on_suffices();
         let steps = path.steps.as_slice();
@@ -72,7 +73,7 @@ impl<'a, 't> Walk<'a, 't> {
 
     // Where a path begins: at the root, or at the candidate.
     fn start_of_path(&self, absolute: bool, here: &Spot<'a>) -> Result<Vec<Spot<'a>>, NoMemory>
-        ensures { IfOk result (λ start. (l : Location) → StandsAt (view self.now.root.now) l here.now → StandAt (view self.now.root.now) ((if absolute then [] else l) ∷ []) start.items) }
+        ensures { IfOk result (λ start. (l : Location) → StandsAt (document_of (view self.now.root.now)) l here.now → StandAt (document_of (view self.now.root.now)) ((if absolute then [] else l) ∷ []) start.items) }
     {
         let mut start = Vec::with_capacity(self.alloc, 1)?;
         if absolute {
@@ -90,8 +91,8 @@ impl<'a, 't> Walk<'a, 't> {
         path: &ParserNode,
         here: &Spot<'a>,
     ) -> Result<Vec<Spot<'a>>, NoMemory>
-        ensures { IfOk result (λ found. (l : Location) → StandsAt (view self.now.root.now) l here.now
-            → StandAt (view self.now.root.now) (reached_from self.now.text.now (view self.now.root.now) (path_of path.now) l) found.items) }
+        ensures { IfOk result (λ found. (l : Location) → StandsAt (document_of (view self.now.root.now)) l here.now
+            → StandAt (document_of (view self.now.root.now)) (reached_from self.now.text.now (document_of (view self.now.root.now)) (path_of path.now) l) found.items) }
     {
         let mut current = self.start_of_path(path.absolute, here)?;
         for step in &path.steps {
@@ -107,7 +108,7 @@ impl<'a, 't> Walk<'a, 't> {
         step: &ParserStep,
         spots: &[Spot<'a>],
     ) -> Result<Vec<Spot<'a>>, NoMemory>
-        ensures { IfOk result (λ found. LeadsIn (view self.now.root.now) (inner_on self.now.text.now (view self.now.root.now) (inner_of step.now.inner) step.now.leaves) spots.now found.items) }
+        ensures { IfOk result (λ found. LeadsIn (document_of (view self.now.root.now)) (inner_on self.now.text.now (document_of (view self.now.root.now)) (inner_of step.now.inner) step.now.leaves) spots.now found.items) }
     {
         match &step.inner {
             Inner::Token(token) => marks_after_plain_step(
@@ -129,7 +130,7 @@ impl<'a, 't> Walk<'a, 't> {
         leaves: bool,
         spots: &[Spot<'a>],
     ) -> Result<Vec<Spot<'a>>, NoMemory>
-        ensures { IfOk result (λ found. LeadsIn (view self.now.root.now) (inner_on self.now.text.now (view self.now.root.now) (filter_of (condition_of condition.now)) leaves) spots.now found.items) }
+        ensures { IfOk result (λ found. LeadsIn (document_of (view self.now.root.now)) (inner_on self.now.text.now (document_of (view self.now.root.now)) (filter_of (condition_of condition.now)) leaves) spots.now found.items) }
     {
         match (leaves, condition_has_own_step(condition)) {
             (false, false) => self.filter_spots(condition, spots),
@@ -155,8 +156,8 @@ impl<'a, 't> Walk<'a, 't> {
         condition: &Condition,
         spots: &[Spot<'a>],
     ) -> Result<Vec<Spot<'a>>, NoMemory>
-        ensures { IfOk result (λ found. LeadsIn (view self.now.root.now)
-            (filter (λ l. holds self.now.text.now (view self.now.root.now) (condition_of condition.now) l)) spots.now found.items) }
+        ensures { IfOk result (λ found. LeadsIn (document_of (view self.now.root.now))
+            (filter (λ l. holds self.now.text.now (document_of (view self.now.root.now)) (condition_of condition.now) l)) spots.now found.items) }
     {
         if self.choice().is_decided_by_sets(condition)? {
             return self.filter_spots_by_sets(condition, spots);
@@ -172,8 +173,8 @@ impl<'a, 't> Walk<'a, 't> {
     // Whether the condition holds at a candidate.
     #[cycle(walk)]
     fn condition_holds_at(&self, condition: &Condition, here: &Spot<'a>) -> Result<bool, NoMemory>
-        ensures { IfOk result (λ b. (l : Location) → StandsAt (view self.now.root.now) l here.now
-            → b ≡ holds self.now.text.now (view self.now.root.now) (condition_of condition.now) l) }
+        ensures { IfOk result (λ b. (l : Location) → StandsAt (document_of (view self.now.root.now)) l here.now
+            → b ≡ holds self.now.text.now (document_of (view self.now.root.now)) (condition_of condition.now) l) }
     {
         match condition {
             Condition::Lone(path) => {
@@ -211,8 +212,8 @@ impl<'a, 't> Walk<'a, 't> {
     ) -> Result<Vec<Atom<'b>>, NoMemory>
     where
         'a: 'b,
-        ensures { IfOk result (λ atoms. literal.now ≡ quoted_text_of_term self.now.text.now (term_of term.now) → (l : Location) → StandsAt (view self.now.root.now) l here.now
-            → map seen_by atoms.items ≡ values_of self.now.text.now (view self.now.root.now) (term_of term.now) l) }
+        ensures { IfOk result (λ atoms. literal.now ≡ quoted_text_of_term self.now.text.now (term_of term.now) → (l : Location) → StandsAt (document_of (view self.now.root.now)) l here.now
+            → map seen_by atoms.items ≡ values_of self.now.text.now (document_of (view self.now.root.now)) (term_of term.now) l) }
     {
         match term {
             Term::Path(path) => {

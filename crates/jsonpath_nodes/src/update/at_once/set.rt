@@ -2,8 +2,9 @@
 
 ghost use Rattle.std.specs.Prelude.{◌≡◌, ◌++◌, ◌∷◌, List, map, length, replicate, IfOk, IsTrue, OnOk, OnErr, Option, Some};
 ghost use Rattle.std.specs.List.Sorted.{IsStrictlySortedBy};
-ghost use Rattle.serde_json.specs.Data.{Data};
+ghost use Rattle.jsonpath_nodes.specs.document.Document.{Document};
 ghost use Rattle.serde_json.specs.View.{view};
+ghost use Rattle.jsonpath_nodes.specs.document.OfData.{document_of, value_document};
 ghost use Rattle.jsonpath_nodes.specs.place.Location.{Location, location_cmp};
 ghost use Rattle.jsonpath_nodes.specs.update.Run.{update_each_back};
 ghost use Rattle.jsonpath_nodes.specs.update.Topmost.{put, with_answer_at_topmost, is_covered_by};
@@ -36,7 +37,7 @@ pub fn set_at_once(
     new: &Value,
 ) -> Result<(), NoMemory>
     requires { IsStrictlySortedBy location_cmp locations.now }
-    ensures set { OnOk result (view value.new ≡ put (view new.now) locations.now (view value.old)) }
+    ensures set { OnOk result (document_of (view value.new) ≡ put (document_of (view new.now)) locations.now (document_of (view value.old))) }
     ensures kept { OnErr result (value.new ≡ value.old) }
 {
     let tops = topmost_locations(alloc, locations)?;
@@ -47,8 +48,8 @@ pub fn set_at_once(
 
 // Puts these values at the locations, from the last back to the first.
 fn put_copies(value: &mut Value, locations: Vec<&Location>, copies: Vec<Value>)
-    ensures { (d : Data) → map view copies.items ≡ replicate (length locations.entry.items) d
-        → view value.new ≡ update_each_back (Some d) (map (λ t. t.now) locations.entry.items) (view value.old) }
+    ensures { (d : Document) → map value_document copies.items ≡ replicate (length locations.entry.items) d
+        → document_of (view value.new) ≡ update_each_back (Some d) (map (λ t. t.now) locations.entry.items) (document_of (view value.old)) }
 {
     let mut left = locations;
     let mut unused = copies;
@@ -67,7 +68,7 @@ fn topmost_locations<'l>(
 ) -> Result<Vec<&'l Location>, NoMemory>
     requires { IsStrictlySortedBy location_cmp locations.now }
     ensures sorted { IfOk result (λ tops. IsStrictlySortedBy location_cmp (map (λ t. t.now) tops.items)) }
-    ensures same { IfOk result (λ tops. (answer : Option Data) (d : Data) → with_answer_at_topmost answer (map (λ t. t.now) tops.items) d ≡ with_answer_at_topmost answer locations.now d) }
+    ensures same { IfOk result (λ tops. (answer : Option Document) (d : Document) → with_answer_at_topmost answer (map (λ t. t.now) tops.items) d ≡ with_answer_at_topmost answer locations.now d) }
 {
     let mut tops: Vec<&Location> = Vec::new(alloc);
     for location in locations {
@@ -81,7 +82,7 @@ fn topmost_locations<'l>(
 // Whether a location stands at or below the last of these, and that is not the root: then putting a value there, too,
 // changes nothing more. No where there is no last.
 fn is_covered_by_last(tops: &[&Location], location: &Location) -> bool
-    ensures { IsTrue result → (answer : Option Data) (ls : List Location) (d : Data)
+    ensures { IsTrue result → (answer : Option Document) (ls : List Location) (d : Document)
         → with_answer_at_topmost answer (map (λ t. t.now) tops.now ++ location.now ∷ ls) d ≡ with_answer_at_topmost answer (map (λ t. t.now) tops.now ++ ls) d }
 {
     match tops.split_last() {
@@ -99,7 +100,7 @@ fn is_non_root_at_or_above(top: &Location, location: &Location) -> bool
 
 // So many copies of a value.
 fn copies_of(alloc: Global, value: &Value, count: usize) -> Result<Vec<Value>, NoMemory>
-    ensures { IfOk result (λ copies. map view copies.items ≡ replicate count (view value.now)) }
+    ensures { IfOk result (λ copies. map value_document copies.items ≡ replicate count (document_of (view value.now))) }
 {
     let mut copies = Vec::new(alloc);
     for _ in 0..count {
@@ -110,7 +111,7 @@ fn copies_of(alloc: Global, value: &Value, count: usize) -> Result<Vec<Value>, N
 
 // Puts a value at one location below the root, if something stands there.
 fn put_at(value: &mut Value, location: &Location, new: Value)
-    ensures { view value.new ≡ update location.now (Some (view new)) (view value.old) }
+    ensures { document_of (view value.new) ≡ update location.now (Some (document_of (view new))) (document_of (view value.old)) }
 {
     let mut new = Some(new);
     update_at_steps(value, location.steps(), &mut |_old: Value| new.take());

@@ -2,7 +2,8 @@
 
 ghost use Rattle.std.specs.Prelude.{◌≡◌, ◌+◌, ◌-◌, ◌++◌, ◌<◌, ◌≤◌, None, IfSome, IsOk, vec_len, slice_range, take, drop, length, option_map};
 ghost use Rattle.std.specs.List.Sorted.{IsStrictlySortedBy};
-ghost use Rattle.serde_json.specs.View.{view, items_view, members_view};
+ghost use Rattle.serde_json.specs.View.{view};
+ghost use Rattle.jsonpath_nodes.specs.document.OfData.{document_of, items_document, members_document};
 ghost use Rattle.jsonpath_nodes.specs.plan.Groups.{beyond, first_index, first_name, goes_through, group_len};
 ghost use Rattle.jsonpath_nodes.specs.place.Location.{location_cmp};
 ghost use Rattle.jsonpath_nodes.specs.place.Owned.{owned_step};
@@ -28,7 +29,7 @@ use serde_json::{Map, Value};
 /// ```
 pub fn take_at_once(value: &mut Value, locations: &[Location]) -> Result<(), NoMemory>
     requires { IsStrictlySortedBy location_cmp locations.now }
-    ensures taken { view value.new ≡ taken locations.now (view value.old) }
+    ensures taken { document_of (view value.new) ≡ taken locations.now (document_of (view value.old)) }
     ensures done { IsOk result }
 {
     take_from_value(value, locations, 0);
@@ -39,7 +40,7 @@ pub fn take_at_once(value: &mut Value, locations: &[Location]) -> Result<(), NoM
 #[cycle(take)]
 fn take_from_value(value: &mut Value, locations: &[Location], depth: usize)
     requires { IsStrictlySortedBy location_cmp (beyond depth locations.now) }
-    ensures { view value.new ≡ taken (beyond depth locations.now) (view value.old) }
+    ensures { document_of (view value.new) ≡ taken (beyond depth locations.now) (document_of (view value.old)) }
 {
     if let Some(list) = value.as_array_mut() {
         take_items(list, locations, depth);
@@ -55,7 +56,7 @@ fn take_from_value(value: &mut Value, locations: &[Location], depth: usize)
 #[cycle(take)]
 fn take_items(list: &mut Vec<Value>, locations: &[Location], depth: usize)
     requires { IsStrictlySortedBy location_cmp (beyond depth locations.now) }
-    ensures { items_view list.new.items ≡ items_with_answer None (beyond depth locations.now) 0 (items_view list.old.items) }
+    ensures { items_document list.new.items ≡ items_with_answer None (beyond depth locations.now) 0 (items_document list.old.items) }
 {
     let mut kept = 0;
     let mut next = 0;
@@ -83,7 +84,7 @@ fn take_items(list: &mut Vec<Value>, locations: &[Location], depth: usize)
 #[cycle(take)]
 fn take_members(map: &mut Map<String, Value>, locations: &[Location], depth: usize)
     requires { IsStrictlySortedBy location_cmp (beyond depth locations.now) }
-    ensures { members_view map.new.entries ≡ members_with_answer None (beyond depth locations.now) (members_view map.old.entries) }
+    ensures { members_document map.new.entries ≡ members_with_answer None (beyond depth locations.now) (members_document map.old.entries) }
 {
     let mut rest = locations;
     while let Some((first, others)) = rest.split_first() {

@@ -1,5 +1,5 @@
 use Rattle.std.proofs.Common.{◌≡◌, [], ◌∷◌, None, codes, refl, ap, ◌∙◌}
-use Rattle.serde_json.specs.View.{view}
+use Rattle.jsonpath_nodes.specs.document.OfData.{value_document}
 use Rattle.jsonpath_nodes.specs.place.Location.{Location, name, at}
 use Rattle.jsonpath_nodes.specs.update.Update.{target, update}
 use Rattle.jsonpath_uses.proofs.RemovedLemmas.{taken_member}
@@ -10,9 +10,9 @@ price = name (codes "price") ∷ []
 
 pub returns : goal.returns
 returns c =
-    let doc = view c.args.json.now in
-    let mid = view c.remove_in.new.value in
-    let after = view c.remove_in-2.new.value in
+    let doc = value_document c.args.json.now in
+    let mid = value_document c.remove_in.new.value in
+    let after = value_document c.remove_in-2.new.value in
     let text = c.in_ok-path.ensures.text in
     let once : mid ≡ update price None doc =
     c.deletes_and_removes_selected_location.ensures.removes (codes "$.price") doc mid price (c.dotted_names_select_one_location.ensures doc (codes "price" ∷ []) refl) (rw text at c.in_ok-remove_in.ensures.ok) in

@@ -1,6 +1,6 @@
 use Rattle.std.proofs.Common.{◌≡◌, ◌<◌, ℕ, zero, suc, ◌∷◌, [], List, length, get_or, refl, subst, ap, ◌∙◌, rules, arith}
 use Rattle.std.proofs.lemmas.Grind.{common_steps}
-use Rattle.serde_json.specs.View.{view}
+use Rattle.jsonpath_nodes.specs.document.OfData.{value_document}
 use Rattle.jsonpath_select.specs.Meaning.{Selects}
 use Rattle.jsonpath_uses.proofs.routes.first_route.Goals as goal
 
@@ -16,7 +16,7 @@ returns-then-branch-clause-found c =
       search rules,
       (
         told.0,
-        subst (λ text. Selects text (view c.args.message.now) told.0) rule told.1,
+        subst (λ text. Selects text (value_document c.args.message.now) told.0) rule told.1,
         λ none.
             let size : length told.0 ≡ 0 = ap length none in
             let any = told.2 in

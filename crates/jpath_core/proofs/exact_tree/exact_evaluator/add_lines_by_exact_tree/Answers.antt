@@ -3,6 +3,7 @@ use Rattle.json.specs.Value.{value_view}
 use Rattle.jsonpath_paths.specs.Spelling.{Spells}
 use Rattle.jsonpath_paths.specs.tree.Tree as tree
 use Rattle.jsonpath_paths.specs.tree.View.{path_of, path_of_out, steps_of_list}
+use Rattle.jsonpath_nodes.specs.document.OfData.{document_of}
 use Rattle.jsonpath_nodes.specs.place.Location.{Location}
 use Rattle.jsonpath_select.specs.Meaning.{sel, follow}
 use Rattle.jpath_core.specs.AlongExactTree.{StandIn, and_more, value_lines, walk, walk_all, written}
@@ -27,8 +28,8 @@ returns c = λ plain exactly d p image spelled.
     steps ([] ∷ []) (exact ∷ []) found.0 (c.apart_locations_meet_candidates_once.ensures.one []) refl all in
     let whole : path_of n ≡ tree.path true steps = path_of_out n ∙ rw (c.if-not-tree.false, c.as_slice.ensures.value) refl in
     let mine : path_of n ≡ p = c.one_tree_per_text.ensures text (path_of n) p (subst (λ (t : List ℕ). Spells t (path_of n)) c.path-path.ensures c.tree-tree.ensures.spells) spelled in
-    let selects : follow c.text.result.now d steps ([] ∷ []) ≡ sel text d p =
-    ap (λ (q : tree.Path). sel c.text.result.now d q) (sym whole ∙ mine) ∙ ap (λ (t : List ℕ). sel t d p) (c.text.ensures ∙ c.path-path.ensures) in
+    let selects : follow c.text.result.now (document_of d) steps ([] ∷ []) ≡ sel text (document_of d) p =
+    ap (λ (q : tree.Path). sel c.text.result.now (document_of d) q) (sym whole ∙ mine) ∙ ap (λ (t : List ℕ). sel t (document_of d) p) (c.text.ensures ∙ c.path-path.ensures) in
     let counted : lines.count ≡ 0 + length found.0 = ap (λ (w : List ℕ × ℕ). w.1) found.2 in
     let number : 0 + length found.0 ≡ length found.0 = omega arith in
     record {

@@ -2,6 +2,7 @@ use Rattle.std.proofs.Common.{◌≡◌, ◌++◌, length, map, sym, ap, ◌∙�
 use Rattle.std.proofs.lemmas.List.{length-map}
 use Rattle.json.specs.Value.{value_view}
 use Rattle.serde_json.specs.View.{view}
+use Rattle.jsonpath_nodes.specs.document.OfData.{document_of}
 use Rattle.jsonpath_nodes.specs.place.SpotPlace.{location_of}
 use Rattle.jsonpath_select.specs.Meaning.{sel}
 use Rattle.jpath_core.specs.Matches.{lines_text}
@@ -12,7 +13,7 @@ pub returns : goal.returns
 returns c = λ as_read plain p spelled.
     let text = c.args.query.now.path in
     let exact = value_view c.args.document.now.exact in
-    let image = view c.args.document.now.image in
+    let image = document_of (view c.args.document.now.image) in
     let spots = c.in_ok-spots.spots.items in
     let found = c.in_ok-spots.ensures as_read in
     let stand : map location_of spots ≡ sel text image p =

@@ -1,6 +1,6 @@
 use Rattle.std.proofs.Common.{◌≡◌, List, map, take}
 use Rattle.std.specs.List.{AllByRecursion}
-use Rattle.serde_json.specs.Data.{Data}
+use Rattle.jsonpath_nodes.specs.document.Document.{Document}
 use Rattle.jsonpath_nodes.specs.place.Location.{Location}
 use Rattle.jsonpath_nodes.specs.place.Order.{once_in_order}
 use Rattle.jsonpath_nodes.specs.place.SpotPlace.{StandAt, location_of}
@@ -10,5 +10,5 @@ use Rattle.jsonpath_nodes.proofs.place.document_order.ordered_spots.Given as goa
 abbrev pub invariant-loop-spot : goal.invariant-loop-spot
 invariant-loop-spot l = record {
   order : map ordered_spot_location l.placed.keys ≡ once_in_order (map location_of (take l.spot-index l.spots));
-  shown : (doc : Data) (ls : List Location) → StandAt doc ls l.spots → AllByRecursion (IsShownIn doc) l.placed.keys;
+  shown : (doc : Document) (ls : List Location) → StandAt doc ls l.spots → AllByRecursion (IsShownIn doc) l.placed.keys;
 }

@@ -1,6 +1,6 @@
 use Rattle.std.proofs.Common.{◌≡◌, ◌≤◌, ◌+◌, ◌++◌, map}
-use Rattle.serde_json.specs.Data.{items_depth}
-use Rattle.serde_json.specs.Events.{items_len}
+use Rattle.jsonpath_nodes.specs.document.Document.{items_depth}
+use Rattle.jsonpath_nodes.specs.document.Find.{items_len}
 use Rattle.jsonpath_nodes.specs.place.Location.{flat}
 use Rattle.jsonpath_nodes.specs.place.Mark.{shown}
 use Rattle.jsonpath_nodes.specs.plan.Way.{way_stand, Stays}

@@ -1,5 +1,5 @@
 use Rattle.std.proofs.Common.{ap, sym, ◌∙◌}
-use Rattle.serde_json.specs.Find.{as_array}
+use Rattle.jsonpath_nodes.specs.document.Find.{as_array}
 use Rattle.jsonpath_nodes.proofs.step.DescentLemmas.{flat_itself}
 use Rattle.jsonpath_nodes.proofs.step.candidates.add_flattened.Goals as goal
 

@@ -1,5 +1,5 @@
 use Rattle.std.proofs.Common.{◌≡◌, ◌++◌, ◌||◌, map}
-use Rattle.serde_json.specs.Events.{members_len}
+use Rattle.jsonpath_nodes.specs.document.Find.{members_len}
 use Rattle.jsonpath_nodes.specs.place.Location.{flat}
 use Rattle.jsonpath_nodes.specs.place.Mark.{shown}
 use Rattle.jsonpath_nodes.specs.plan.Containers.{some_container}

@@ -1,5 +1,5 @@
 use Rattle.std.proofs.Common.{List}
-use Rattle.serde_json.specs.Data.{Data}
+use Rattle.jsonpath_nodes.specs.document.Document.{Document}
 use Rattle.jsonpath_nodes.specs.place.Location.{Location}
 use Rattle.jsonpath_nodes.specs.place.SpotPlace.{StandAt}
 use Rattle.jsonpath_nodes.specs.step.Steps.{each_once}
@@ -8,6 +8,6 @@ use Rattle.jsonpath_nodes.proofs.step.candidates.first_of_each_location.Given as
 
 abbrev pub invariant-loop-spot : goal.invariant-loop-spot
 invariant-loop-spot l = record {
-  stand : (doc : Data) (ls : List Location) → StandAt doc ls l.yielded → StandAt doc (each_once ls) l.kept.items;
+  stand : (doc : Document) (ls : List Location) → StandAt doc ls l.yielded → StandAt doc (each_once ls) l.kept.items;
   held : Holds l.seen l.kept.items;
 }

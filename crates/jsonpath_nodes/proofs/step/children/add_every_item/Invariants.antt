@@ -1,5 +1,5 @@
 use Rattle.std.proofs.Common.{◌≡◌, ◌+◌, ◌++◌, map}
-use Rattle.serde_json.specs.Events.{items_len}
+use Rattle.jsonpath_nodes.specs.document.Find.{items_len}
 use Rattle.jsonpath_nodes.specs.place.Mark.{shown}
 use Rattle.jsonpath_nodes.proofs.place.KeptLemmas.{shown_items}
 use Rattle.jsonpath_nodes.proofs.step.children.add_every_item.Given as goal

@@ -1,7 +1,7 @@
 use Rattle.std.proofs.Common.{◌≡◌, ◌++◌, ◌≤◌, ◌+◌, ◌%◌, ◌-◌, ◌⊎◌, ℕ, List, map, ap, sym, ◌∙◌, arith, subst}
 use Rattle.std.specs.Prelude.{filter}
 use Rattle.std.proofs.Math.Nat.{zero-mod}
-use Rattle.serde_json.specs.Data.{array}
+use Rattle.jsonpath_nodes.specs.document.Document.{array}
 use Rattle.jsonpath_nodes.specs.place.Mark.{shown, look_kept_from}
 use Rattle.jsonpath_nodes.specs.step.Steps.{count_up, is_in_range, length_of}
 use Rattle.jsonpath_nodes.proofs.place.SightLemmas.{Sight}

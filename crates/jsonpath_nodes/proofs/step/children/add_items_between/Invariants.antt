@@ -1,6 +1,6 @@
 use Rattle.std.proofs.Common.{◌≡◌, ◌++◌, ◌-◌, ◌≤◌, ◌<◌, ◌%◌, map}
 use Rattle.std.specs.Prelude.{filter}
-use Rattle.serde_json.specs.Data.{array}
+use Rattle.jsonpath_nodes.specs.document.Document.{array}
 use Rattle.jsonpath_nodes.specs.place.Mark.{shown, look_kept_from}
 use Rattle.jsonpath_nodes.specs.step.Steps.{is_in_range, count_up, length_of}
 use Rattle.jsonpath_nodes.proofs.step.BetweenLemmas.{shown as shown_at}

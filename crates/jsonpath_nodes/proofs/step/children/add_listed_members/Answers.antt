@@ -1,6 +1,6 @@
 use Rattle.std.proofs.Common.{List, map, ap, sym, ◌∙◌}
 use Rattle.std.proofs.lemmas.List.Folds.{flat_map-map}
-use Rattle.serde_json.specs.Data.{object}
+use Rattle.jsonpath_nodes.specs.document.Document.{object}
 use Rattle.jsonpath_nodes.specs.place.Location.{Step, name}
 use Rattle.jsonpath_nodes.specs.place.Mark.{look_kept_from}
 use Rattle.jsonpath_nodes.specs.step.Steps.{present}

@@ -1,5 +1,5 @@
 use Rattle.std.proofs.Common.{◌≡◌, ◌++◌, map, drop}
-use Rattle.serde_json.specs.Data.{object}
+use Rattle.jsonpath_nodes.specs.document.Document.{object}
 use Rattle.jsonpath_nodes.specs.place.Location.{name}
 use Rattle.jsonpath_nodes.specs.place.Mark.{shown, look_kept_from}
 use Rattle.jsonpath_nodes.specs.step.Steps.{present}

@@ -1,5 +1,5 @@
 use Rattle.std.proofs.Common.{◌++◌, List, map, ap, ◌∙◌}
-use Rattle.serde_json.specs.Data.{array}
+use Rattle.jsonpath_nodes.specs.document.Document.{array}
 use Rattle.jsonpath_nodes.specs.place.Location.{Location}
 use Rattle.jsonpath_nodes.specs.place.Mark.{shown, look_kept_from}
 use Rattle.jsonpath_nodes.proofs.step.BetweenLemmas.{range_here}

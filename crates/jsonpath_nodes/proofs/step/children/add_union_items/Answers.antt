@@ -1,4 +1,4 @@
-use Rattle.serde_json.specs.Data.{array}
+use Rattle.jsonpath_nodes.specs.document.Document.{array}
 use Rattle.jsonpath_nodes.specs.place.Mark.{look_kept_from}
 use Rattle.jsonpath_nodes.specs.step.Steps.{nth_of}
 use Rattle.jsonpath_nodes.proofs.step.EachLemmas.{each_done, each_sights-flat_map}

@@ -1,5 +1,5 @@
 use Rattle.std.proofs.Common.{◌≡◌, ◌++◌, map, drop}
-use Rattle.serde_json.specs.Data.{array}
+use Rattle.jsonpath_nodes.specs.document.Document.{array}
 use Rattle.jsonpath_nodes.specs.place.Mark.{shown, look_kept_from}
 use Rattle.jsonpath_nodes.specs.step.Steps.{nth_of}
 use Rattle.jsonpath_nodes.proofs.step.EachLemmas.{each_sights}

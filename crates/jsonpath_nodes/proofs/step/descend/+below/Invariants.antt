@@ -1,6 +1,6 @@
 use Rattle.std.proofs.Common.{◌≡◌, ◌≤◌, ◌+◌, ◌*◌, ◌++◌, map}
-use Rattle.serde_json.specs.Data.{depth, items_depth, members_depth}
-use Rattle.serde_json.specs.Events.{items_len, members_len}
+use Rattle.jsonpath_nodes.specs.document.Document.{depth, items_depth, members_depth}
+use Rattle.jsonpath_nodes.specs.document.Find.{items_len, members_len}
 use Rattle.jsonpath_nodes.specs.place.Location.{below}
 use Rattle.jsonpath_nodes.specs.place.Mark.{shown}
 use Rattle.jsonpath_nodes.specs.plan.Way.{way_stand, Stays}

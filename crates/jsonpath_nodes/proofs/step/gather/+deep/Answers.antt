@@ -1,9 +1,9 @@
 use Rattle.std.proofs.Common.{List, ◌∷◌, [], ◌++◌, map, append-nil, refl, sym, ap, ◌∙◌, subst}
-use Rattle.serde_json.specs.Data.{object}
+use Rattle.jsonpath_nodes.specs.document.Document.{object}
 use Rattle.jsonpath_nodes.specs.place.Location.{Location}
 use Rattle.jsonpath_nodes.specs.plan.Way.{way_stand, down_step}
 use Rattle.jsonpath_nodes.specs.plan.Gathered.{gathered_at, all_gathered}
-use Rattle.jsonpath_nodes.specs.place.Order.{HoldDocuments}
+use Rattle.jsonpath_nodes.specs.place.Order.{HoldOrderedDocuments}
 use Rattle.jsonpath_nodes.specs.place.Mark.{look_kept_from}
 use Rattle.jsonpath_nodes.proofs.place.SightLemmas.{Sight}
 use Rattle.jsonpath_nodes.proofs.step.DeepLemmas.{deep_after}
@@ -52,7 +52,7 @@ add_at_or_below_object-returns-clause-gains g t c =
 pub add_at_or_below_object-returns-clause-document : goal.add_at_or_below_object-returns-clause-document
 add_at_or_below_object-returns-clause-document g t c =
     elim c.if-holds.branch [
-      | add_at_or_below_object-then-holds+in_default w ↦ (c.each_member-left.ensures.ordered, w.loop-name.invariant.documents (subst HoldDocuments (sym w.in_default.ensures) tt))
+      | add_at_or_below_object-then-holds+in_default w ↦ (c.each_member-left.ensures.ordered, w.loop-name.invariant.documents (subst HoldOrderedDocuments (sym w.in_default.ensures) tt))
       | add_at_or_below_object-else-holds w ↦ (c.each_member-left.ensures.ordered, hold_leaves (g.M.Tree.Tree.members c.args.members) (c.in_ok-holds.ensures.below w.if-holds.false))
     ]
 

@@ -1,8 +1,8 @@
 use Rattle.std.proofs.Common.{◌≡◌, ◌≤◌, ◌+◌, ◌*◌, ◌++◌, map}
-use Rattle.serde_json.specs.Data.{depth, items_depth, members_depth}
-use Rattle.serde_json.specs.Events.{items_len, members_len}
+use Rattle.jsonpath_nodes.specs.document.Document.{depth, items_depth, members_depth}
+use Rattle.jsonpath_nodes.specs.document.Find.{items_len, members_len}
 use Rattle.jsonpath_nodes.specs.place.Mark.{shown}
-use Rattle.jsonpath_nodes.specs.place.Order.{AreDocuments, HoldDocuments}
+use Rattle.jsonpath_nodes.specs.place.Order.{AreOrderedDocuments, HoldOrderedDocuments}
 use Rattle.jsonpath_nodes.specs.plan.Way.{way_stand, Stays}
 use Rattle.jsonpath_nodes.specs.plan.Gathered.{gathered_at, all_gathered}
 use Rattle.jsonpath_nodes.proofs.place.KeptLemmas.{seen_items, seen_members}
@@ -30,7 +30,7 @@ invariant-add_at_or_below_array-loop-item g l =
     record {
       gains : map show l.out.items ++ seen_items b (all_gathered (gathered_at (g.G.Gathers.what l.what))) place l.i left ≡ map show l.initial.out.items ++ seen_items b (all_gathered (gathered_at (g.G.Gathers.what l.what))) place 0 all;
       stays : Stays b (g.M.Descends.start l.initial.way) (g.M.Descends.steps l.initial.way) (g.M.Descends.start l.way) (g.M.Descends.steps l.way);
-      documents : AreDocuments left → AreDocuments all;
+      documents : AreOrderedDocuments left → AreOrderedDocuments all;
       count : l.i + items_len left ≡ items_len all;
       within : items_depth left ≤ items_depth all;
     }
@@ -48,7 +48,7 @@ invariant-add_at_or_below_object-loop-name g l =
     record {
       gains : map show l.out.items ++ seen_members b (all_gathered (gathered_at (g.G.Gathers.what l.what))) place left ≡ map show l.initial.out.items ++ seen_members b (all_gathered (gathered_at (g.G.Gathers.what l.what))) place all;
       stays : Stays b (g.M.Descends.start l.initial.way) (g.M.Descends.steps l.initial.way) (g.M.Descends.start l.way) (g.M.Descends.steps l.way);
-      documents : HoldDocuments left → HoldDocuments all;
+      documents : HoldOrderedDocuments left → HoldOrderedDocuments all;
       within : members_depth left ≤ members_depth all;
     }
 

@@ -1,6 +1,6 @@
 use Rattle.std.proofs.Common.{◌≡◌, suc, ◌+◌, ◌∷◌, List, drop, add-one, Err, refl, sym, ap, ◌∙◌, arith}
 use Rattle.std.proofs.Math.Seq.{drop-cons}
-use Rattle.serde_json.specs.View.{view}
+use Rattle.jsonpath_nodes.specs.document.OfData.{value_document}
 use Rattle.jsonpath_nodes.specs.place.Location.{Location}
 use Rattle.jsonpath_nodes.specs.place.Owned.{owned_steps}
 use Rattle.jsonpath_nodes.proofs.update.TrialLemmas.{goes_on, stops}
@@ -17,7 +17,7 @@ loop-location-preserved g c = record {
       let left : drop i ls ≡ owned_steps c.steps.result.now ∷ rest =
       drop-cons ls i l (omega arith) ∙ ap (λ x. x ∷ drop (suc i) ls) (sym c.location-item.is ∙ sym c.steps.ensures) ∙ rw add-one refl in
       c.loop-location.invariant.completes outcome h after
-      (rw left (goes_on g.F.FnMut (owned_steps c.steps.result.now) rest (view c.loop-location.value) (view c.try_update.new.value) after c.loop-location.f c.try_update.new.f h outcome c.in_default.ensures.tried r));
+      (rw left (goes_on g.F.FnMut (owned_steps c.steps.result.now) rest (value_document c.loop-location.value) (value_document c.try_update.new.value) after c.loop-location.f c.try_update.new.f h outcome c.in_default.ensures.tried r));
 }
 
 pub returns-in-Err-clause-trial : goal.returns-in-Err-clause-trial
@@ -28,5 +28,5 @@ returns-in-Err-clause-trial g c =
     let rest : List Location = drop (i + 1) ls in
     let left : drop i ls ≡ owned_steps c.steps.result.now ∷ rest =
     drop-cons ls i l (omega arith) ∙ ap (λ x. x ∷ drop (suc i) ls) (sym c.location-item.is ∙ sym c.steps.ensures) ∙ rw add-one refl in
-    c.loop-location.invariant.completes (Err c.in-Err.error) c.try_update.new.f (view c.try_update.new.value)
-    (rw left (stops g.F.FnMut (owned_steps c.steps.result.now) rest (view c.loop-location.value) (view c.try_update.new.value) c.loop-location.f c.try_update.new.f c.in-Err.error c.in-Err.ensures.tried))
+    c.loop-location.invariant.completes (Err c.in-Err.error) c.try_update.new.f (value_document c.try_update.new.value)
+    (rw left (stops g.F.FnMut (owned_steps c.steps.result.now) rest (value_document c.loop-location.value) (value_document c.try_update.new.value) c.loop-location.f c.try_update.new.f c.in-Err.error c.in-Err.ensures.tried))

@@ -1,6 +1,6 @@
 use Rattle.std.proofs.Common.{◌==◌, length, refl, ap, ◌∙◌}
 use Rattle.std.specs.Prelude.{not}
-use Rattle.serde_json.specs.View.{view}
+use Rattle.jsonpath_nodes.specs.document.OfData.{value_document}
 use Rattle.jsonpath_nodes.specs.place.SpotPlace.{location_of}
 use Rattle.jsonpath_select.specs.Meaning.{answer, sel}
 use Rattle.jsonpath_select.proofs.answer.FirstLemmas.{any_answered, some_answered}
@@ -9,7 +9,7 @@ use Rattle.jsonpath_select.proofs.answer.count_first_exists.exists_by_parts.Goal
 pub returns-then-branch-clause-ok : goal.returns-then-branch-clause-ok
 returns-then-branch-clause-ok c =
     let text = c.args.path.text.now in
-    let doc = view c.args.json.now in
+    let doc = value_document c.args.json.now in
     let set = c.in_ok-set.ensures.ok in (
       answer text doc set.path,
       record { path = set.path; spelled = set.spelled; holds = refl },
@@ -22,4 +22,4 @@ returns-then-branch-clause-ok c =
 pub returns-clause-ok : goal.returns-clause-ok
 returns-clause-ok c =
     let told = c.in_ok-first.ensures in
-    (told.0, told.1, c.is_some.ensures ∙ some_answered (λ v. view v.now) c.in_ok-first.first told.0 told.2)
+    (told.0, told.1, c.is_some.ensures ∙ some_answered (λ v. value_document v.now) c.in_ok-first.first told.0 told.2)

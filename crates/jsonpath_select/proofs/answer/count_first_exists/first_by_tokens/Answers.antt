@@ -1,7 +1,7 @@
 use Rattle.std.proofs.Common.{[], Some, true, false, refl, ap, ◌∙◌}
 use Rattle.std.specs.Prelude.{option_map}
 use Rattle.std.specs.List.{slice_get}
-use Rattle.serde_json.specs.View.{view}
+use Rattle.jsonpath_nodes.specs.document.OfData.{value_document}
 use Rattle.jsonpath_nodes.specs.place.SpotPlace.{location_of, value_of}
 use Rattle.jsonpath_select.specs.Meaning.{answer, sel}
 use Rattle.jsonpath_select.proofs.answer.FirstLemmas.{first_answered}
@@ -10,18 +10,18 @@ use Rattle.jsonpath_select.proofs.answer.count_first_exists.first_by_tokens.Goal
 pub returns-in-Ok : goal.returns-in-Ok
 returns-in-Ok c =
     let text = c.args.text.now in
-    let doc = view c.args.json.now in
+    let doc = value_document c.args.json.now in
     let p = c.requires.path in (
       answer text doc p,
       record { path = p; spelled = c.requires.spelled; holds = refl },
-      ap (option_map (λ v. view v.now)) (c.copied.ensures ∙ c.first.ensures.value ∙ ap (λ vs. slice_get vs 0) c.deref.ensures.value)
-          ∙ first_answered false (λ v. []) (λ v. view v.now) doc (sel text doc p) c.in-Ok.found.items (c.in-Ok.ensures p c.requires.holds),
+      ap (option_map (λ v. value_document v.now)) (c.copied.ensures ∙ c.first.ensures.value ∙ ap (λ vs. slice_get vs 0) c.deref.ensures.value)
+          ∙ first_answered false (λ v. []) (λ v. value_document v.now) doc (sel text doc p) c.in-Ok.found.items (c.in-Ok.ensures p c.requires.holds),
     )
 
 pub returns-in-Some : goal.returns-in-Some
 returns-in-Some c =
     let text = c.args.text.now in
-    let doc = view c.args.json.now in
+    let doc = value_document c.args.json.now in
     let p = c.requires.path in (
       answer text doc p,
       record { path = p; spelled = c.requires.spelled; holds = refl },
@@ -32,7 +32,7 @@ returns-in-Some c =
 pub returns : goal.returns
 returns c =
     let text = c.args.text.now in
-    let doc = view c.args.json.now in
+    let doc = value_document c.args.json.now in
     let p = c.requires.path in (
       answer text doc p,
       record { path = p; spelled = c.requires.spelled; holds = refl },

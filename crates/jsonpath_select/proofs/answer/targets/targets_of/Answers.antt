@@ -1,5 +1,5 @@
 use Rattle.std.proofs.Common.{List, map, ap, ◌∙◌}
-use Rattle.serde_json.specs.View.{view}
+use Rattle.jsonpath_nodes.specs.document.OfData.{value_document}
 use Rattle.jsonpath_nodes.specs.place.Order.{once_in_order}
 use Rattle.jsonpath_nodes.specs.place.SpotPlace.{location_of}
 use Rattle.jsonpath_nodes.specs.declared.place.spot.Spot.{Spot}
@@ -8,5 +8,5 @@ use Rattle.jsonpath_select.proofs.answer.targets.targets_of.Goals as goal
 
 pub returns-clause-ok : goal.returns-clause-ok
 returns-clause-ok c =
-    targets_are c.args.path.text.now (view c.args.value.now) c.in_ok-spots.spots.items _ c.in_ok-spots.ensures.ok
+    targets_are c.args.path.text.now (value_document c.args.value.now) c.in_ok-spots.spots.items _ c.in_ok-spots.ensures.ok
     (c.in_ok-found.ensures.once ∙ ap (λ (spots : List Spot). once_in_order (map location_of spots)) c.as_slice.ensures.value)

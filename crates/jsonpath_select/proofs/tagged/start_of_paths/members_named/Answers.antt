@@ -1,6 +1,6 @@
 use Rattle.std.proofs.Common.{Option, ◌≡◌, ◌++◌, ◌+◌, [], ◌∷◌, length, replicate, sym, ap, ◌∙◌, arith}
 use Rattle.jsonpath_nodes.specs.step.Steps.{step, named}
-use Rattle.serde_json.specs.Data.{Data}
+use Rattle.jsonpath_nodes.specs.document.Document.{Document}
 use Rattle.jsonpath_nodes.specs.place.Location.{Location}
 use Rattle.jsonpath_select.proofs.tagged.GroupLemmas.{spread_next, spread_done, paired, filled}
 use Rattle.jsonpath_select.proofs.tagged.start_of_paths.members_named.Goals as goal
@@ -20,7 +20,7 @@ loop-tag-preserved g c =
       λ doc ls stand.
           spread_next g.M.Mark.located g.M.Mark.stand g.M.Mark.content doc (λ k. step doc (named c.args.name.now) (k ∷ [])) ls c.loop-tag.tag n c.args.candidates.now c.index-candidates-tag.result
           c.loop-tag.tags.items c.fill_tags.new.tags.items c.loop-tag.marks.items c.add_named_member.new.out.items
-          stand c.index-candidates-tag.is c.loop-tag-test.true longer tags (λ l here. c.in_ok-add_named_member.ensures.2 doc (l ∷ []) (ap (λ (x : Location × Option Data). x ∷ []) here)) (c.loop-tag.invariant.1 doc ls stand),
+          stand c.index-candidates-tag.is c.loop-tag-test.true longer tags (λ l here. c.in_ok-add_named_member.ensures.2 doc (l ∷ []) (ap (λ (x : Location × Option Document). x ∷ []) here)) (c.loop-tag.invariant.1 doc ls stand),
     )
 
 pub returns : goal.returns

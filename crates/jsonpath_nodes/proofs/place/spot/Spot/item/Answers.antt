@@ -1,6 +1,6 @@
 use Rattle.std.proofs.Common.{◌≡◌, [], ◌∷◌, ◌++◌, Some, sym, ap, ◌∙◌}
 use Rattle.std.specs.Prelude.{pos}
-use Rattle.serde_json.specs.View.{view}
+use Rattle.jsonpath_nodes.specs.document.OfData.{value_document}
 use Rattle.jsonpath_nodes.specs.place.Location.{Location, index}
 use Rattle.jsonpath_nodes.specs.step.Steps.{single_steps, nth}
 use Rattle.jsonpath_nodes.specs.place.SpotPlace.{location_of, value_of}
@@ -18,8 +18,8 @@ returns-in_ok-here-in-Some c =
     let where_at : location_of spot ≡ location_of self ++ index i ∷ [] =
     at-Item c.in_ok-here-in-Some.here i ∙ ap (λ (l : Location). l ++ index i ∷ []) c.in_ok-here-in-Some.ensures in
     leads (single_steps (nth (pos i))) self (spot ∷ [])
-    (ap (λ (l : Location). (l, Some (view c.in-Some.item.now)) ∷ []) where_at
-    ∙ sym (nth_there i (location_of self) (value_of self) (view c.in-Some.item.now) (sym c.in-Some.ensures)))
+    (ap (λ (l : Location). (l, Some (value_document c.in-Some.item.now)) ∷ []) where_at
+    ∙ sym (nth_there i (location_of self) (value_of self) (value_document c.in-Some.item.now) (sym c.in-Some.ensures)))
 
 pub returns-in-None : goal.returns-in-None
 returns-in-None c =

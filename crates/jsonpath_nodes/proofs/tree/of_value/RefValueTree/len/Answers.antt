@@ -1,5 +1,5 @@
 use Rattle.std.proofs.Common.{arith}
-use Rattle.serde_json.proofs.Views.{items_len-items_view}
+use Rattle.jsonpath_nodes.proofs.tree.ValueLemmas.{items_len-items_view}
 use Rattle.jsonpath_nodes.proofs.tree.of_value.RefValueTree.len.Goals as goal
 
 pub returns : goal.returns

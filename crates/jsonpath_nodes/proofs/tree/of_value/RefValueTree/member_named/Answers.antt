@@ -1,8 +1,8 @@
 use Rattle.std.proofs.Common.{◌≡◌, option_map, string_bytes, sym, ap, ◌∙◌, is_eq}
 use Rattle.std.proofs.lemmas.Map.Text.{is_eq-slice_cmp}
 use Rattle.std.proofs.lemmas.Slice.Eq.{bytes_eq-Decides}
-use Rattle.serde_json.specs.View.{view}
-use Rattle.serde_json.proofs.Views.{view-lookup}
+use Rattle.jsonpath_nodes.specs.document.OfData.{value_document}
+use Rattle.jsonpath_nodes.proofs.tree.ValueLemmas.{view-lookup}
 use Rattle.jsonpath_nodes.proofs.tree.of_value.RefValueTree.member_named.Goals as goal
 
 pub returns-in-Some-clause-key : goal.returns-in-Some-clause-key
@@ -13,7 +13,7 @@ returns-in-Some-clause-key c =
     sym same
 
 pub returns-in-Some-clause-value : goal.returns-in-Some-clause-value
-returns-in-Some-clause-value c = ap (option_map view) c.in-Some.ensures.value ∙ view-lookup c.args.name.now c.args.object.now.entries
+returns-in-Some-clause-value c = ap (option_map value_document) c.in-Some.ensures.value ∙ view-lookup c.args.name.now c.args.object.now.entries
 
 pub returns-in-None-clause-value : goal.returns-in-None-clause-value
-returns-in-None-clause-value c = ap (option_map view) c.in-None.ensures.value ∙ view-lookup c.args.name.now c.args.object.now.entries
+returns-in-None-clause-value c = ap (option_map value_document) c.in-None.ensures.value ∙ view-lookup c.args.name.now c.args.object.now.entries

@@ -1,7 +1,7 @@
 use Rattle.std.proofs.Common.{◌≡◌, ◌<◌, ◌∙◌, option_map, length, get_or, sym, ap, arith}
 use Rattle.std.proofs.lemmas.List.{get_or_read}
-use Rattle.serde_json.specs.View.{view, items_view}
-use Rattle.serde_json.proofs.Views.{view-lookup}
+use Rattle.jsonpath_nodes.specs.document.OfData.{value_document, items_document}
+use Rattle.jsonpath_nodes.proofs.tree.ValueLemmas.{view-lookup}
 use Rattle.serde_json.specs.declared.value.Value.{Null}
 use Rattle.jsonpath_nodes.proofs.update.GroupLemmas.{item_front, member_front, one_more, goes_on, goes_further, ends_there, behind_fewer, ends_fewer, in_group_sorted, in_group_fewer}
 use Rattle.jsonpath_nodes.proofs.update.ClearLemmas.{clears_over, clears_taken, clears_kept, clears_none, clears_end}
@@ -64,7 +64,7 @@ take_items-returns t c =
     let ys = c.move_items_down-kept-2.new.list in
     let whole : c.len-2.result ≡ length c.loop-first.list.items = omega (arith, c.len-2.ensures, c.loop-first.list.ok.0) in
     let same : length ys.items ≡ length c.loop-first.list.items = omega (arith, c.loop-first.list.ok.0, ys.ok.0) in
-    ap items_view c.truncate.ensures.items
+    ap items_document c.truncate.ensures.items
     ∙ passes_end c.args.depth c.loop-first.rest.now ys.items c.in_default.ensures.cases whole same moved.end moved.moved moved.beyond c.loop-first.invariant.passes
 
 pub take_members-loop-first-preserved-in_default-name_at_depth : goal.take_members-loop-first-preserved-in_default-name_at_depth
@@ -112,7 +112,7 @@ take_members-loop-first-preserved-in-Some-get_mut t c =
     let f = member_front c.args.depth c.in-Some.ensures.cases.0 c.in-Some-name_at_depth.ensures c.group_len.ensures.count in
     let left = behind_fewer f c.split_at.result.1.now c.split_at.ensures.back in
     let w = c.take_from_value.new.value in
-    let found = sym (view-lookup c.in-Some-name_at_depth.name.now c.loop-first.map.entries) ∙ ap (option_map view) (sym c.in-Some-get_mut.ensures.value) in
+    let found = sym (view-lookup c.in-Some-name_at_depth.name.now c.loop-first.map.entries) ∙ ap (option_map value_document) (sym c.in-Some-get_mut.ensures.value) in
     record {
       clears = clears_kept f c.split_at.ensures.back c.loop-first.map.entries (c.get_mut.follows.lender w).entries c.loop-first.invariant.clears w c.split_at.ensures.front
           (goes_further c.args.depth c.steps.result.now c.steps.ensures c.in-Some-name_at_depth.ensures c.if-steps-depth.false) found c.take_from_value.ensures (c.get_mut.follows.holds w).0;
@@ -123,7 +123,7 @@ pub take_members-loop-first-preserved : goal.take_members-loop-first-preserved
 take_members-loop-first-preserved t c =
     let f = member_front c.args.depth c.in-Some.ensures.cases.0 c.in-Some-name_at_depth.ensures c.group_len.ensures.count in
     let left = behind_fewer f c.split_at.result.1.now c.split_at.ensures.back in
-    let none = sym (view-lookup c.in-Some-name_at_depth.name.now c.loop-first.map.entries) ∙ ap (option_map view) (sym c.in_default-get_mut.ensures.value) in
+    let none = sym (view-lookup c.in-Some-name_at_depth.name.now c.loop-first.map.entries) ∙ ap (option_map value_document) (sym c.in_default-get_mut.ensures.value) in
     record {
       clears = clears_none f c.split_at.ensures.back c.loop-first.map.entries c.get_mut.follows.lender-at-none.entries c.loop-first.invariant.clears none (ap (λ m. m.entries) c.get_mut.follows.holds-at-none);
       fewer = omega (arith, left, c.loop-first.invariant.fewer);

@@ -1,5 +1,5 @@
 use Rattle.std.proofs.Common.{◌+◌, ◌*◌, ◌≤◌, length}
-use Rattle.serde_json.specs.View.{members_view}
+use Rattle.jsonpath_nodes.specs.document.OfData.{members_document}
 use Rattle.jsonpath_nodes.specs.plan.Groups.{beyond}
 use Rattle.jsonpath_nodes.proofs.update.ClearLemmas.{Clears}
 use Rattle.jsonpath_nodes.proofs.update.GroupLemmas.{total}
@@ -26,7 +26,7 @@ decreases-take_items-loop-first l = length l.rest
 
 abbrev pub invariant-take_members-loop-first : goal.invariant-take_members-loop-first
 invariant-take_members-loop-first l = record {
-  clears : Clears (beyond l.depth l.locations) (members_view l.initial.map.entries) (members_view l.map.entries) (beyond l.depth l.rest);
+  clears : Clears (beyond l.depth l.locations) (members_document l.initial.map.entries) (members_document l.map.entries) (beyond l.depth l.rest);
   fewer : total (beyond l.depth l.rest) ≤ total (beyond l.depth l.locations);
 }
 

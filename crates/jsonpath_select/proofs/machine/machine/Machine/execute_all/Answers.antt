@@ -1,5 +1,5 @@
 use Rattle.std.proofs.Common.{◌≡◌, List, [], map, drop, Some, refl, sym, ap, ◌∙◌, subst, drop_of_length-le}
-use Rattle.serde_json.specs.View.{view}
+use Rattle.jsonpath_nodes.specs.document.OfData.{value_document}
 use Rattle.jsonpath_select.specs.plan.Machine.{State, run_all}
 use Rattle.jsonpath_select.specs.plan.Ordered.{instruction_of}
 use Rattle.jsonpath_select.specs.plan.Stack.{ShowsStacks}
@@ -21,13 +21,13 @@ loop-at-preserved g c = λ s t h e.
     let held = c.loop-at.invariant s t h e in
     let code = c.args.code.now in
     let taken = c.in_ok-at.ensures in
-    let next = between c.args.self.now.text.now (view c.args.self.now.root.now) (drop c.loop-at.at code) taken.1 (drop c.in_ok-at.at code) held.0 t taken.2 held.2 in
+    let next = between c.args.self.now.text.now (value_document c.args.self.now.root.now) (drop c.loop-at.at code) taken.1 (drop c.in_ok-at.at code) held.0 t taken.2 held.2 in
     (next.0, taken.3 held.0 next.0 held.1 next.1, next.2)
 
 pub returns : goal.returns
 returns g c = λ s t h e.
     let held = c.loop-at.invariant s t h e in
     let none : drop c.loop-at.at c.args.code.now ≡ [] = drop_of_length-le c.args.code.now {i = c.loop-at.at} c.loop-at-test.false in
-    let last : Some held.0 ≡ Some t = ap (λ (js : List Instruction). run_all c.args.self.now.text.now (view c.args.self.now.root.now) (map instruction_of js) held.0) (sym none) ∙ held.2 in
+    let last : Some held.0 ≡ Some t = ap (λ (js : List Instruction). run_all c.args.self.now.text.now (value_document c.args.self.now.root.now) (map instruction_of js) held.0) (sym none) ∙ held.2 in
     let same : held.0 ≡ t = cc in
-    subst (λ (u : State). ShowsStacks g.M.Mark.located g.M.Mark.stand g.M.Mark.content c.args.self.now.text.now (view c.args.self.now.root.now) u c.loop-at.stacks) same held.1
+    subst (λ (u : State). ShowsStacks g.M.Mark.located g.M.Mark.stand g.M.Mark.content c.args.self.now.text.now (value_document c.args.self.now.root.now) u c.loop-at.stacks) same held.1

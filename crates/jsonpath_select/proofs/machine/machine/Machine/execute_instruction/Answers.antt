@@ -1,7 +1,7 @@
 use Rattle.std.proofs.Common.{◌≡◌, ℕ, Bool, List, sym, subst}
 use Rattle.std.proofs.lemmas.Result.{on_ok_weaker}
-use Rattle.serde_json.specs.Data.{Data}
-use Rattle.serde_json.specs.View.{view}
+use Rattle.jsonpath_nodes.specs.document.Document.{Document}
+use Rattle.jsonpath_nodes.specs.document.OfData.{value_document}
 use Rattle.jsonpath_nodes.specs.place.Location.{Location}
 use Rattle.jsonpath_select.specs.plan.Ordered.{instruction_of}
 use Rattle.jsonpath_select.specs.plan.Stack.{Executes}
@@ -10,34 +10,34 @@ use Rattle.jsonpath_select.specs.declared.machine.stacks.Stacks.{Stacks}
 use Rattle.jsonpath_select.proofs.machine.machine.Machine.execute_instruction.Goals as goal
 
 -- the step of an instruction is that of the one that it is
-as_is : {M : Type 0} (located : Bool) (stand : M → Location) (content : M → Data) (text : List ℕ) (doc : Data) (i j : Instruction) (before after : Stacks M) → i ≡ j
+as_is : {M : Type 0} (located : Bool) (stand : M → Location) (content : M → Document) (text : List ℕ) (doc : Document) (i j : Instruction) (before after : Stacks M) → i ≡ j
     → Executes located stand content text doc (instruction_of j) before after → Executes located stand content text doc (instruction_of i) before after
 as_is located stand content text doc i j before after is steps = subst (λ (k : Instruction). Executes located stand content text doc (instruction_of k) before after) (sym is) steps
 
 pub returns-in_ok-start_path-in-Start : goal.returns-in_ok-start_path-in-Start
 returns-in_ok-start_path-in-Start g c =
-    as_is g.M.Mark.located g.M.Mark.stand g.M.Mark.content c.args.self.now.text.now (view c.args.self.now.root.now) c.args.instruction _ c.args.stacks.now c.start_path.new.stacks c.in-Start.is c.in_ok-start_path-in-Start.ensures
+    as_is g.M.Mark.located g.M.Mark.stand g.M.Mark.content c.args.self.now.text.now (value_document c.args.self.now.root.now) c.args.instruction _ c.args.stacks.now c.start_path.new.stacks c.in-Start.is c.in_ok-start_path-in-Start.ensures
 
 pub returns-in-Step : goal.returns-in-Step
 returns-in-Step g c =
     on_ok_weaker c.take_plain_step.result
-    (λ steps. as_is g.M.Mark.located g.M.Mark.stand g.M.Mark.content c.args.self.now.text.now (view c.args.self.now.root.now) c.args.instruction _ c.args.stacks.now c.take_plain_step.new.stacks c.in-Step.is (steps (view c.args.self.now.root.now)))
+    (λ steps. as_is g.M.Mark.located g.M.Mark.stand g.M.Mark.content c.args.self.now.text.now (value_document c.args.self.now.root.now) c.args.instruction _ c.args.stacks.now c.take_plain_step.new.stacks c.in-Step.is (steps (value_document c.args.self.now.root.now)))
     c.take_plain_step.ensures
 
 pub returns-in-Enter : goal.returns-in-Enter
 returns-in-Enter g c =
     on_ok_weaker c.begin_filter.result
-    (λ steps. as_is g.M.Mark.located g.M.Mark.stand g.M.Mark.content c.args.self.now.text.now (view c.args.self.now.root.now) c.args.instruction _ c.args.stacks.now c.begin_filter.new.stacks c.in-Enter.is (steps (view c.args.self.now.root.now)))
+    (λ steps. as_is g.M.Mark.located g.M.Mark.stand g.M.Mark.content c.args.self.now.text.now (value_document c.args.self.now.root.now) c.args.instruction _ c.args.stacks.now c.begin_filter.new.stacks c.in-Enter.is (steps (value_document c.args.self.now.root.now)))
     c.begin_filter.ensures
 
 pub returns-in_ok-end_filter-in-Leave : goal.returns-in_ok-end_filter-in-Leave
 returns-in_ok-end_filter-in-Leave g c =
-    as_is g.M.Mark.located g.M.Mark.stand g.M.Mark.content c.args.self.now.text.now (view c.args.self.now.root.now) c.args.instruction _ c.args.stacks.now c.end_filter.new.stacks c.in-Leave.is (c.in_ok-end_filter-in-Leave.ensures (view c.args.self.now.root.now))
+    as_is g.M.Mark.located g.M.Mark.stand g.M.Mark.content c.args.self.now.text.now (value_document c.args.self.now.root.now) c.args.instruction _ c.args.stacks.now c.end_filter.new.stacks c.in-Leave.is (c.in_ok-end_filter-in-Leave.ensures (value_document c.args.self.now.root.now))
 
 pub returns-in_ok-compare_two_operands-in-Compares : goal.returns-in_ok-compare_two_operands-in-Compares
 returns-in_ok-compare_two_operands-in-Compares g c =
-    as_is g.M.Mark.located g.M.Mark.stand g.M.Mark.content c.args.self.now.text.now (view c.args.self.now.root.now) c.args.instruction _ c.args.stacks.now c.compare_two_operands.new.stacks c.in-Compares.is (c.in_ok-compare_two_operands-in-Compares.ensures (view c.args.self.now.root.now))
+    as_is g.M.Mark.located g.M.Mark.stand g.M.Mark.content c.args.self.now.text.now (value_document c.args.self.now.root.now) c.args.instruction _ c.args.stacks.now c.compare_two_operands.new.stacks c.in-Compares.is (c.in_ok-compare_two_operands-in-Compares.ensures (value_document c.args.self.now.root.now))
 
 pub returns-in_ok-join_two_conditions-in-Joins : goal.returns-in_ok-join_two_conditions-in-Joins
 returns-in_ok-join_two_conditions-in-Joins g c =
-    as_is g.M.Mark.located g.M.Mark.stand g.M.Mark.content c.args.self.now.text.now (view c.args.self.now.root.now) c.args.instruction _ c.args.stacks.now c.join_two_conditions.new.stacks c.in-Joins.is (c.in_ok-join_two_conditions-in-Joins.ensures (view c.args.self.now.root.now))
+    as_is g.M.Mark.located g.M.Mark.stand g.M.Mark.content c.args.self.now.text.now (value_document c.args.self.now.root.now) c.args.instruction _ c.args.stacks.now c.join_two_conditions.new.stacks c.in-Joins.is (c.in_ok-join_two_conditions-in-Joins.ensures (value_document c.args.self.now.root.now))

@@ -1,6 +1,6 @@
 use Rattle.std.proofs.Common.{[], ◌∷◌, ◌++◌, refl, sym, ◌∙◌, arith, false, true}
 use Rattle.std.proofs.lemmas.List.{take_rest}
-use Rattle.serde_json.specs.View.{view}
+use Rattle.jsonpath_nodes.specs.document.OfData.{value_document}
 use Rattle.jsonpath_select.specs.plan.Code as code
 use Rattle.jsonpath_select.specs.plan.Ordered.{instruction_of}
 use Rattle.jsonpath_select.specs.declared.machine.instruction.Instruction.TheVariants.{Start, Enter}
@@ -14,7 +14,7 @@ start_at_member-requires g c = λ k.
     let can = c.requires.can in
     let begins = c.in-Some.ensures in
     let text = c.args.self.now.text.now in
-    let doc = view c.args.self.now.root.now in
+    let doc = value_document c.args.self.now.root.now in
     let first = first_there text doc _ (Start false) (begins.0 ∷ begins.1) can.0 can.1 (sym (take_rest c.args.code.now c.args.at) ∙ begins.2) can.3 in
     ((refl, tt), inside_frames g.M.Mark.located g.M.Mark.stand g.M.Mark.content text doc (code.start false) can.0.frames can.0.operands first.0 c.args.stacks.now.frames.items can.2.0 first.1)
 
@@ -22,7 +22,7 @@ pub returns-in-Some : goal.returns-in-Some
 returns-in-Some g c =
     let begins = c.in-Some.ensures in
     let text = c.args.self.now.text.now in
-    let doc = view c.args.self.now.root.now in (
+    let doc = value_document c.args.self.now.root.now in (
       omega arith,
       Start false ∷ begins.0 ∷ [],
       two_taken c.args.code.now c.args.at (Start false) begins.0 begins.1 (sym (take_rest c.args.code.now c.args.at) ∙ begins.2),
@@ -35,14 +35,14 @@ pub execute_instruction-requires : goal.execute_instruction-requires
 execute_instruction-requires g c = λ k.
     let can = c.requires.can in
     let text = c.args.self.now.text.now in
-    let doc = view c.args.self.now.root.now in
+    let doc = value_document c.args.self.now.root.now in
     let first = first_there text doc _ c.index-code-at.result _ can.0 can.1 (one_taken c.args.code.now c.args.at c.index-code-at.result c.index-code-at.is c.requires.some) can.3 in
     ((refl, tt), (doc, can.0, first.0, can.2, first.1))
 
 pub returns : goal.returns
 returns g c =
     let text = c.args.self.now.text.now in
-    let doc = view c.args.self.now.root.now in (
+    let doc = value_document c.args.self.now.root.now in (
       omega arith,
       c.index-code-at.result ∷ [],
       one_taken c.args.code.now c.args.at c.index-code-at.result c.index-code-at.is c.requires.some,
@@ -54,7 +54,7 @@ returns-in-Some-root_steps_to_filter_with_own_step g c =
     let steps = c.in-Some-root_steps_to_filter_with_own_step.steps.now in
     let leads = c.in-Some-root_steps_to_filter_with_own_step.ensures in
     let text = c.args.self.now.text.now in
-    let doc = view c.args.self.now.root.now in (
+    let doc = value_document c.args.self.now.root.now in (
       omega arith,
       Start true ∷ steps ++ Enter false true ∷ [],
       many_taken c.args.code.now c.args.at (Start true) (Enter false true) steps leads.0 (sym (take_rest c.args.code.now c.args.at) ∙ leads.1),

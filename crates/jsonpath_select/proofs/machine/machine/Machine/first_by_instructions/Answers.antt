@@ -1,7 +1,7 @@
 use Rattle.std.proofs.Common.{List, [], ◌∷◌, Some, None, take, refl, sym, subst}
 use Rattle.std.proofs.lemmas.List.{take_rest}
 use Rattle.std.proofs.lemmas.Result.{IfOk-weaker}
-use Rattle.serde_json.specs.View.{view}
+use Rattle.jsonpath_nodes.specs.document.OfData.{value_document}
 use Rattle.jsonpath_nodes.specs.place.Location.{Location}
 use Rattle.jsonpath_nodes.specs.place.Mark.{MarksStandAt}
 use Rattle.jsonpath_select.specs.plan.First.{BeginAs}
@@ -15,7 +15,7 @@ use Rattle.jsonpath_select.proofs.machine.machine.Machine.first_by_instructions.
 pub first_in_slices-requires : goal.first_in_slices-requires
 first_in_slices-requires g c = λ k.
     let text = c.args.self.now.text.now in
-    let doc = view c.args.self.now.root.now in
+    let doc = value_document c.args.self.now.root.now in
     let way = c.in-Some.way in
     let behind = c.in-Some.behind.now in
     let end = c.condition_end-end.result in
@@ -35,12 +35,12 @@ first_in_slices-requires g c = λ k.
     )
 
 pub follow_steps-requires-in-None : goal.follow_steps-requires-in-None
-follow_steps-requires-in-None g c = λ k. ((refl, tt), (plain_split c.args.self.now.text.now (view c.args.self.now.root.now) c.saturating_sub-last.result c.args.left.now c.requires.0 c.requires.1 c.in-None.ensures.none).3)
+follow_steps-requires-in-None g c = λ k. ((refl, tt), (plain_split c.args.self.now.text.now (value_document c.args.self.now.root.now) c.saturating_sub-last.result c.args.left.now c.requires.0 c.requires.1 c.in-None.ensures.none).3)
 
 pub first_in_slices-requires-in-None : goal.first_in_slices-requires-in-None
 first_in_slices-requires-in-None g c = λ k.
     let text = c.args.self.now.text.now in
-    let doc = view c.args.self.now.root.now in
+    let doc = value_document c.args.self.now.root.now in
     let left = c.args.left.now in
     let last = c.saturating_sub-last.result in
     let split = plain_split text doc last left c.requires.0 c.requires.1 c.in-None.ensures.none in
@@ -58,7 +58,7 @@ first_in_slices-requires-in-None g c = λ k.
 pub returns-in_ok-candidates-in-Some : goal.returns-in_ok-candidates-in-Some
 returns-in_ok-candidates-in-Some g c =
     let text = c.args.self.now.text.now in
-    let doc = view c.args.self.now.root.now in
+    let doc = value_document c.args.self.now.root.now in
     let way = c.in-Some.way in
     let behind = c.in-Some.behind.now in
     let end = c.condition_end-end.result in
@@ -77,7 +77,7 @@ returns-in_ok-candidates-in-Some g c =
 pub returns-in_ok-led-in-None : goal.returns-in_ok-led-in-None
 returns-in_ok-led-in-None g c =
     let text = c.args.self.now.text.now in
-    let doc = view c.args.self.now.root.now in
+    let doc = value_document c.args.self.now.root.now in
     let left = c.args.left.now in
     let last = c.saturating_sub-last.result in
     let ks = along text doc (take last left) ([] ∷ []) in

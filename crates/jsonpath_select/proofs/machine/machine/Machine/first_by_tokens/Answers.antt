@@ -1,6 +1,6 @@
 use Rattle.std.proofs.Common.{List, refl, subst}
 use Rattle.std.proofs.lemmas.Result.{IfOk-weaker}
-use Rattle.serde_json.specs.View.{view}
+use Rattle.jsonpath_nodes.specs.document.OfData.{value_document}
 use Rattle.jsonpath_nodes.specs.place.Location.{Location}
 use Rattle.jsonpath_select.specs.plan.First.{BeginAs}
 use Rattle.jsonpath_select.proofs.machine.SelectLemmas.{list_begins}
@@ -8,13 +8,13 @@ use Rattle.jsonpath_select.proofs.machine.machine.Machine.first_by_tokens.Goals 
 
 pub first_by_instructions-requires : goal.first_by_instructions-requires
 first_by_instructions-requires g c = λ k.
-    let begins = list_begins c.args.self.now.text.now (view c.args.self.now.root.now) c.requires.0 c.args.tokens.now c.as_slice.result.now c.in_ok-code.code.items c.requires.1 c.as_slice.ensures.value c.in_ok-code.ensures in
+    let begins = list_begins c.args.self.now.text.now (value_document c.args.self.now.root.now) c.requires.0 c.args.tokens.now c.as_slice.result.now c.in_ok-code.code.items c.requires.1 c.as_slice.ensures.value c.in_ok-code.ensures in
     ((refl, tt), (begins.0, begins.1))
 
 pub returns : goal.returns
 returns g c =
     let text = c.args.self.now.text.now in
-    let doc = view c.args.self.now.root.now in
+    let doc = value_document c.args.self.now.root.now in
     IfOk-weaker c.first_by_instructions.result _ _
     (λ found leads p h.
     let begins = list_begins text doc p c.args.tokens.now c.as_slice.result.now c.in_ok-code.code.items h c.as_slice.ensures.value c.in_ok-code.ensures in

@@ -1,7 +1,7 @@
 use Rattle.std.proofs.Common.{◌≡◌, List, [], map, Some, refl, ap, ◌∙◌}
 use Rattle.std.specs.Prelude.{filter}
-use Rattle.serde_json.specs.Data.{Data}
-use Rattle.serde_json.specs.View.{view}
+use Rattle.jsonpath_nodes.specs.document.Document.{Document}
+use Rattle.jsonpath_nodes.specs.document.OfData.{value_document}
 use Rattle.jsonpath_paths.specs.tree.Tree.{Condition}
 use Rattle.jsonpath_nodes.specs.place.Location.{Location}
 use Rattle.jsonpath_select.specs.Meaning.{holds}
@@ -16,13 +16,13 @@ use Rattle.jsonpath_select.proofs.machine.OrderedLemmas.{found_there, found_is}
 use Rattle.jsonpath_select.proofs.machine.machine.Machine.keep_passing_candidates.Goals as goal
 
 -- the condition is decided
-decided : (text : _) (doc : Data) (is : List CodeInstruction) (f : Condition) (cs : List Location) → CodesCondition is f → run_all text doc (map instruction_of is) (begun cs) ≡ Some (answering (filter (λ l. holds text doc f l) cs))
+decided : (text : _) (doc : Document) (is : List CodeInstruction) (f : Condition) (cs : List Location) → CodesCondition is f → run_all text doc (map instruction_of is) (begun cs) ≡ Some (answering (filter (λ l. holds text doc f l) cs))
 decided text doc is f cs e = ap (λ (js : List Instruction). run_all text doc js (begun cs)) e ∙ top_decided text doc f [] cs
 
 pub execute_all-requires : goal.execute_all-requires
 execute_all-requires g c = λ k.
     let text = c.args.self.now.text.now in
-    let doc = view c.args.self.now.root.now in
+    let doc = value_document c.args.self.now.root.now in
     let f = c.requires.is.0 in
     let cs = c.requires.there.0 in (
       (refl, tt),
@@ -37,7 +37,7 @@ execute_all-requires g c = λ k.
 pub pop_marks-requires : goal.pop_marks-requires
 pop_marks-requires g c =
     let text = c.args.self.now.text.now in
-    let doc = view c.args.self.now.root.now in
+    let doc = value_document c.args.self.now.root.now in
     let f = c.requires.is.0 in
     let cs = c.requires.there.0 in
     let ks = filter (λ l. holds text doc f l) cs in
@@ -50,7 +50,7 @@ pop_marks-requires g c =
 pub returns : goal.returns
 returns g c = λ f cs is there.
     let text = c.args.self.now.text.now in
-    let doc = view c.args.self.now.root.now in
+    let doc = value_document c.args.self.now.root.now in
     let ks = filter (λ l. holds text doc f l) cs in
     let after =
     c.in_ok-execute_all.ensures (begun cs) (answering ks)

@@ -1,6 +1,6 @@
 use Rattle.std.proofs.Common.{List, refl, subst}
 use Rattle.std.specs.Prelude.{filter}
-use Rattle.serde_json.specs.View.{view}
+use Rattle.jsonpath_nodes.specs.document.OfData.{value_document}
 use Rattle.jsonpath_nodes.specs.place.Location.{Location}
 use Rattle.jsonpath_nodes.specs.place.Mark.{MarksStandAt}
 use Rattle.jsonpath_select.specs.Meaning.{holds}
@@ -10,11 +10,11 @@ use Rattle.jsonpath_select.proofs.machine.machine.Machine.keep_passing_with_stan
 pub keep_passing_candidates-requires : goal.keep_passing_candidates-requires
 keep_passing_candidates-requires g c = λ k.
     let cs = c.requires.there.0 in
-    ((refl, tt), (c.requires.is, (cs, c.in_ok-all.ensures (view c.args.self.now.root.now) cs c.requires.there.1.0)))
+    ((refl, tt), (c.requires.is, (cs, c.in_ok-all.ensures (value_document c.args.self.now.root.now) cs c.requires.there.1.0)))
 
 pub returns : goal.returns
 returns g c = λ f cs is there.
-    let doc = view c.args.self.now.root.now in
+    let doc = value_document c.args.self.now.root.now in
     let test = λ (l : Location). holds c.args.self.now.text.now doc f l in
     let kept = c.in_ok-kept.ensures f cs is (c.in_ok-all.ensures doc cs there.0) in (
       subst (λ (ks : List Location). MarksStandAt g.M.Mark.located g.M.Mark.stand g.M.Mark.content doc ks c.in_ok-kept.kept.pairs.marks.items) (places_tagged 0 (filter test cs)) kept.1.1,

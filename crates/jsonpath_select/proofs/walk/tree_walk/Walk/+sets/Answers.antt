@@ -2,7 +2,7 @@ use Rattle.std.proofs.Common.{◌≡◌, ℕ, List, length, map, refl, sym, ap, 
 use Rattle.std.proofs.lemmas.Result.{IfOk-weaker}
 use Rattle.std.specs.Prelude.{filter}
 use Rattle.std.specs.List.{list_any}
-use Rattle.serde_json.specs.View.{view}
+use Rattle.jsonpath_nodes.specs.document.OfData.{value_document}
 use Rattle.jsonpath_paths.specs.tree.Tree as tree
 use Rattle.jsonpath_paths.specs.tree.View.{path_of, inner_of, condition_of, term_of}
 use Rattle.jsonpath_paths.specs.declared.tree.parser_node.Condition.{Condition}
@@ -24,7 +24,7 @@ indexes_of_passing_candidates-returns-in_ok-found-in-Lone t c =
     IfOk-weaker c.tags_where_marks_found.result _ _
     (λ tags told ps shows.
     let text = c.args.self.now.text.now in
-    let doc = view c.args.self.now.root.now in
+    let doc = value_document c.args.self.now.root.now in
     let p = path_of c.in-Lone.path in
     let found = c.in_ok-found-in-Lone.ensures ps shows in
     let count : length c.as_slice-count.result.now ≡ length (places ps) = ap length c.as_slice-count.ensures.value ∙ counted doc ps c.args.candidates.now shows in
@@ -39,7 +39,7 @@ indexes_of_passing_candidates-returns-in_ok-rights-in-Compare t c =
     IfOk-weaker c.tags_where_comparison_holds.result _ _
     (λ tags told ps shows.
     let text = c.args.self.now.text.now in
-    let doc = view c.args.self.now.root.now in
+    let doc = value_document c.args.self.now.root.now in
     let a = term_of c.in-Compare.left in
     let b = term_of c.in-Compare.right in
     let count : length c.as_slice-count.result.now ≡ length (places ps) = ap length c.as_slice-count.ensures.value ∙ counted doc ps c.args.candidates.now shows in
@@ -53,7 +53,7 @@ indexes_of_passing_candidates-returns-in_ok-rights-in-Join t c =
     IfOk-weaker c.join_tags.result _ _
     (λ tags told ps shows.
     let text = c.args.self.now.text.now in
-    let doc = view c.args.self.now.root.now in
+    let doc = value_document c.args.self.now.root.now in
     let one = set_holds text doc (condition_of c.deref.result.now) in
     let two = set_holds text doc (condition_of c.deref-in-Join.result.now) in
     let count : length c.as_slice-count.result.now ≡ length (places ps) = ap length c.as_slice-count.ensures.value ∙ counted doc ps c.args.candidates.now shows in
@@ -70,7 +70,7 @@ indexes_of_passing_candidates_by_location-returns t c =
     IfOk-weaker c.indexes_standing_among.result _ _
     (λ found told ps shows.
     let text = c.args.self.now.text.now in
-    let doc = view c.args.self.now.root.now in
+    let doc = value_document c.args.self.now.root.now in
     let test = set_holds text doc (condition_of c.args.condition.now) in
     let ls = places ps in
     let marks = c.args.candidates.now.marks.items in
@@ -94,7 +94,7 @@ lists_after_token_or_filter-returns-in-Token t c =
     IfOk-weaker c.lead_marks_of_candidates.result _ _
     (λ found leads f ls n shows.
     let text = c.args.self.now.text.now in
-    let doc = view c.args.self.now.root.now in
+    let doc = value_document c.args.self.now.root.now in
     let there = turned doc (stepped text doc c.args.leaves c.in-Token.token) f ls c.args.lists found n (leads doc (spread f 0 ls) shows) in
     subst (λ (i : Inner). ShowsSpots doc (spread (λ c'. set_led text doc (inner_of i) c.args.leaves (f c')) 0 ls) found) (sym c.in-Token.is) there)
     c.lead_marks_of_candidates.ensures
@@ -104,7 +104,7 @@ lists_after_token_or_filter-returns-in_ok-flat-in-Filter t c =
     IfOk-weaker c.keep_passing_candidates_by_sets.result _ _
     (λ kept keeps f ls n shows.
     let text = c.args.self.now.text.now in
-    let doc = view c.args.self.now.root.now in
+    let doc = value_document c.args.self.now.root.now in
     let leaves = c.args.leaves in
     let condition = condition_of c.in-Filter.condition in
     let deep = c.condition_has_own_step-deep.result in
@@ -123,22 +123,22 @@ pub keep_passing_candidates_by_sets-returns : goal.keep_passing_candidates_by_se
 keep_passing_candidates_by_sets-returns t c =
     IfOk-weaker c.keep_marks_at_indexes.result _ _
     (λ kept keeps ps shows.
-    let test = set_holds c.args.self.now.text.now (view c.args.self.now.root.now) (condition_of c.args.condition.now) in
-    subst (λ (qs : List Tagged). ShowsSpots (view c.args.self.now.root.now) qs kept)
+    let test = set_holds c.args.self.now.text.now (value_document c.args.self.now.root.now) (condition_of c.args.condition.now) in
+    subst (λ (qs : List Tagged). ShowsSpots (value_document c.args.self.now.root.now) qs kept)
     (ap (λ (ns : List ℕ). kept_by_number 0 ns ps) (c.as_slice.ensures.value ∙ c.in_ok-numbers.ensures ps shows) ∙ kept-chosen test 0 ps)
-    (keeps (view c.args.self.now.root.now) ps shows))
+    (keeps (value_document c.args.self.now.root.now) ps shows))
     c.keep_marks_at_indexes.ensures
 
 pub sets_after_path-loop-step-init : goal.sets_after_path-loop-step-init
 sets_after_path-loop-step-init t c = λ ps shows.
     let absolute = (out-ParserNode c.args.path.now).absolute in
-    let count : length c.as_slice.result.now ≡ length (places ps) = ap length c.as_slice.ensures.value ∙ counted (view c.args.self.now.root.now) ps c.args.candidates.now shows in
+    let count : length c.as_slice.result.now ≡ length (places ps) = ap length c.as_slice.ensures.value ∙ counted (value_document c.args.self.now.root.now) ps c.args.candidates.now shows in
     (itself, c.list_count_for_candidates-lists.ensures ∙ ap (λ n. list_count_for_candidates absolute n) count ∙ list_count_for_candidates-starts absolute (places ps), (c.in_ok-pairs.ensures ps shows).1, λ l. refl)
 
 pub sets_after_path-loop-step-preserved : goal.sets_after_path-loop-step-preserved
 sets_after_path-loop-step-preserved t c = λ ps shows.
     let text = c.args.self.now.text.now in
-    let doc = view c.args.self.now.root.now in
+    let doc = value_document c.args.self.now.root.now in
     let inv = c.loop-step.invariant ps shows in
     let s = c.step-item.result in
     let cs = starts (out-ParserNode c.args.path.now).absolute (places ps) in (
@@ -151,14 +151,14 @@ sets_after_path-loop-step-preserved t c = λ ps shows.
 pub sets_after_path-returns : goal.sets_after_path-returns
 sets_after_path-returns t c = λ ps shows.
     let inv = c.loop-step.invariant ps shows in
-    (shared_is c.args.self.now.text.now (view c.args.self.now.root.now) c.args.path.now (places ps), sets_done c.args.self.now.text.now (view c.args.self.now.root.now) c.args.path.now c.loop-step.step-index c.deref-step-items.result.now ps inv.0 c.loop-step.pairs c.deref-step-items.ensures.value c.loop-step-test.false inv.2 inv.3)
+    (shared_is c.args.self.now.text.now (value_document c.args.self.now.root.now) c.args.path.now (places ps), sets_done c.args.self.now.text.now (value_document c.args.self.now.root.now) c.args.path.now c.loop-step.step-index c.deref-step-items.result.now ps inv.0 c.loop-step.pairs c.deref-step-items.ensures.value c.loop-step-test.false inv.2 inv.3)
 
 pub sets_after_step-returns : goal.sets_after_step-returns
 sets_after_step-returns t c =
     IfOk-weaker c.lead_marks_of_candidates.result _ _
     (λ led leads f ls n shows.
     let text = c.args.self.now.text.now in
-    let doc = view c.args.self.now.root.now in
+    let doc = value_document c.args.self.now.root.now in
     let s = c.args.step.now in
     let top = c.in_ok-top.ensures doc f ls n shows in
     let found = c.in_ok-found.ensures _ ls n top in

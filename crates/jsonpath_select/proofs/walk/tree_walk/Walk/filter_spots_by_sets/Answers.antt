@@ -1,5 +1,5 @@
 use Rattle.std.proofs.Common.{map, ap, ◌∙◌}
-use Rattle.serde_json.specs.View.{view}
+use Rattle.jsonpath_nodes.specs.document.OfData.{value_document}
 use Rattle.jsonpath_paths.specs.tree.View.{condition_of}
 use Rattle.jsonpath_nodes.specs.place.Order.{once_in_order}
 use Rattle.jsonpath_nodes.specs.place.SpotPlace.{look}
@@ -11,7 +11,7 @@ use Rattle.jsonpath_select.proofs.walk.tree_walk.Walk.filter_spots_by_sets.Goals
 pub returns : goal.returns
 returns c = λ ls stand.
     let text = c.args.self.now.text.now in
-    let doc = view c.args.self.now.root.now in
+    let doc = value_document c.args.self.now.root.now in
     let f = condition_of c.args.condition.now in
     let shows = c.in_ok-kept.ensures (tagged 0 ls) (c.in_ok-candidates.ensures doc ls stand) in
     shows.1

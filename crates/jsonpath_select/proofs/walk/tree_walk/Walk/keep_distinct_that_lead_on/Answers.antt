@@ -1,5 +1,5 @@
 use Rattle.std.proofs.Common.{◌≡◌, ◌≤◌, List, true, false, length, refl, ap, subst, ◌∙◌, arith}
-use Rattle.serde_json.specs.View.{view}
+use Rattle.jsonpath_nodes.specs.document.OfData.{value_document}
 use Rattle.jsonpath_paths.specs.tree.Tree.{lone, path}
 use Rattle.jsonpath_paths.specs.tree.View.{inner_of, steps_of_list}
 use Rattle.jsonpath_nodes.specs.place.Location.{Location}
@@ -15,7 +15,7 @@ use Rattle.jsonpath_select.proofs.walk.tree_walk.Walk.keep_distinct_that_lead_on
 
 pub loop-step-init : goal.loop-step-init
 loop-step-init c = λ ls stand.
-    let doc = view c.args.self.now.root.now in
+    let doc = value_document c.args.self.now.root.now in
     let alone = c.in_ok-candidates.ensures doc ls stand in (
       itself,
       length-marks true location_of value_of doc ls c.args.spots.now stand,
@@ -26,7 +26,7 @@ loop-step-init c = λ ls stand.
 pub loop-step-preserved : goal.loop-step-preserved
 loop-step-preserved c = λ ls stand.
     let text = c.args.self.now.text.now in
-    let doc = view c.args.self.now.root.now in
+    let doc = value_document c.args.self.now.root.now in
     let inv = c.loop-step.invariant ls stand in
     let s = c.step-item.result in (
       λ l. set_step text doc (inner_of s.inner) s.leaves (inv.0 l),
@@ -38,7 +38,7 @@ loop-step-preserved c = λ ls stand.
 pub returns : goal.returns
 returns c = λ ls stand.
     let text = c.args.self.now.text.now in
-    let doc = view c.args.self.now.root.now in
+    let doc = value_document c.args.self.now.root.now in
     let test = set_holds text doc (lone (path false (steps_of_list c.args.steps.now))) in
     let inv = c.loop-step.invariant ls stand in
     let over : length c.args.steps.now ≤ c.loop-step.step-index = c.loop-step-test.false in

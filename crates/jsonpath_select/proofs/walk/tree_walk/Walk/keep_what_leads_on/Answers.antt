@@ -1,6 +1,6 @@
 use Rattle.std.proofs.Common.{◌≡◌, false, map, ap, ◌∙◌}
 use Rattle.std.specs.Prelude.{filter}
-use Rattle.serde_json.specs.View.{view}
+use Rattle.jsonpath_nodes.specs.document.OfData.{value_document}
 use Rattle.jsonpath_paths.specs.tree.Tree.{lone, path}
 use Rattle.jsonpath_paths.specs.tree.View.{steps_of_list}
 use Rattle.jsonpath_nodes.specs.place.NumbersWhere.{numbers_where}
@@ -14,7 +14,7 @@ use Rattle.jsonpath_select.proofs.walk.tree_walk.Walk.keep_what_leads_on.Goals a
 pub returns : goal.returns
 returns c = λ ls stand.
     let text = c.args.self.now.text.now in
-    let doc = view c.args.self.now.root.now in
+    let doc = value_document c.args.self.now.root.now in
     let f = lone (path false (steps_of_list c.args.steps.now)) in
     let test = set_holds text doc f in
     let order : StandAt doc (once_in_order ls) c.as_slice.result.now = ap (map sight_of) c.as_slice.ensures.value ∙ c.in_ok-distinct.ensures doc ls stand in

@@ -1,5 +1,5 @@
 use Rattle.std.proofs.Common.{ap, ◌∙◌}
-use Rattle.serde_json.specs.View.{view}
+use Rattle.jsonpath_nodes.specs.document.OfData.{value_document}
 use Rattle.jsonpath_paths.specs.tree.View.{path_of}
 use Rattle.jsonpath_nodes.specs.place.Order.{once_in_order}
 use Rattle.jsonpath_select.specs.plan.SetWalk.{below_topmost}
@@ -10,7 +10,7 @@ use Rattle.jsonpath_select.proofs.walk.tree_walk.Walk.select_spot_set.Goals as g
 pub returns : goal.returns
 returns c =
     let text = c.args.self.now.text.now in
-    let doc = view c.args.self.now.root.now in
+    let doc = value_document c.args.self.now.root.now in
     let p = path_of c.args.path.now in
     let found = c.in_ok-found.ensures root_shared_by_candidates.pairs c.in_ok-start.ensures.1 in
     ap once_in_order (standing doc _ c.in_ok-found.found.pairs.marks.items found.1.1 ∙ alone_sets text doc p)
