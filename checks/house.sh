@@ -8,7 +8,7 @@
 # has each folder of sources. Neither names a file or folder that is not there.
 # Each source that README, CONTRIBUTING and docs/ name is there.
 # No enum, struct, trait or definition of the product's libraries has the name of another one, but for a type and the one
-# definition in its crate that says what it is seen as, and for the parts of a document, which have `serde_json`'s names.
+# definition in its crate that says what it is seen as, and for the items of a document, which have `serde_json`'s name.
 # Last line: 'N passed, M failed'.
 set -u
 here=$(cd "$(dirname "${BASH_SOURCE[0]}")/.." && pwd)
@@ -411,7 +411,7 @@ two_things() {
     for crate in "$@"; do
         find "$crate/src" -name '*.rt' -exec grep -HoE '^(pub(\(crate\))? )?(enum|struct|trait|type) [A-Za-z]+' {} + | sed -E "s|^([^:]*):.* |${crate##*/} type \\1 |"
         find "$crate/specs" -name '*.antt' | while IFS= read -r file; do definitions "$file"; done | sed -E "s|^([^:]*):|${crate##*/} definition \\1 |"
-    done | grep -vE ' (use|mod|mutual)$| definition crates/jsonpath_nodes/specs/document/Document\.antt ' | sort -k4,4 | awk '
+    done | grep -vE ' (use|mod|mutual)$| definition crates/jsonpath_nodes/specs/document/Document\.antt Items$' | sort -k4,4 | awk '
         function tell() { if (count > 1 && !(count == 2 && types == 1 && crates == 1)) print name ":" files }
         $4 != name { tell(); name = $4; count = types = crates = 0; files = ""; delete seen }
         { count++; types += $2 == "type"; files = files " " $3 }
