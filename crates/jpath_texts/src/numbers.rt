@@ -1,4 +1,4 @@
-//! Numbers in exact order, however many digits they have, and those that replace them in a document's copy.
+//! Numbers, ordered exactly however many digits they have, and the numbers that replace them in the copy of a document.
 
 pub(crate) mod number_key;
 pub(crate) mod numbers_in_copy;

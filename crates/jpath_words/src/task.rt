@@ -47,7 +47,7 @@ pub struct Table<'a> {
     pub has_header: bool,
 }
 
-/// An edit by `jpath`: a path, and whether the values that it selects are replaced, and by what, or are removed.
+/// An edit by `jpath`: a path, and whether the values that it selects are removed or replaced, and by which JSON text.
 #[derive(Drop)]
 pub struct Edit<'a> {
     pub query: Query<'a>,

@@ -1,5 +1,5 @@
 //! Compiled paths for many documents: `Compiled`, which owns its text, `PathCompiled`, which borrows it, and
-//! `CompiledPath`, which stores the error in place of the path if its text is none; and several path texts compiled
+//! `CompiledPath`, which stores an error in place of the path if the text is no path; and several path texts compiled
 //! in order, by `compile_paths`.
 
 pub(crate) mod kept_path;

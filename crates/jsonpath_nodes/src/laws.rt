@@ -24,8 +24,9 @@ ghost use Rattle.jsonpath_nodes.specs.step.Separate.{ApartHasNoRepeatFlat, OneIs
 
 use serde_json::{Map, Value};
 
-/// Lemma: different JSON values have different documents. So what a contract says of the document of a `Value`, it says
-/// of the `Value` itself.
+/// Lemma: values with different content have different documents. Contracts describe a `Value` by its document (its
+/// content, with each number as `serde_json` read it), so a contract that determines the document determines the
+/// content, too.
 ///
 /// ```text
 /// laws::documents_keep_data_apart();

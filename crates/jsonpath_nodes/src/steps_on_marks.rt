@@ -129,8 +129,8 @@ pub fn plain_step_from_all_below<'a, M: Mark<'a>>(
     Ok(found)
 }
 
-/// Returns what a `Stride`, a step without a condition, selects from each node and, if its `leaves` is set (`..`), from
-/// all descendants, too.
+/// Returns what a `Stride`, a step without a condition, selects from each node or, if the `Stride` has `..` (its field
+/// `leaves` is true), from each node and all its descendants, in preorder.
 ///
 /// ```text
 /// let second = Stride {

@@ -63,8 +63,8 @@ pub fn one_tree_per_token_list()
     ensures { (p q : Path) → IsPath p → IsPath q → path_tokens p ≡ path_tokens q → p ≡ q }
 {}
 
-/// Lemma: a text parses to a syntax tree exactly if `tree_of_text` computes this tree from it, so the tree of a fixed
-/// text is proved by `refl`.
+/// Lemma: a text parses to a syntax tree exactly if `tree_of_text` computes this tree from it. For a literal text, the
+/// proof that it has its tree is thus the computation itself (`refl`).
 ///
 /// ```text
 /// laws::spelled_tree();

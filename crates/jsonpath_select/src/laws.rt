@@ -156,9 +156,9 @@ pub fn extremes_and_sets_decide_pairs()
 {}
 
 /// Lemma: a path selects the same set of nodes, and each condition holds at the same candidates, if duplicates are
-/// dropped after each step, also inside conditions, and if those of its starting nodes that have an ancestor among them
-/// are dropped before each `..`. Whether a condition holds depends on the location and the document alone, so it can be
-/// decided once for each location.
+/// dropped after each step, also inside conditions, and if before each `..` those nodes are dropped that have an
+/// ancestor in the list. Whether a condition holds depends on the location and the document alone, so it can be decided
+/// once for each location.
 ///
 /// ```text
 /// laws::dropping_repeats_keeps_the_set();
@@ -184,8 +184,9 @@ pub fn what_leads_on_suffices()
     equal_locations_are_same();
 }
 
-/// Lemma: if a list of nodes is split in two, the first node that some steps select from the list, in the path's order,
-/// is the first that they select from its first part or, if they select none from it, from its second part.
+/// Lemma: if a list of nodes is split in two, the first node that some steps select from the list, in the order in
+/// which the steps find them, is the first that they select from its first part or, if they select none from it, from
+/// its second part.
 ///
 /// ```text
 /// laws::first_is_of_first_piece();

@@ -41,8 +41,8 @@ impl<P: AnyPath> AnyPath for KeptPath<P> {
 }
 
 impl<P: AnyPath> KeptPath<P> {
-    /// The values that this path selects in the document, in the path's order, with duplicates. They borrow the
-    /// document alone. The only error is `OutOfMemory`.
+    /// The values that this path selects in the document, in the order in which the path finds them, with duplicates.
+    /// They borrow the document alone. The only error is `OutOfMemory`.
     ///
     /// ```text
     /// let document = read_document(alloc, b"[1, 2, 3]")?;

@@ -58,9 +58,9 @@ impl CompiledPath {
         }
     }
 
-    /// The values that the path selects in the document, in the path's order, with duplicates. They borrow the document
-    /// alone. Errors: `Path`, with `Parser`'s message, if the text was no path; `OutOfMemory` if memory ran out when
-    /// the text was compiled, or runs out in this call.
+    /// The values that the path selects in the document, in the order in which the path finds them, with duplicates.
+    /// They borrow the document alone. Errors: `Path`, with `Parser`'s message, if the text was no path; `OutOfMemory`
+    /// if memory ran out when the text was compiled, or runs out in this call.
     ///
     /// ```text
     /// let document = read_document(alloc, b"[1, 2, 3]")?;

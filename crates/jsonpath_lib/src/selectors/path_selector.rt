@@ -41,8 +41,8 @@ pub fn selector<'a>(json: &'a Value) -> PathSelector<'a>
 }
 
 impl<'a> PathSelector<'a> {
-    /// The values that the path selects in the document, in the path's order, with duplicates. They borrow the
-    /// document alone. Errors: `Path` exactly if the text is no path, or `OutOfMemory`.
+    /// The values that the path selects in the document, in the order in which the path finds them, with duplicates.
+    /// They borrow the document alone. Errors: `Path` exactly if the text is no path, or `OutOfMemory`.
     ///
     /// ```text
     /// let document = read_document(alloc, b"[1, 2, 3]")?;
@@ -90,9 +90,10 @@ pub fn selector_as<'a, T: DeserializeOwned>(json: &'a Value) -> PathSelectorAs<'
 }
 
 impl<'a, T: DeserializeOwned> PathSelectorAs<'a, T> {
-    /// Deserializes each value that the path selects in the document to a `T`, in the path's order, with duplicates.
-    /// Errors: `Path` exactly if the text is no path; `Serde` if a value contains a number that is neither an `i64` nor
-    /// a `u64`, such as 1.5, even if `T` is `f64`, or if `serde_json` can't make a `T` of it; or `OutOfMemory`.
+    /// Deserializes each value that the path selects in the document to a `T`, in the order in which the path finds the
+    /// values, with duplicates. Errors: `Path` exactly if the text is no path; `Serde` if a value contains a number
+    /// that is neither an `i64` nor a `u64`, such as 1.5, even if `T` is `f64`, or if `serde_json` can't make a `T` of
+    /// it; or `OutOfMemory`.
     ///
     /// ```text
     /// let document = read_document(alloc, b"[1, 2, 3]")?;

@@ -81,7 +81,8 @@ impl fmt::Debug for DocumentFault {
 
 impl Error for DocumentFault {}
 
-/// Keeps only the field `error`, whose message still has the line and column.
+/// Converts the error to its field `error`, a message with the line and column, or `OutOfMemory`; the other fields are
+/// dropped.
 impl From<DocumentFault> for JsonPathError {
     ghost from_gives = { λ fault error. error ≡ fault.error };
 

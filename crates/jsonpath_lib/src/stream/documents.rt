@@ -106,7 +106,8 @@ impl<R: Input> Documents<R> {
     }
 }
 
-/// Returns the next document of the stream, or the error with its line and column.
+/// Returns the next document of the stream, or the error with its line and column; `None` at the end, and after an
+/// error.
 impl<R: Input + Drop> Iterator for Documents<R> {
     ghost use Rattle.std.specs.Iterator.{at_most};
     ghost use Rattle.jsonpath_lib.specs.stream.Documents.{Gives, most_left};

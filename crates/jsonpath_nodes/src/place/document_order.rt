@@ -78,8 +78,8 @@ fn clone_spots<'a>(alloc: Global, spots: &[Spot<'a>]) -> Result<Vec<Spot<'a>>, N
     Ok(same)
 }
 
-/// The indexes, from 0, of the nodes in `spots` whose location is also the location of a node in `others`. The only
-/// error is `NoMemory`.
+/// The indexes, from 0 and ascending, of the nodes in `spots` whose location is also the location of a node in
+/// `others`. The only error is `NoMemory`.
 ///
 /// ```text
 /// let spots = Spot::root(alloc, &document).children(alloc)?;

@@ -132,7 +132,8 @@ impl ValueWalker {
         plain_step_from_each(alloc, spots, &PlainStep::Range(from, to, step))
     }
 
-    /// `..*`: the children of each array and object at or below each of the nodes.
+    /// `..*`: goes through each node and all its descendants, in preorder, and returns the children of each that is an
+    /// array or an object.
     ///
     /// ```text
     /// let found = ValueWalker::all(alloc, &root)?;
@@ -144,7 +145,8 @@ impl ValueWalker {
         plain_step_from_all_below(alloc, spots, &PlainStep::Every)
     }
 
-    /// `..name`: from each node and all its descendants, the member of that name of each object that has one.
+    /// `..name`: goes through each node and all its descendants, in preorder, and returns the member of that name of
+    /// each object that has one.
     ///
     /// ```text
     /// let found = ValueWalker::all_with_str(alloc, &root, "b")?;
@@ -160,7 +162,8 @@ impl ValueWalker {
         plain_step_from_all_below(alloc, spots, &PlainStep::Named(name))
     }
 
-    /// `..[num]`: from each node and all its descendants, the item at that index of each array that has one.
+    /// `..[num]`: goes through each node and all its descendants, in preorder, and returns the item at that index of
+    /// each array that has one.
     ///
     /// ```text
     /// let found = ValueWalker::all_with_num(alloc, &root, 0)?;
@@ -176,7 +179,8 @@ impl ValueWalker {
         plain_step_from_all_below(alloc, spots, &PlainStep::Nth(n))
     }
 
-    /// Each of the nodes and all its descendants, each value before its children.
+    /// Each of the nodes, followed by all its descendants in preorder: each value before its children, items by index,
+    /// members by name.
     ///
     /// ```text
     /// let found = ValueWalker::below(alloc, &root)?;
@@ -211,7 +215,8 @@ impl ValueWalker {
     }
 
     /// The candidates of a filter that comes after `..` and uses a relative query with at least one segment: of the
-    /// descendants of the nodes, those that are not arrays, each once in the whole list.
+    /// descendants of the nodes, those that are not arrays. Each location is returned once, where it first occurs if
+    /// arrays are flattened in the list that `..*` selects.
     ///
     /// ```text
     /// let candidates = ValueWalker::candidates_below(alloc, &root)?;

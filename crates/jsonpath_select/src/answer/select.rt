@@ -23,8 +23,8 @@ use jsonpath_paths::{ParseToken, ParserNode, PathParser};
 use serde_json::Value;
 use std::alloc::Global;
 
-/// The nodes that the path selects in the value, in the path's order, with duplicates. They borrow only the value. The
-/// only error is `OutOfMemory`.
+/// The nodes that the path selects in the value, in the order in which the path finds them, with duplicates. They
+/// borrow only the value. The only error is `OutOfMemory`.
 ///
 /// ```text
 /// let document = read_document(alloc, b"[1, 2, 3]")?;

@@ -68,8 +68,8 @@ pub trait AnyPath {
     fn parts(&self) -> PathParts<'_>
         ensures { ArePartsOf (spelling self.now) result };
 
-    /// The values that the path selects in the document, in the path's order, with duplicates. They borrow the
-    /// document alone. The only error is `OutOfMemory`.
+    /// The values that the path selects in the document, in the order in which the path finds them, with duplicates.
+    /// They borrow the document alone. The only error is `OutOfMemory`.
     ///
     /// ```text
     /// let document = read_document(alloc, b"[1, 2, 3]")?;
@@ -84,8 +84,8 @@ pub trait AnyPath {
         values_by_parts(alloc, value, self.parts())
     }
 
-    /// The nodes that the path selects in the document, each a value with its location, in the path's order, with
-    /// duplicates. They borrow the document alone. The only error is `OutOfMemory`.
+    /// The nodes that the path selects in the document, each a value with its location, in the order in which the path
+    /// finds them, with duplicates. They borrow the document alone. The only error is `OutOfMemory`.
     ///
     /// ```text
     /// let document = read_document(alloc, b"[1, 2, 3]")?;
@@ -105,7 +105,8 @@ pub trait AnyPath {
         spots_by_parts(alloc, value, self.parts())
     }
 
-    /// The locations that the path selects, in the path's order, with duplicates. The only error is `OutOfMemory`.
+    /// The locations that the path selects, in the order in which the path finds them, with duplicates. The only error
+    /// is `OutOfMemory`.
     ///
     /// ```text
     /// let document = read_document(alloc, b"[1, 2, 3]")?;
@@ -139,9 +140,9 @@ pub trait AnyPath {
         list_to_text(alloc, found.as_slice())
     }
 
-    /// Deserializes each selected value to a `T`, in the path's order, with duplicates. Errors: `OutOfMemory`, and
-    /// `Serde` if a value contains a number that is neither an `i64` nor a `u64`, such as 1.5, even if `T` is `f64`, or
-    /// if `serde_json` can't make a `T` of it.
+    /// Deserializes each selected value to a `T`, in the order in which the path finds the values, with duplicates.
+    /// Errors: `OutOfMemory`, and `Serde` if a value contains a number that is neither an `i64` nor a `u64`, such as
+    /// 1.5, even if `T` is `f64`, or if `serde_json` can't make a `T` of it.
     ///
     /// ```text
     /// let document = read_document(alloc, b"[1, 2, 3]")?;
@@ -178,8 +179,8 @@ pub trait AnyPath {
         Ok(found.len())
     }
 
-    /// The first of the values that the path selects, in the path's order, or `None`. It borrows only the document. The
-    /// only error is `OutOfMemory`.
+    /// The first of the values that the path selects, in the order in which the path finds them, or `None`. It borrows
+    /// only the document. The only error is `OutOfMemory`.
     ///
     /// ```text
     /// let document = read_document(alloc, b"[1, 2, 3]")?;

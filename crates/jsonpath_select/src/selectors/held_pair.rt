@@ -103,8 +103,9 @@ impl<P: AnyPath, V: HeldValue> HeldPair<P, V> {
         Ok((path, value))
     }
 
-    /// The locations that the selector's path selects in its value, in the path's order, with duplicates. Errors:
-    /// `EmptyPath` exactly if there is no path, `EmptyValue` exactly if there is a path and no value, or `OutOfMemory`.
+    /// The locations that the selector's path selects in its value, in the order in which the path finds them, with
+    /// duplicates. Errors: `EmptyPath` exactly if there is no path, `EmptyValue` exactly if there is a path and no
+    /// value, or `OutOfMemory`.
     ///
     /// ```text
     /// let document = read_document(alloc, b"[1, 2, 3]")?;
@@ -140,9 +141,10 @@ impl<P: AnyPath, V: HeldValue> HeldPair<P, V> {
         path.select_as_str(alloc, value.lent())
     }
 
-    /// Deserializes each selected value to a `T`, in the path's order, with duplicates. Errors: `EmptyPath` without a
-    /// path, else `EmptyValue` without a value, `OutOfMemory`, or `Serde` if a selected value contains a number that is
-    /// neither an `i64` nor a `u64`, such as 1.5, even if `T` is `f64`, or if `serde_json` can't make a `T` of it.
+    /// Deserializes each selected value to a `T`, in the order in which the path finds the values, with duplicates.
+    /// Errors: `EmptyPath` without a path, else `EmptyValue` without a value, `OutOfMemory`, or `Serde` if a selected
+    /// value contains a number that is neither an `i64` nor a `u64`, such as 1.5, even if `T` is `f64`, or if
+    /// `serde_json` can't make a `T` of it.
     ///
     /// ```text
     /// let document = read_document(alloc, b"[1, 2, 3]")?;

@@ -85,8 +85,8 @@ impl<'a, P: AnyPath> HeldPair<P, &'a Value> {
         path.select_spots(alloc, *value)
     }
 
-    /// The first of the selected values, in the order in which the path's steps find them, or `None`. It borrows only
-    /// the searched value. Errors: `EmptyPath` if there is no path, else `EmptyValue` if there is no value, else
+    /// The first of the selected values, in the order in which the path finds them, or `None`. It borrows only the
+    /// searched value. Errors: `EmptyPath` if there is no path, else `EmptyValue` if there is no value, else
     /// `OutOfMemory`.
     ///
     /// ```text

@@ -45,8 +45,9 @@ impl<P: AnyPath> HeldPair<P, Value> {
         self.value.take()
     }
 
-    /// The values that the path selects in the document, in the path's order, with duplicates. Errors: `EmptyPath`
-    /// exactly if there is no path, `EmptyValue` exactly if there is a path and no document, or `OutOfMemory`.
+    /// The values that the path selects in the document, in the order in which the path finds them, with duplicates.
+    /// Errors: `EmptyPath` exactly if there is no path, `EmptyValue` exactly if there is a path and no document, or
+    /// `OutOfMemory`.
     ///
     /// ```text
     /// let mut held = SelectorMut::new();
@@ -63,8 +64,9 @@ impl<P: AnyPath> HeldPair<P, Value> {
         path.select(alloc, value)
     }
 
-    /// The nodes (values with locations) that the path selects in the document, in the path's order, with duplicates.
-    /// Errors: `EmptyPath` if there is no path, else `EmptyValue` if there is no document, else `OutOfMemory`.
+    /// The nodes (values with locations) that the path selects in the document, in the order in which the path finds
+    /// them, with duplicates. Errors: `EmptyPath` if there is no path, else `EmptyValue` if there is no document, else
+    /// `OutOfMemory`.
     ///
     /// ```text
     /// let mut held = SelectorMut::new();
@@ -82,7 +84,8 @@ impl<P: AnyPath> HeldPair<P, Value> {
         path.select_spots(alloc, value)
     }
 
-    /// The first selected value, if any. Errors: `EmptyPath` (no path), `EmptyValue` (no document), `OutOfMemory`.
+    /// The first selected value, in the order in which the path finds them, or `None`. Errors: `EmptyPath` (no path),
+    /// `EmptyValue` (no document), `OutOfMemory`.
     ///
     /// ```text
     /// let mut held = SelectorMut::new();
