@@ -27,11 +27,19 @@ const FORMS: [Flag; 9] = [
     (
         Some('l'),
         "locations",
-        "The place of each match in place of its value",
+        "The location of each match, as a path, in place of its value",
     ),
-    (Some('L'), "with-locations", "The place, a tab, the value"),
+    (
+        Some('L'),
+        "with-locations",
+        "The location, a tab, the value",
+    ),
     (Some('c'), "count", "The number of matches in each FILE"),
-    (Some('q'), "quiet", "Nothing; the status tells"),
+    (
+        Some('q'),
+        "quiet",
+        "Nothing: the exit status says whether there is a match",
+    ),
     (
         Some('H'),
         "with-filename",
@@ -40,29 +48,37 @@ const FORMS: [Flag; 9] = [
     (
         Some('k'),
         "keep-going",
-        "Documents that cannot be read are told and passed over",
+        "Reports documents that cannot be read and skips them",
     ),
 ];
 
 // About tables, and the paths alone.
 const OTHERS: [Flag; 4] = [
-    (None, "csv", "Fields of rows set apart by commas"),
-    (None, "tsv", "Fields of rows set apart by tabs"),
+    (None, "csv", "Fields of rows separated by commas"),
+    (None, "tsv", "Fields of rows separated by tabs"),
     (
         None,
         "header",
         "The columns' names first; -e NAME=PATH gives one",
     ),
-    (None, "check", "The paths alone: nothing is read or written"),
+    (
+        None,
+        "check",
+        "Checks the paths alone: nothing is read or written",
+    ),
 ];
 
 // Where an edited document goes.
 const IN_PLACE: [Flag; 2] = [
-    (Some('i'), "in-place", "The edited document goes into FILE"),
+    (
+        Some('i'),
+        "in-place",
+        "Writes the edited document back into FILE",
+    ),
     (
         None,
         "copy",
-        "With -i: it is copied into FILE, and no new file takes its place",
+        "With -i: writes it into FILE itself, which keeps ACLs",
     ),
 ];
 
@@ -74,15 +90,19 @@ const EDITS: [EditOption; 4] = [
     (
         "set",
         &PATH_AND_JSON,
-        "The value of JSON at each place that PATH selects",
+        "The value of JSON in place of each value that PATH selects",
     ),
     (
         "set-text",
         &PATH_AND_TEXT,
-        "TEXT at each place that PATH selects",
+        "TEXT in place of each value that PATH selects",
     ),
-    ("null", &PATH, "Null at each place that PATH selects"),
-    ("remove", &PATH, "Nothing at each place that PATH selects"),
+    (
+        "null",
+        &PATH,
+        "Null in place of each value that PATH selects",
+    ),
+    ("remove", &PATH, "Removes each value that PATH selects"),
 ];
 
 /// An edit option of the command line, with its arguments.

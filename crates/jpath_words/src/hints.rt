@@ -17,7 +17,7 @@ const NO_MATCH: &str =
 
 const NO_FUNCTION: &str = "there are no functions in a path; jpath -c counts the matches";
 
-const NO_SUM: &str = "a path computes nothing: a number stands as it is written";
+const NO_SUM: &str = "a path computes nothing: write the number itself";
 
 const NO_BACKWARDS: &str = "a range has no negative step: it never runs backwards";
 
@@ -27,7 +27,7 @@ const NO_SUCH_INDEX: &str = "an index is a whole number of 64 bits";
 
 const NOT_CLOSED: &str = "the quoted text isn't closed";
 
-const PARENTHESES: &str = "a filter's condition stands in parentheses: [?(@.price < 10)]";
+const PARENTHESES: &str = "a filter's condition is written in parentheses: [?(@.price < 10)]";
 
 // What is written instead of a wrong text, and why.
 const REPLACEMENTS: [(&str, &str, &str); 12] = [
@@ -45,8 +45,8 @@ const REPLACEMENTS: [(&str, &str, &str); 12] = [
         "an index below zero counts from the end",
     ),
     ("(", "?(", "a filter has ? before its parentheses"),
-    (" ", "", "no blank may stand here"),
-    ("$", "$.", "a dot stands between $ and a name"),
+    (" ", "", "no blank is allowed here"),
+    ("$", "$.", "a dot comes between $ and a name"),
 ];
 
 /// A sentence on what to write instead of a path text with a syntax error, or an empty text if no hint is known; `at`
@@ -86,13 +86,13 @@ fn hint_with_path(
     }
     let front = before.trim_end();
     if front.len() < before.len() {
-        return hint_if_path(alloc, "no blank may stand here", front, "", rest);
+        return hint_if_path(alloc, "no blank is allowed here", front, "", rest);
     }
     match path_with_parentheses(alloc, path)? {
         Some(fixed) => {
             hint_if_path(
                 alloc,
-                "a filter's condition stands in parentheses",
+                "a filter's condition is written in parentheses",
                 fixed.as_str(),
                 "",
                 "",
@@ -142,7 +142,7 @@ fn hint_to_quote_names(
     quoted.push(']')?;
     hint_if_path(
         alloc,
-        "a name in brackets stands in quotes",
+        "a name in brackets needs quotes",
         before,
         quoted.as_str(),
         tail,
@@ -287,7 +287,7 @@ fn sentence_at_quote(before: &str, rest: &str) -> Option<&'static str> {
         return Some(NO_MIXTURE);
     }
     if before.ends_with('.') {
-        return Some("a quoted name stands in brackets: ['a'] in place of .'a'");
+        return Some("a quoted name needs brackets: ['a'], not .'a'");
     }
     None
 }
@@ -297,7 +297,7 @@ fn sentence_at_quote(before: &str, rest: &str) -> Option<&'static str> {
 pub(crate) fn warn_of_mixed_connectives(rt: &(impl Eprint + Alloc<A = Global>), path: &str) {
     if let Ok(true) = has_mixed_connectives(rt.alloc(), path) {
         let _ = eprintln!(rt;
-            "jpath: warning: && and || have one rank here and group to the right: set parentheses in {path}"
+            "jpath: warning: && and || have the same precedence here and group to the right: set parentheses in {path}"
         );
     }
 }

@@ -36,7 +36,7 @@ fn refused_path_text(alloc: Global, path: &str, error: &TokenError) -> Result<St
     let at = refused_position(alloc, path, error);
     let before = path.get(..at).unwrap_or(path);
     let what = if at < path.len() {
-        "is refused here"
+        "has an error here"
     } else {
         "ends too early"
     };

@@ -16,7 +16,7 @@ pub(crate) fn words_fault(words: &Words<'_>) -> Option<&'static str> {
         || flags.count
         || flags.with_filename;
     if has_edits && (words.rows.is_some() || !words.paths.is_empty()) {
-        return Some("edits stand alone: leave -e and --rows out");
+        return Some("an edit takes no other path: leave -e and --rows out");
     }
     if has_edits
         && (flags.count
@@ -35,7 +35,7 @@ pub(crate) fn words_fault(words: &Words<'_>) -> Option<&'static str> {
         return Some("-q writes nothing: leave it or the other form of output out");
     }
     if flags.locations && (flags.with_locations || flags.array || flags.count) {
-        return Some("-l writes places alone: leave it, or -L, -a and -c, out");
+        return Some("-l writes locations alone: leave it, or -L, -a and -c, out");
     }
     if flags.with_locations && (flags.array || flags.count) {
         return Some("-L writes a line for each match: leave it, or -a and -c, out");
