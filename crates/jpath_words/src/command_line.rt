@@ -203,7 +203,7 @@ fn clap_command<'a>(alloc: Global) -> Result<Command<'a>, AllocError> {
     let arguments = clap_arguments(alloc)?;
     Command::new(alloc, "jpath")
         .version("0.1.0")
-        .about("Values of JSON documents at JSONPaths: jpath [OPTIONS] PATH [FILE..]")
+        .about("Selects values of JSON documents by JSONPath: jpath [OPTIONS] PATH [FILE..]")
         .args(arguments)
 }
 
