@@ -28,9 +28,9 @@ impl<W: Output> HeldOutput<W> {
         }
     }
 
-    /// Appends a text to the output buffer: all of it, or nothing if memory runs out. If the buffer is empty, it is
-    /// swapped with `text` and no byte is copied; else `text` keeps its bytes. So the caller has to clear `text` before
-    /// reusing it.
+    /// Appends a text to the output buffer: all of it, or nothing if memory runs out. If the buffer is empty, the two
+    /// are swapped and no byte is copied; else `text` keeps its bytes. So the caller has to clear `text` before reusing
+    /// it.
     pub fn hold_text(&mut self, text: &mut Vec<u8>) -> Result<(), AllocError>
         ensures ok { OnOk result (W.written self.new.writer ++ self.new.bytes.items ≡ (W.written self.old.writer ++ self.old.bytes.items) ++ text.old.items) }
         ensures err { OnErr result (W.written self.new.writer ++ self.new.bytes.items ≡ W.written self.old.writer ++ self.old.bytes.items) }

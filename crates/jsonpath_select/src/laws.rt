@@ -12,7 +12,7 @@ use jsonpath_paths::laws::{
     connective_joins_conditions, longest_front, one_tree_per_text, word_is_first_token,
 };
 
-/// Lemma: a path text always selects the same list in a document, whichever selector is used.
+/// Lemma: a path text always selects the same list in a document, whichever type of selector is used.
 ///
 /// ```text
 /// laws::one_selection_per_text();
@@ -131,9 +131,9 @@ pub fn each_location_has_a_value()
     all_locations_stand_below_root();
 }
 
-/// Lemma: in a filter, a path from the root (`$`) does not depend on the candidate. So if a side of a comparison is
-/// such a path, it has the same values at every candidate, and a condition whose paths all begin at the root holds at
-/// all candidates or at none. Both need to be computed only once.
+/// Lemma: in a filter, a path from the root (`$`) does not depend on the candidate, which is the value that the filter
+/// tests. So if a side of a comparison is such a path, it has the same values at every candidate, and a condition whose
+/// paths all begin at the root holds at all candidates or at none. Both need to be computed only once.
 ///
 /// ```text
 /// laws::rooted_is_same_for_all_candidates();

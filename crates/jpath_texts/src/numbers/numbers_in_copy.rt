@@ -87,9 +87,9 @@ impl Numbers {
         }
     }
 
-    /// The token list of a path, with each number that a filter compares replaced as the numbers of the document's copy
-    /// are: `Scaled` multiplies it by the power of ten, `Ranked` replaces it by the index of its key in the list of
-    /// keys, each other variant keeps it.
+    /// The token list of a path, with each number that a filter compares replaced in the way that `self` says for the
+    /// numbers of a document: `Scaled` multiplies it by the power of ten, `Ranked` replaces it by the index of its key
+    /// in the list of keys, each other variant keeps it.
     pub fn tokens_with_literals_placed(
         &self,
         alloc: Global,

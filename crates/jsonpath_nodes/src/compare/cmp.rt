@@ -186,7 +186,8 @@ fn is_satisfied_by_order(op: FilterToken, order: Ordering) -> bool
     }
 }
 
-/// Whether two atoms satisfy a comparison. `op` must be one of the six comparisons, so neither `And` nor `Or`.
+/// Whether two atoms (each what a comparison uses of a value) satisfy a comparison. `op` must be one of the six
+/// comparisons, so neither `And` nor `Or`.
 ///
 /// Booleans, numbers and texts compare within their kind: false before true, numbers exactly, texts by their bytes. Two
 /// nulls satisfy `==` alone, and every other pair satisfies `!=` alone.

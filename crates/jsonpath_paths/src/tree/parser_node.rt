@@ -52,7 +52,7 @@ pub struct ParserStep {
 pub enum Inner {
     /// A step without a condition: one token for its names, its indexes, its slice, or all children.
     Token(ParseToken),
-    /// A filter: the step selects the candidates that meet this condition.
+    /// A filter: of the values that it tests, its candidates, the step selects those that meet this condition.
     Filter(Condition),
 }
 

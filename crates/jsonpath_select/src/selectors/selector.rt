@@ -13,8 +13,9 @@ use crate::selectors::walked_path::{OfNode, WalkedPath};
 use serde_json::Value;
 use std::alloc::Global;
 
-/// A selector with a compiled path, set as a path text or a `Node`, and a borrowed value to search. Both are optional;
-/// each is the one set last, by whichever call. A select call changes neither, successful or not, and stores no answer.
+/// A selector with a compiled path, set as a path text or as a `Node` (a path that is compiled already), and a borrowed
+/// value to search. Both are optional; each is the one set last, by whichever call. A select call changes neither,
+/// successful or not, and stores no answer.
 ///
 /// ```text
 /// let document = read_document(alloc, b"[1, 2, 3]")?;

@@ -54,7 +54,8 @@ impl<'b> AnyPath for WalkedPath<'b> {
     }
 }
 
-/// A type of compiled path that can be made of a `Node`. A selector whose path has such a type can compile path texts.
+/// A type of compiled path that can be made from a `Node`, the compiled path that owns its text. A selector whose path
+/// has such a type can compile path texts.
 ///
 /// ```text
 /// let path: WalkedPath<'_> = OfNode::of_node(Parser::compile(alloc, "$.a")?);
