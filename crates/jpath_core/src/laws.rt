@@ -10,7 +10,8 @@ ghost use Rattle.jpath_core.specs.Renumbered.{OrderOfNumbersDecides};
 pub use jpath_texts::laws::{copies_keep_order, one_number_one_key};
 
 /// Lemma: the exact tree of a JSON text, which keeps numbers as written, and its image, the `serde_json` value of the
-/// text, have values at the same locations. The image of the tree's value at a location is the image's value there.
+/// text, have values at the same locations. At each location, the value in the image is the image of the value in the
+/// exact tree.
 pub fn image_has_same_locations()
     ensures { (l : Location) (exact : Json) (document : Data) → IsImageOf exact document → ImageStandsAt exact document l }
 {}

@@ -21,7 +21,7 @@ ghost use Rattle.jsonpath_paths.specs.declared.token.tokens.Token.{Token};
 ghost use Rattle.jsonpath_paths.specs.declared.token.tokens.TokenError.{TokenError};
 
 /// Lemma: the first token of a text is the longest prefix of the text that is a token, and it has one kind alone. If
-/// there is none, no prefix is a token. A text has at most one first token, and at most one position after it.
+/// there is none, no prefix is a token. A text has at most one first token, and this ends at one position alone.
 ///
 /// ```text
 /// laws::longest_front();
