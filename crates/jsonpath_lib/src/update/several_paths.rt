@@ -33,7 +33,7 @@ use std::fmt;
 /// ```
 #[derive(Drop)]
 pub struct MaskFault {
-    /// The index, from 0, of the first path text that is no path; `None` for out of memory.
+    /// The index, from 0, of the first of the path texts that has a syntax error; `None` if memory ran out.
     pub index: Option<usize>,
     /// `Path`, with a message, for the first text that is no path; or `OutOfMemory`.
     pub fault: JsonPathError,

@@ -215,8 +215,8 @@ impl ValueWalker {
     }
 
     /// The candidates of a filter that comes after `..` and uses a relative query with at least one segment: of the
-    /// descendants of the nodes, those that are not arrays. Each location is returned once, where it first occurs if
-    /// arrays are flattened in the list that `..*` selects.
+    /// descendants of the nodes, those that are not arrays. They are found by flattening the arrays in the list that
+    /// `..*` selects; each location is returned once, at its first occurrence.
     ///
     /// ```text
     /// let candidates = ValueWalker::candidates_below(alloc, &root)?;
