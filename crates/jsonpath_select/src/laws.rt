@@ -6,7 +6,8 @@ ghost use Rattle.jsonpath_select.specs.SetMeaning.{SelectsOneSet, SelectsOneOrde
 ghost use Rattle.jsonpath_select.specs.Rooted.{RootedTermIsFixed, RootedHoldsAlike, RootedKeepsAllOrNone};
 
 use jsonpath_nodes::laws::{
-    all_locations_stand_below_root, equal_locations_are_same, steps_ignore_order_and_repeats,
+    apart_locations_meet_candidates_once, equal_locations_are_same, steps_ignore_order_and_repeats,
+    steps_lead_without_repeats,
 };
 use jsonpath_paths::laws::{
     connective_joins_conditions, longest_front, one_tree_per_text, word_is_first_token,
@@ -33,7 +34,8 @@ pub fn one_selection_per_text()
 pub fn paths_without_repeats_select_once()
     ensures { SelectsOnce }
 {
-    equal_locations_are_same();
+    steps_lead_without_repeats();
+    apart_locations_meet_candidates_once();
 }
 
 /// Lemma: two paths that differ only in the order of the sides of `&&` and `||` select the same list in any document.
@@ -127,9 +129,7 @@ pub fn refused_for_memory_alone()
 /// ```
 pub fn each_location_has_a_value()
     ensures { AnswersEach }
-{
-    all_locations_stand_below_root();
-}
+{}
 
 /// Lemma: in a filter, a path from the root (`$`) does not depend on the candidate, which is the value that the filter
 /// tests. So if a side of a comparison is such a path, it has the same values at every candidate, and a condition whose

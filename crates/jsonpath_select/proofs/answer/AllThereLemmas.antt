@@ -6,18 +6,16 @@ use Rattle.std.proofs.lemmas.Bool.{and_from, and_parts}
 use Rattle.std.proofs.lemmas.List.Folds.{list_all-append}
 use Rattle.jsonpath_nodes.specs.document.Document.{Document, array, object, Items, no_items, item, Members, no_members, member}
 use Rattle.jsonpath_nodes.specs.place.Location.{Step, name, index, Location, child, at, flat, flat_items, is_same, children, names, indexes_from}
-use Rattle.jsonpath_nodes.specs.place.Order.{IsOrderedDocument}
 use Rattle.jsonpath_nodes.specs.document.Find.{items_len, get_item, get_member}
 use Rattle.std.proofs.Common.{Ordering, Less, Equal, Greater, nat_cmp}
 use Rattle.std.specs.Ordering.{match_ordering}
 use Rattle.std.specs.Cmp.Lexicographic.{slice_cmp}
 use Rattle.std.proofs.lemmas.Cmp.{nat_list_cmp_total, tied_itself}
 use Rattle.jsonpath_nodes.specs.step.Steps.{Plain, every, named, listed, nth, union, range, selected, single_steps, step, all_below, present, nth_of, abs_index, length_of, count_up, from, from_each, each_once_after, flattened}
-use Rattle.jsonpath_paths.specs.tree.Tree.{Path, path, PathSteps, no_steps, step_then, Inner, plain, filter as with_filter}
+use Rattle.jsonpath_paths.specs.tree.Tree.{path, PathSteps, no_steps, step_then, Inner, plain, filter as with_filter}
 use Rattle.jsonpath_select.specs.SelectionLaws.{AnswersEach}
 use Rattle.jsonpath_select.specs.Parts.{plain_of}
-use Rattle.jsonpath_nodes.specs.DocumentLaws.{BelowIsAll}
-use Rattle.jsonpath_select.specs.Meaning.{sel, follow, inner_on, has_own_step, holds}
+use Rattle.jsonpath_select.specs.Meaning.{follow, inner_on, has_own_step, holds}
 
 module _ {X : Type 0} (P : X → Bool) where
   all_both : (xs ys : List X) → list_all P xs ≡ true → list_all P ys ≡ true → list_all P (xs ++ ys) ≡ true
@@ -41,7 +39,7 @@ is_there doc l = is_some (at doc l)
 pub all_there : Document → List Location → Bool
 all_there doc ls = list_all (is_there doc) ls
 
-at_more : (l m : Location) (d : Document) → at d (l ++ m) ≡ option_and_then (λ c. at c m) (at d l)
+pub at_more : (l m : Location) (d : Document) → at d (l ++ m) ≡ option_and_then (λ c. at c m) (at d l)
 at_more [] m d = refl
 at_more (s ∷ l) m d = by_child (child s d) (at_more l m)
   where
@@ -203,26 +201,22 @@ flat_each_there doc ls = from_each_there doc flat (λ d l e. flat_there d) ls
 
 -- ---- a path
 
-module _ (all_locations_stand_below_root : BelowIsAll) where
-  module _ (text : List ℕ) (doc : Document) (docs : IsOrderedDocument doc) where
-    inner_there : (inner : Inner) (leaves : Bool) (ls : List Location) → all_there doc ls ≡ true → all_there doc (inner_on text doc inner leaves ls) ≡ true
-    unfolding all_there
-    inner_there (plain token) leaves ls h = step_there doc (plain_of text token) (cond leaves (all_below doc ls) ls)
-    inner_there (with_filter f) leaves ls h = all_filter (is_there doc) (λ c. holds text doc f c) _ (by_kind (has_own_step f) leaves)
-      where
-        by_kind : (own leaves : Bool) → all_there doc (cond own (flattened doc (cond leaves (step doc every (all_below doc ls)) ls)) (cond leaves (step doc every (all_below doc ls)) ls)) ≡ true
-        by_kind true leaves = once_there doc [] _ (flat_each_there doc _)
-        by_kind false true = step_there doc every _
-        by_kind false false = h
+module _ (text : List ℕ) (doc : Document) where
+  inner_there : (inner : Inner) (leaves : Bool) (ls : List Location) → all_there doc ls ≡ true → all_there doc (inner_on text doc inner leaves ls) ≡ true
+  unfolding all_there
+  inner_there (plain token) leaves ls h = step_there doc (plain_of text token) (cond leaves (all_below doc ls) ls)
+  inner_there (with_filter f) leaves ls h = all_filter (is_there doc) (λ c. holds text doc f c) _ (by_kind (has_own_step f) leaves)
+    where
+      by_kind : (own leaves : Bool) → all_there doc (cond own (flattened doc (cond leaves (step doc every (all_below doc ls)) ls)) (cond leaves (step doc every (all_below doc ls)) ls)) ≡ true
+      by_kind true leaves = once_there doc [] _ (flat_each_there doc _)
+      by_kind false true = step_there doc every _
+      by_kind false false = h
 
-    follow_there : (ss : PathSteps) (ls : List Location) → all_there doc ls ≡ true → all_there doc (follow text doc ss ls) ≡ true
-    follow_there no_steps ls h = h
-    follow_there (step_then leaves bracket inner ss) ls h = follow_there ss _ (inner_there inner leaves ls h)
+  follow_there : (ss : PathSteps) (ls : List Location) → all_there doc ls ≡ true → all_there doc (follow text doc ss ls) ≡ true
+  follow_there no_steps ls h = h
+  follow_there (step_then leaves bracket inner ss) ls h = follow_there ss _ (inner_there inner leaves ls h)
 
-    sel_there : (p : Path) → all_there doc (sel text doc p) ≡ true
-    unfolding all_there is_there
-    sel_there (path true ss) = follow_there ss ([] ∷ []) refl
-    sel_there (path false ss) = follow_there ss ([] ∷ []) refl
-
-pub each_location_has_a_value : BelowIsAll → AnswersEach
-each_location_has_a_value all_locations_stand_below_root text doc p docs = values_each doc (sel text doc p) (sel_there all_locations_stand_below_root text doc docs p)
+pub each_location_has_a_value : AnswersEach
+unfolding all_there is_there
+each_location_has_a_value text doc (path true ss) docs = values_each doc _ (follow_there text doc ss ([] ∷ []) refl)
+each_location_has_a_value text doc (path false ss) docs = values_each doc _ (follow_there text doc ss ([] ∷ []) refl)

@@ -20,7 +20,7 @@ use Rattle.jsonpath_nodes.specs.step.Steps.{named, listed, flattened}
 use Rattle.jsonpath_select.specs.SelectionLaws.{IsReordered, AreReordered, IsReorderedInner, IsReorderedCondition, IsReorderedTerm, LocationsInBothOrders, ValuesInBothOrders}
 use Rattle.jsonpath_select.specs.Meaning.{sel, holds, candidates, has_own_step}
 use Rattle.jsonpath_select.specs.Parts.{name_at, plain_of, literals, joined}
-use Rattle.jsonpath_select.proofs.answer.ReorderedLemmas.{filter_same, joined_swap, same_own, reordered_holds}
+use Rattle.jsonpath_select.proofs.answer.ReorderedLemmas.{joined_swap, same_own, reordered_holds}
 use Rattle.jsonpath_select.proofs.answer.SliceLemmas.{at_boundary}
 
 -- ---- trees that are the same elsewhere
@@ -92,7 +92,7 @@ module _ (source s t : List ℕ) (f g f' g' : Condition) (same : f ≡ g) (first
 same_filter : (s t : List ℕ) (doc : Document) (f g : Condition) → has_own_step f ≡ has_own_step g → ((c : Location) → holds s doc f c ≡ holds t doc g c) → sel s doc (filter_path f) ≡ sel t doc (filter_path g)
 same_filter s t doc f g own hold =
     let base : List Location = [] ∷ [] in
-    filter_same (λ c. holds s doc f c) (λ c. holds t doc g c) (candidates doc f base) hold
+    (λ i. filter (λ c. hold c i) (candidates doc f base))
     ∙ ap (λ (b : Bool). filter (λ c. holds t doc g c) (if b then flattened doc base else base)) own
 
 module _ (one_tree_per_text : (text : List ℕ) (p q : Path) → Spells text p → Spells text q → p ≡ q)

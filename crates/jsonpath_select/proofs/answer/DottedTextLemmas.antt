@@ -1,14 +1,13 @@
 -- Names behind dots are a path that selects just where they lead.
-use Rattle.std.proofs.Common.{◌≡◌, ◌≤◌, ◌<◌, ◌+◌, ℕ, zero, suc, Bool, true, false, not, ◌&&◌, ◌||◌, ◌==◌, List, [], ◌∷◌, ◌++◌, length, drop, map, Option, Some, None, option_and_then, cond, refl, sym, subst, ap, ◌∙◌, arith, append_assoc, append-nil}
-use Rattle.std.specs.Prelude.{⊤, is_some}
+use Rattle.std.proofs.Common.{◌≡◌, ◌≤◌, ◌+◌, ℕ, suc, Bool, true, false, not, ◌&&◌, ◌||◌, ◌==◌, List, [], ◌∷◌, ◌++◌, length, drop, map, Some, None, refl, sym, subst, ap, ◌∙◌, arith}
 use Rattle.std.specs.Char.{is_ascii}
 use Rattle.std.specs.List.{list_all}
 use Rattle.std.specs.Str.{chars, IsUtf8, IsAscii, encode_utf8_all}
 use Rattle.std.proofs.lemmas.Bool.{and_from, and_parts, ltb-true, not-true}
 use Rattle.std.proofs.lemmas.List.Folds.{list_all-append}
-use Rattle.std.proofs.lemmas.Str.{encodes-IsAscii, chars-IsAscii, encodes-append, IsUtf8-from_ascii, scalars-chars}
-use Rattle.std.proofs.lemmas.Str.Ascii.{IsAscii-nil}
-use lib.Utf8.{scalars, encode, encodes}
+use Rattle.std.proofs.lemmas.Str.{encodes-IsAscii, chars-IsAscii, encodes-append, IsUtf8-from_ascii}
+use Rattle.std.proofs.lemmas.Str.Ascii.{IsAscii-nil, IsAscii-cons}
+use lib.Utf8.{encode, encodes}
 use Rattle.jsonpath_nodes.specs.document.Document.{Document}
 use Rattle.jsonpath_paths.specs.Grammar as g
 use Rattle.jsonpath_paths.specs.Grammar.{Lexemes, levels}
@@ -23,30 +22,22 @@ use Rattle.jsonpath_paths.specs.declared.text.str_reader.StrRange.{StrRange}
 use Rattle.jsonpath_paths.specs.declared.token.tokens.Kind.{Kind}
 use Rattle.jsonpath_paths.specs.declared.token.tokens.Kind.TheVariants as kinds
 use Rattle.jsonpath_paths.specs.declared.token.tokens.ParseToken.TheVariants as t
-use Rattle.jsonpath_paths.specs.declared.token.tokens.Lexeme.{Lexeme}
-use Rattle.jsonpath_nodes.specs.place.Location.{name, Location, child, at}
-use Rattle.jsonpath_nodes.specs.step.Steps.{named, step}
+use Rattle.jsonpath_nodes.specs.place.Location.{name}
+use Rattle.jsonpath_nodes.specs.step.Steps.{named}
 use Rattle.jsonpath_select.specs.SelectionLaws.{is_dot_name, behind_dots, dotted, where_it_is, SelectsNames}
-use Rattle.jsonpath_select.specs.Meaning.{sel, follow}
+use Rattle.jsonpath_select.specs.Meaning.{sel}
 use Rattle.jsonpath_select.specs.Parts.{plain_of}
-use Rattle.jsonpath_select.proofs.answer.LocationTextLemmas.{token_is, at_last, name_leads}
+use Rattle.jsonpath_select.proofs.answer.LocationTextLemmas.{token_is, ascii_scalars, Leads, leads_nowhere, leads_on, follow_here, a_mark}
 use Rattle.jsonpath_select.proofs.answer.SliceLemmas.{slice_is}
 
 -- ---- ASCII texts
 
 ascii : (bs : List ℕ) → list_all is_ascii bs ≡ true → IsAscii bs
 ascii [] h = IsAscii-nil
-ascii (c ∷ cs) h = let both = and_parts (is_ascii c) (list_all is_ascii cs) h in by_index (ltb-true c 128 both.0) (ascii cs both.1)
-  where
-    by_index : c < 128 → IsAscii cs → IsAscii (c ∷ cs)
-    by_index low later zero = low
-    by_index low later (suc i) = later i
+ascii (c ∷ cs) h = let both = and_parts (is_ascii c) (list_all is_ascii cs) h in IsAscii-cons c cs (ltb-true c 128 both.0) (ascii cs both.1)
 
 ascii_same : (bs : List ℕ) → list_all is_ascii bs ≡ true → encodes bs ≡ bs
 ascii_same bs h = encodes-IsAscii bs (ascii bs h)
-
-ascii_scalars : (bs : List ℕ) → list_all is_ascii bs ≡ true → scalars bs ≡ true
-ascii_scalars bs h = ap scalars (sym (chars-IsAscii bs (ascii bs h))) ∙ scalars-chars bs (IsUtf8-from_ascii bs (ascii bs h))
 
 -- ---- names behind dots
 
@@ -132,11 +123,6 @@ tokens_of longest none words i ((c ∷ cs) ∷ ks) h =
     (token_is (after_dot i) (c ∷ cs) rest [] kinds.Key _ here (tokens_of longest none words (after_dot i + byte_len (c ∷ cs)) ks both.1))
 
 module _ (text : List ℕ) where
-  -- the names of the tree are these
-  Mean : ℕ → List (List ℕ) → Type 0
-  Mean i [] = ⊤
-  Mean i (k ∷ ks) = (plain_of text (t.Key (span_of_name i k)) ≡ named k) × Mean (after_dot i + byte_len k) ks
-
   -- from this byte on the text is this
   abbrev Here : ℕ → List ℕ → Type 0
   Here i cs = (i ≤ length text) × (drop i text ≡ cs)
@@ -151,60 +137,30 @@ module _ (text : List ℕ) where
       let rest_ok : list_all is_ascii rest ≡ true = dots_ascii ks hs in
       let both_ok : list_all is_ascii (name ++ rest) ≡ true = list_all-append is_ascii name rest ∙ and_from (list_all is_ascii name) (list_all is_ascii rest) name_ok rest_ok in
       let utf8 : (j : ℕ) (xs : List ℕ) → list_all is_ascii xs ≡ true → drop j text ≡ xs → IsUtf8 (drop j text) = λ j xs ok is. subst IsUtf8 (sym is) (IsUtf8-from_ascii xs (ascii xs ok)) in
-      let one = slice_is text i (46 ∷ []) (name ++ rest) here.0 refl (ascii_scalars (name ++ rest) both_ok) (utf8 i (46 ∷ (name ++ rest)) both_ok here.1) (here.1 ∙ ap (λ xs. 46 ∷ xs) (sym (ascii_same (name ++ rest) both_ok))) in
+      let one = slice_is text i (46 ∷ []) (name ++ rest) here.0 refl (ascii_scalars (name ++ rest) (ascii (name ++ rest) both_ok)) (utf8 i (46 ∷ (name ++ rest)) both_ok here.1) (here.1 ∙ ap (λ xs. 46 ∷ xs) (sym (ascii_same (name ++ rest) both_ok))) in
       let later : drop (i + byte_len (46 ∷ [])) text ≡ name ++ rest = one.1 ∙ ascii_same (name ++ rest) both_ok in
-      let two = slice_is text (i + byte_len (46 ∷ [])) name rest one.2 (ascii_scalars name name_ok) (ascii_scalars rest rest_ok) (utf8 (i + byte_len (46 ∷ [])) (name ++ rest) both_ok later) (one.1 ∙ encodes-append name rest) in
+      let two = slice_is text (i + byte_len (46 ∷ [])) name rest one.2 (ascii_scalars name (ascii name name_ok)) (ascii_scalars rest (ascii rest rest_ok)) (utf8 (i + byte_len (46 ∷ [])) (name ++ rest) both_ok later) (one.1 ∙ encodes-append name rest) in
       (two.0, (two.2, two.1 ∙ ascii_same rest rest_ok))
 
   plain_here : (i c : ℕ) (cs : List ℕ) → is_dot_name (c ∷ cs) ≡ true → chars (slice_at text (span_of_name i (c ∷ cs))) ≡ c ∷ cs → plain_of text (t.Key (span_of_name i (c ∷ cs))) ≡ named (c ∷ cs)
   plain_here i c cs h is =
       ap (λ xs. named (encode_utf8_all (name_of xs))) is ∙ ap (λ xs. named (encode_utf8_all xs)) (name_itself c cs h) ∙ ap named (ascii_same (c ∷ cs) (name_ascii c cs h))
 
-  means : (i : ℕ) (ks : List (List ℕ)) → list_all is_dot_name ks ≡ true → Here i (behind_dots ks) → Mean i ks
-  unfolding Mean
-  means i [] h here = tt
+  means : (i : ℕ) (ks : List (List ℕ)) → list_all is_dot_name ks ≡ true → Here i (behind_dots ks) → Leads text (tree_of i ks) (map name ks)
+  unfolding tree_of
+  means i [] h here = leads_nowhere
   means i ([] ∷ ks) h here = cc h
   means i ((c ∷ cs) ∷ ks) h here =
       let both = and_parts (is_dot_name (c ∷ cs)) (list_all is_dot_name ks) h in
       let n = name_here i c cs ks both.0 both.1 here in
-      (plain_here i c cs both.0 n.0, means (after_dot i + byte_len (c ∷ cs)) ks both.1 n.1)
-
-  a_mark : {kind : Kind} {span : StrRange} {rest : Lexemes} → (let front : Lexeme = record { kind = kind; span = span } in g.SpellsPart text (g.mark kind) (front ∷ rest) rest)
-  a_mark {span = span} = g.by (g.a_mark span) (g.next (g.one_token refl) g.end)
+      leads_on (plain_here i c cs both.0 n.0) (means (after_dot i + byte_len (c ∷ cs)) ks both.1 n.1)
 
   spelled_of : (n i : ℕ) (ks : List (List ℕ)) → g.SpellsPart text (g.steps n (tree_of i ks)) (lexemes_of i ks) []
   unfolding tree_of lexemes_of span_of_name
   spelled_of n i [] = g.by g.no_steps g.end
   spelled_of n i (k ∷ ks) =
       let name = g.by g.dot_name (g.next (g.one_token refl) g.end) in
-      g.by g.step_then (g.next (g.by g.dot (g.next a_mark (g.next name g.end))) (g.next (spelled_of n (after_dot i + byte_len k) ks) g.end))
-
-  -- ---- what the tree selects
-
-  module _ (doc : Document) where
-    follow_none : (i : ℕ) (ks : List (List ℕ)) → follow text doc (tree_of i ks) [] ≡ []
-    unfolding tree_of
-    follow_none i [] = refl
-    follow_none i (k ∷ ks) = follow_none (after_dot i + byte_len k) ks
-
-    follow_here : (i : ℕ) (ks : List (List ℕ)) (m : Location) (d : Document) → at doc m ≡ Some d → Mean i ks
-        → follow text doc (tree_of i ks) (m ∷ []) ≡ cond (is_some (at d (map name ks))) ((m ++ map name ks) ∷ []) []
-    unfolding tree_of Mean
-    follow_here i [] m d here meant = ap (λ n. n ∷ []) (sym (append-nil m))
-    follow_here i (k ∷ ks) m d here meant =
-        ap (λ p. follow text doc (tree_of (after_dot i + byte_len k) ks) (step doc p (m ∷ []))) meant.0
-        ∙ ap (follow text doc (tree_of (after_dot i + byte_len k) ks)) (name_leads doc k m d here)
-        ∙ by_child (child (name k) d) refl (λ c there. follow_here (after_dot i + byte_len k) ks (m ++ name k ∷ []) c there meant.1)
-      where
-        by_child : (o : Option Document) → child (name k) d ≡ o
-            → ((c : Document) → at doc (m ++ name k ∷ []) ≡ Some c
-            → follow text doc (tree_of (after_dot i + byte_len k) ks) ((m ++ name k ∷ []) ∷ []) ≡ cond (is_some (at c (map name ks))) (((m ++ name k ∷ []) ++ map name ks) ∷ []) [])
-            → follow text doc (tree_of (after_dot i + byte_len k) ks) (cond (is_some o) ((m ++ name k ∷ []) ∷ []) [])
-            ≡ cond (is_some (option_and_then (λ c. at c (map name ks)) o)) ((m ++ name k ∷ map name ks) ∷ []) []
-        by_child None e later = follow_none (after_dot i + byte_len k) ks
-        by_child (Some c) e later =
-            let there : at doc (m ++ name k ∷ []) ≡ Some c = at_last m (name k) doc ∙ ap (option_and_then (child (name k))) here ∙ e in
-            later c there ∙ ap (λ n. cond (is_some (at c (map name ks))) (n ∷ []) []) (append_assoc m (name k ∷ []) (map name ks))
+      g.by g.step_then (g.next (g.by g.dot (g.next (a_mark text) (g.next name g.end))) (g.next (spelled_of n (after_dot i + byte_len k) ks) g.end))
 
 -- ---- the whole
 
@@ -235,7 +191,7 @@ module _ (ks : List (List ℕ)) (h : list_all is_dot_name ks ≡ true) where
 
   selects_where : (doc : Document) → where_it_is doc (map name ks) ≡ sel (dotted ks) doc (whole_tree ks)
   unfolding whole_tree
-  selects_where doc = sym (follow_here (dotted ks) doc root_end ks [] doc refl (means (dotted ks) root_end ks h behind_root))
+  selects_where doc = sym (follow_here (dotted ks) doc (tree_of root_end ks) (map name ks) [] doc refl (means (dotted ks) root_end ks h behind_root))
 
 pub dotted_names_select_one_location : ((cs : List ℕ) (kind : Kind) (n : ℕ) → first cs ≡ Some (kind, n) → IsFirst cs kind n) → ((cs : List ℕ) → first cs ≡ None → HasNone cs)
     → ((c : ℕ) (cs rest : List ℕ) → begins_none c ≡ false → all_pass goes_on cs ≡ true → ends_word rest ≡ true → IsFirst (c ∷ cs ++ rest) kinds.Key (suc (length cs))) → SelectsNames

@@ -1,6 +1,9 @@
 -- What is told of the data of some values is told of an answer by their documents.
-use Rattle.std.proofs.Common.{◌≡◌, ℕ, List, [], ◌∷◌, map, length, suc, false, Result, Ok, Err, IfOk, IfErr, OnOk, String, Global, string_bytes, Some, sym, ap, ◌∙◌, subst, refl}
+use Rattle.std.proofs.Common.{◌≡◌, ℕ, List, map, length, false, Result, Ok, Err, IfOk, IfErr, OnOk, String, Global, string_bytes, Some, sym, ◌∙◌, subst}
 use Rattle.std.specs.Borrow.{Bor}
+use Rattle.std.proofs.lemmas.List.{length-map}
+use Rattle.std.proofs.lemmas.Result.{IfOk-weaker, IfErr-weaker}
+use mathlib.Core.List.{map-map}
 use Rattle.serde_json.specs.Data.{Data}
 use Rattle.serde_json.specs.View.{view}
 use Rattle.serde_json.specs.declared.value.Value.{Value}
@@ -14,21 +17,12 @@ use Rattle.jsonpath_select.specs.declared.error.JsonPathError.TheVariants.{Empty
 abbrev data_in : List (Bor Value) → List Data
 data_in vs = map (λ v. view v.now) vs
 
-documents_in : (vs : List (Bor Value)) → map (λ v. document_of (view v.now)) vs ≡ map document_of (data_in vs)
-documents_in [] = refl
-documents_in (v ∷ vs) = ap (λ ds. document_of (view v.now) ∷ ds) (documents_in vs)
-
-as_many : (vs : List (Bor Value)) → length (data_in vs) ≡ length vs
-as_many [] = refl
-as_many (v ∷ vs) = ap suc (as_many vs)
-
 module _ (Answers : List Document → Type 0) (vs : List (Bor Value)) (answered : Answers (map (λ v. document_of (view v.now)) vs)) where
   by_data : Answers (map document_of (data_in vs))
-  by_data = subst Answers (documents_in vs) answered
+  by_data = subst Answers (sym (map-map document_of (λ v. view v.now) vs)) answered
 
   pub text_told : (r : Result (String Global) JsonPathError) → IfOk r (λ text. list_text (data_in vs) ≡ Some (string_bytes text)) → IfOk r (λ text. IsTextOfAnswer Answers (string_bytes text))
-  text_told (Ok text) h = (data_in vs, by_data, h)
-  text_told (Err error) h = tt
+  text_told r = IfOk-weaker r _ _ (λ text h. (data_in vs, by_data, h))
 
   text_refusal : (error : JsonPathError) → IsListTextRefused (data_in vs) error → IsTextRefusedOf Answers error
   text_refusal EmptyPath h = h
@@ -38,11 +32,10 @@ module _ (Answers : List Document → Type 0) (vs : List (Bor Value)) (answered 
   text_refusal OutOfMemory h = tt
 
   pub text_refused : {A : Type 0} (r : Result A JsonPathError) → IfErr r (IsListTextRefused (data_in vs)) → IfErr r (IsTextRefusedOf Answers)
-  text_refused (Ok text) h = tt
-  text_refused (Err error) h = text_refusal error h
+  text_refused r = IfErr-weaker r _ _ text_refusal
 
   pub typed_told : {A : Type 0} (size : A → ℕ) (r : Result A JsonPathError) → IfOk r (λ found. size found ≡ length vs) → OnOk r (holds_unread (data_in vs) ≡ false) → IfOk r (λ found. IsTypedCountOf Answers (size found))
-  typed_told size (Ok found) h k = (data_in vs, by_data, h ∙ sym (as_many vs), k)
+  typed_told size (Ok found) h k = (data_in vs, by_data, h ∙ sym (length-map vs (λ v. view v.now)), k)
   typed_told size (Err error) h k = tt
 
   typed_refusal : (error : JsonPathError) → IsTypedRefused (data_in vs) error → IsTypedRefusedOf Answers error
@@ -53,5 +46,4 @@ module _ (Answers : List Document → Type 0) (vs : List (Bor Value)) (answered 
   typed_refusal OutOfMemory h = tt
 
   pub typed_refused : {A : Type 0} (r : Result A JsonPathError) → IfErr r (IsTypedRefused (data_in vs)) → IfErr r (IsTypedRefusedOf Answers)
-  typed_refused (Ok found) h = tt
-  typed_refused (Err error) h = typed_refusal error h
+  typed_refused r = IfErr-weaker r _ _ typed_refusal

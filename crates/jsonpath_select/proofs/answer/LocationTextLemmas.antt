@@ -1,17 +1,17 @@
 -- The text of a location is a path that selects just this location.
 use Rattle.std.proofs.Common.{◌≡◌, ◌≤◌, ◌<◌, ◌+◌, ◌-◌, ◌^◌, ◌==◌, ℕ, zero, suc, pos, min, Bool, true, false, ◌&&◌, ◌||◌, List, [], ◌∷◌, ◌++◌, length, take, drop, map, Option, Some, None, option_and_then, cond, refl, sym, subst, ap, ◌∙◌, arith, leb, ltb, length-append, append-nil, append_assoc}
-use Rattle.std.specs.Prelude.{⊤, option_map, is_some, unwrap_or}
+use Rattle.std.specs.Prelude.{option_map, is_some, unwrap_or}
 use Rattle.std.specs.Char.{is_ascii_digit}
 use Rattle.std.specs.Fmt.{decimal}
 use Rattle.std.specs.List.{prefix_len}
-use Rattle.std.specs.Str.{chars, IsUtf8, encode_utf8_all, all_ascii_digits}
+use Rattle.std.specs.Str.{chars, IsAscii, IsUtf8, encode_utf8_all, all_ascii_digits}
 use Rattle.std.specs.Str.Parse.{digits_value}
 use Rattle.std.proofs.lemmas.Bool.{and_from, and_parts, leb-true, lt-ltb, ltb-true, ltb-false, le-leb}
-use Rattle.std.proofs.lemmas.Fmt.{digits_decimal, digits_value-decimal, decimal_nonempty}
-use Rattle.std.proofs.lemmas.Str.{encodes-chars, chars-encodes, scalars-chars, encodes-append}
+use Rattle.std.proofs.lemmas.Fmt.{IsAscii-decimal, digits_decimal, digits_value-decimal, decimal_nonempty}
+use Rattle.std.proofs.lemmas.Str.{encodes-IsAscii, encodes-chars, chars-IsAscii, chars-encodes, IsUtf8-from_ascii, scalars-chars, encodes-append}
 use Rattle.std.proofs.lemmas.Str.Parse.{IsNumeralModel, numerals_by_value, tells_all_ascii_digits}
 use Rattle.std.proofs.Math.Seq.{drop-append_seam, take-append_seam}
-use lib.Utf8.{scalar, scalars, encode, encodes}
+use lib.Utf8.{scalar, scalars, encodes}
 use Rattle.jsonpath_nodes.specs.document.Document.{Document, null, boolean, number, string, array, object, Items, no_items, item}
 use Rattle.jsonpath_nodes.specs.document.Find.{items_len, get_item}
 use Rattle.jsonpath_paths.specs.Grammar as g
@@ -37,6 +37,7 @@ use Rattle.jsonpath_select.specs.SelectionLaws.{CanBeSpelled, AllCanBeSpelled, w
 use Rattle.jsonpath_select.specs.Meaning.{sel, follow}
 use Rattle.jsonpath_select.specs.Parts.{plain_of, at_index}
 use Rattle.jsonpath_select.proofs.compile.BracketWordLemmas.{whole_index}
+use Rattle.jsonpath_select.proofs.answer.AllThereLemmas.{at_more}
 use Rattle.jsonpath_select.proofs.answer.SliceLemmas.{slice_is}
 
 -- ---- digits
@@ -70,24 +71,11 @@ digit_front : (c : ℕ) (cs : List ℕ) → is_ascii_digit c ≡ true → first 
 unfolding first
 digit_front c cs is = of_digit (λ c. first (c ∷ cs) ≡ Some (k.Key, 1 + prefix_len goes_on cs)) refl refl refl refl refl refl refl refl refl refl c is
 
-digit_scalar : (c : ℕ) → is_ascii_digit c ≡ true → scalar c ≡ true
-digit_scalar c is = of_digit (λ c. scalar c ≡ true) refl refl refl refl refl refl refl refl refl refl c is
-
 digits_on : (ds rest : List ℕ) → all_ascii_digits ds ≡ true → prefix_len goes_on (ds ++ 93 ∷ rest) ≡ length ds
 digits_on [] rest h = refl
 digits_on (d ∷ ds) rest h =
     let both = and_parts (is_ascii_digit d) (all_ascii_digits ds) h in
     rw (digit_goes_on d both.0, digits_on ds rest both.1) (omega arith)
-
-digit_byte : (c : ℕ) → is_ascii_digit c ≡ true → encode c ≡ c ∷ []
-unfolding encode
-digit_byte c is = of_digit (λ c. encode c ≡ c ∷ []) refl refl refl refl refl refl refl refl refl refl c is
-
-digits_scalars : (ds : List ℕ) → all_ascii_digits ds ≡ true → scalars ds ≡ true
-digits_scalars [] h = refl
-digits_scalars (d ∷ ds) h =
-    let both = and_parts (is_ascii_digit d) (all_ascii_digits ds) h in
-    and_from (scalar d) (scalars ds) (digit_scalar d both.0) (digits_scalars ds both.1)
 
 own : IsNumeralModel (λ ds. all_ascii_digits ds ≡ true) (digits_value 10)
 own = numerals_by_value _ tells_all_ascii_digits
@@ -115,6 +103,9 @@ digits_index (d ∷ ds) n some h value small = of_digit Is (one 48) (one 49) (on
         let positive : ltb 0 (suc (length ds)) ≡ true = lt-ltb 0 (suc (length ds)) (omega arith) in
         let least : leb n (2 ^ 63 - 1) ≡ true = le-leb n (2 ^ 63 - 1) (omega arith) in
         rw (positive, h, value, least) refl
+
+pub ascii_scalars : (bs : List ℕ) → IsAscii bs → scalars bs ≡ true
+ascii_scalars bs h = ap scalars (sym (chars-IsAscii bs h)) ∙ scalars-chars bs (IsUtf8-from_ascii bs h)
 
 -- ---- quoted names
 
@@ -197,7 +188,7 @@ word_first (index i) rest h = digits_first (decimal i) rest (decimal_nonempty i 
 word_scalars : (s : Step) → CanBeSpelled s → scalars (word s) ≡ true
 unfolding word inside
 word_scalars (name bs) h = scalars_both (guarded (chars bs)) (39 ∷ []) (guarded_scalars (chars bs) (scalars-chars bs h)) refl
-word_scalars (index i) h = digits_scalars (decimal i) (digits_decimal own i (omega (arith, h)))
+word_scalars (index i) h = ascii_scalars (decimal i) (IsAscii-decimal i (omega (arith, h)))
 
 -- a step and what follows it
 step_word : (s : Step) (rest : List ℕ) → step_chars s ++ rest ≡ 91 ∷ (word s ++ 93 ∷ rest)
@@ -261,30 +252,11 @@ tree_of : ℕ → Location → PathSteps
 tree_of i [] = no_steps
 tree_of i (s ∷ l) = step_then false true (plain (token_of s (span_of_word i s))) (tree_of (behind i s) l)
 
-plain_step : Step → Plain
+abbrev pub plain_step : Step → Plain
 plain_step (name bs) = named bs
 plain_step (index i) = nth (pos i)
 
-digits_bytes : (ds : List ℕ) → all_ascii_digits ds ≡ true → encodes ds ≡ ds
-digits_bytes [] h = refl
-digits_bytes (d ∷ ds) h =
-    let both = and_parts (is_ascii_digit d) (all_ascii_digits ds) h in
-    ap (λ bs. bs ++ encodes ds) (digit_byte d both.0) ∙ ap (λ bs. d ∷ bs) (digits_bytes ds both.1)
-
 -- ---- where one step leads
-
-pub at_last : (m : Location) (s : Step) (d : Document) → at d (m ++ s ∷ []) ≡ option_and_then (child s) (at d m)
-at_last [] s d = by_child (child s d)
-  where
-    by_child : (o : Option Document) → option_and_then (λ c. Some c) o ≡ o
-    by_child None = refl
-    by_child (Some c) = refl
-at_last (t ∷ m) s d = by_child (child t d) (at_last m s)
-  where
-    by_child : (o : Option Document) → ((c : Document) → at c (m ++ s ∷ []) ≡ option_and_then (child s) (at c m))
-        → option_and_then (λ c. at c (m ++ s ∷ [])) o ≡ option_and_then (child s) (option_and_then (λ c. at c m) o)
-    by_child None later = refl
-    by_child (Some c) later = later c
 
 no_item : (i : ℕ) (ds : Items) → items_len ds ≤ i → get_item i ds ≡ None
 no_item i no_items h = refl
@@ -293,7 +265,6 @@ no_item (suc i) (item d ds) h = no_item i ds (omega arith)
 
 -- an index that passes the end leads nowhere, as the end itself does
 selects_step : (s : Step) (d : Document) → selected (plain_step s) d ≡ present d s
-unfolding plain_step
 selects_step (name bs) d = refl
 selects_step (index i) null = refl
 selects_step (index i) (boolean b) = refl
@@ -321,16 +292,37 @@ one_step_leads doc s m d here =
     by_child true = refl
     by_child false = refl
 
-pub name_leads : (doc : Document) (k : List ℕ) (m : Location) (d : Document) → at doc m ≡ Some d → step doc (named k) (m ∷ []) ≡ cond (is_some (child (name k) d)) ((m ++ name k ∷ []) ∷ []) []
-unfolding plain_step
-name_leads doc k m d here = one_step_leads doc (name k) m d here
+-- ---- where steps lead that mean those of a location
 
 module _ (text : List ℕ) where
-  -- the steps of the tree mean those of the location
-  Mean : ℕ → Location → Type 0
-  Mean i [] = ⊤
-  Mean i (s ∷ l) = (plain_of text (token_of s (span_of_word i s)) ≡ plain_step s) × Mean (behind i s) l
+  pub data Leads : PathSteps → Location → Type 0 where
+    leads_nowhere : Leads no_steps []
+    leads_on : {bracket : Bool} {token : ParseToken} {rest : PathSteps} {s : Step} {l : Location} → plain_of text token ≡ plain_step s → Leads rest l
+        → Leads (step_then false bracket (plain token) rest) (s ∷ l)
 
+  module _ (doc : Document) where
+    follow_none : (ss : PathSteps) (l : Location) → Leads ss l → follow text doc ss [] ≡ []
+    follow_none _ _ leads_nowhere = refl
+    follow_none _ _ (leads_on {rest = rest} {l = l} is more) = follow_none rest l more
+
+    pub follow_here : (ss : PathSteps) (l m : Location) (d : Document) → at doc m ≡ Some d → Leads ss l → follow text doc ss (m ∷ []) ≡ cond (is_some (at d l)) ((m ++ l) ∷ []) []
+    follow_here _ _ m d here leads_nowhere = ap (λ n. n ∷ []) (sym (append-nil m))
+    follow_here _ _ m d here (leads_on {rest = rest} {s = s} {l = l} is more) =
+        ap (λ p. follow text doc rest (step doc p (m ∷ []))) is
+        ∙ ap (follow text doc rest) (one_step_leads doc s m d here)
+        ∙ by_child (child s d) refl (λ c there. follow_here rest l (m ++ s ∷ []) c there more)
+      where
+        by_child : (o : Option Document) → child s d ≡ o
+            → ((c : Document) → at doc (m ++ s ∷ []) ≡ Some c → follow text doc rest ((m ++ s ∷ []) ∷ []) ≡ cond (is_some (at c l)) (((m ++ s ∷ []) ++ l) ∷ []) [])
+            → follow text doc rest (cond (is_some o) ((m ++ s ∷ []) ∷ []) []) ≡ cond (is_some (option_and_then (λ c. at c l) o)) ((m ++ s ∷ l) ∷ []) []
+        by_child None e later = follow_none rest l more
+        by_child (Some c) e later =
+            let there : at doc (m ++ s ∷ []) ≡ Some c = at_more m (s ∷ []) doc ∙ ap (option_and_then (λ x. at x (s ∷ []))) here ∙ ap (option_and_then (λ x. Some x)) e in
+            later c there ∙ ap (λ n. cond (is_some (at c l)) (n ∷ []) []) (append_assoc m (s ∷ []) l)
+
+-- ---- what the steps of a text mean
+
+module _ (text : List ℕ) where
   -- from this byte on the text is that of these steps
   abbrev Here : ℕ → List ℕ → Type 0
   Here i cs = (i ≤ length text) × (drop i text ≡ encodes cs)
@@ -358,19 +350,19 @@ module _ (text : List ℕ) where
   index_here : (i n : ℕ) → (s : StrRange) → n < 2 ^ 63 → bytes_at text s ≡ encodes (decimal n) → index_of (bytes_at text s) ≡ Some (pos n)
   index_here i n s small is =
       let digits : all_ascii_digits (decimal n) ≡ true = digits_decimal own n (omega (arith, small)) in
-      ap index_of (is ∙ digits_bytes (decimal n) digits) ∙ digits_index (decimal n) n (decimal_nonempty n (omega (arith, small))) digits (digits_value-decimal own n (omega (arith, small))) small
+      ap index_of (is ∙ encodes-IsAscii (decimal n) (IsAscii-decimal n (omega (arith, small)))) ∙ digits_index (decimal n) n (decimal_nonempty n (omega (arith, small))) digits (digits_value-decimal own n (omega (arith, small))) small
 
   plain_here : (i : ℕ) (s : Step) → CanBeSpelled s → chars (slice_at text (span_of_word i s)) ≡ word s → plain_of text (token_of s (span_of_word i s)) ≡ plain_step s
-  unfolding token_of plain_step word
+  unfolding token_of word
   plain_here i (name bs) h is = ap (λ cs. named (encode_utf8_all (name_of cs))) is ∙ ap (λ cs. named (encode_utf8_all cs)) (name_inside (chars bs)) ∙ ap named (encodes-chars bs h)
   plain_here i (index n) h is = ap at_index (whole_index n h)
 
-  means : (i : ℕ) (l : Location) → AllCanBeSpelled l → Here i (steps_chars l) → Mean i l
-  unfolding Mean
-  means i [] h here = tt
-  means i (s ∷ l) h here = let w = word_here i s l h.0 h.1 here in (plain_here i s h.0 w.0, means (behind i s) l h.1 w.2)
+  means : (i : ℕ) (l : Location) → AllCanBeSpelled l → Here i (steps_chars l) → Leads text (tree_of i l) l
+  unfolding tree_of
+  means i [] h here = leads_nowhere
+  means i (s ∷ l) h here = let w = word_here i s l h.0 h.1 here in leads_on (plain_here i s h.0 w.0) (means (behind i s) l h.1 w.2)
 
-  a_mark : {kind : Kind} {span : StrRange} {rest : Lexemes} → (let front : Lexeme = record { kind = kind; span = span } in g.SpellsPart text (g.mark kind) (front ∷ rest) rest)
+  pub a_mark : {kind : Kind} {span : StrRange} {rest : Lexemes} → (let front : Lexeme = record { kind = kind; span = span } in g.SpellsPart text (g.mark kind) (front ∷ rest) rest)
   a_mark {span = span} = g.by (g.a_mark span) (g.next (g.one_token refl) g.end)
 
   no_blanks : {ts : Lexemes} → g.SpellsPart text g.blanks ts ts
@@ -392,30 +384,6 @@ module _ (text : List ℕ) where
       let inside : g.SpellsPart text (g.inner n (plain (token_of s (span_of_word i s)))) _ close = g.by g.in_plain (g.next (in_brackets i s close h.0 w.1) g.end) in
       let first = g.by g.bracket (g.next a_mark (g.next no_blanks (g.next inside (g.next no_blanks (g.next a_mark g.end))))) in
       g.by g.step_then (g.next first (g.next (spelled_of n (behind i s) l h.1 w.2) g.end))
-
-  -- ---- what the tree selects
-
-  module _ (doc : Document) where
-    follow_none : (i : ℕ) (l : Location) → follow text doc (tree_of i l) [] ≡ []
-    unfolding tree_of
-    follow_none i [] = refl
-    follow_none i (s ∷ l) = follow_none (behind i s) l
-
-    follow_here : (i : ℕ) (l m : Location) (d : Document) → at doc m ≡ Some d → Mean i l → follow text doc (tree_of i l) (m ∷ []) ≡ cond (is_some (at d l)) ((m ++ l) ∷ []) []
-    unfolding tree_of Mean
-    follow_here i [] m d here meant = ap (λ n. n ∷ []) (sym (append-nil m))
-    follow_here i (s ∷ l) m d here meant =
-        ap (λ p. follow text doc (tree_of (behind i s) l) (step doc p (m ∷ []))) meant.0
-        ∙ ap (follow text doc (tree_of (behind i s) l)) (one_step_leads doc s m d here)
-        ∙ by_child (child s d) refl (λ c there. follow_here (behind i s) l (m ++ s ∷ []) c there meant.1)
-      where
-        by_child : (o : Option Document) → child s d ≡ o
-            → ((c : Document) → at doc (m ++ s ∷ []) ≡ Some c → follow text doc (tree_of (behind i s) l) ((m ++ s ∷ []) ∷ []) ≡ cond (is_some (at c l)) (((m ++ s ∷ []) ++ l) ∷ []) [])
-            → follow text doc (tree_of (behind i s) l) (cond (is_some o) ((m ++ s ∷ []) ∷ []) []) ≡ cond (is_some (option_and_then (λ c. at c l) o)) ((m ++ s ∷ l) ∷ []) []
-        by_child None e later = follow_none (behind i s) l
-        by_child (Some c) e later =
-            let there : at doc (m ++ s ∷ []) ≡ Some c = at_last m s doc ∙ ap (option_and_then (child s)) here ∙ e in
-            later c there ∙ ap (λ n. cond (is_some (at c l)) (n ∷ []) []) (append_assoc m (s ∷ []) l)
 
 -- ---- the whole
 
@@ -456,7 +424,7 @@ module _ (l : Location) (h : AllCanBeSpelled l) where
 
   selects_where : (doc : Document) → where_it_is doc l ≡ sel (location_text l) doc (whole_tree l)
   unfolding whole_tree
-  selects_where doc = sym (follow_here (location_text l) doc root_end l [] doc refl (means (location_text l) root_end l h behind_root))
+  selects_where doc = sym (follow_here (location_text l) doc (tree_of root_end l) l [] doc refl (means (location_text l) root_end l h behind_root))
 
 pub location_text_selects_itself : ((cs : List ℕ) (kind : Kind) (n : ℕ) → first cs ≡ Some (kind, n) → IsFirst cs kind n) → ((cs : List ℕ) → first cs ≡ None → HasNone cs) → SelectsItself
 location_text_selects_itself longest none doc l h = record { path = whole_tree l; spelled = spells_itself l h longest none; holds = selects_where l h doc }

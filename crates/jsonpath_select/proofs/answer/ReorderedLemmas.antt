@@ -1,5 +1,5 @@
 -- Paths that differ in the order of the sides of connectives alone select the same list.
-use Rattle.std.proofs.Common.{◌≡◌, ℕ, Bool, ◌&&◌, ◌||◌, not, cond, List, [], ◌∷◌, inl, inr, refl, ap, ap₂, ◌∙◌}
+use Rattle.std.proofs.Common.{◌≡◌, ℕ, Bool, ◌&&◌, ◌||◌, not, List, [], ◌∷◌, inl, inr, refl, ap, ap₂, ◌∙◌}
 use Rattle.std.proofs.Math.Bool.{and_comm, or_comm}
 use Rattle.std.specs.Prelude.{filter, if◌then◌else◌}
 use Rattle.jsonpath_nodes.specs.document.Document.{Document}
@@ -17,10 +17,6 @@ pub joined_swap : (o : FilterToken) (a b : Bool) → joined o a b ≡ joined o b
 joined_swap op.And a b = and_comm a b
 joined_swap op.Or a b = or_comm a b
 joined_swap _ a b = refl
-
-pub filter_same : (p q : Location → Bool) (ls : List Location) → ((l : Location) → p l ≡ q l) → filter p ls ≡ filter q ls
-filter_same p q [] h = refl
-filter_same p q (l ∷ ls) h = ap₂ (λ (b : Bool) (ms : List Location). cond b (l ∷ ms) ms) (h l) (filter_same p q ls h)
 
 -- ---- the candidates
 
@@ -70,7 +66,7 @@ module _ (s t : List ℕ) (doc : Document) where
     reordered_inner (tree.filter f) (plain token') h leaves ls = absurd h
     reordered_inner (tree.filter f) (tree.filter f') h leaves ls =
         let base : List Location = if leaves then step doc every (all_below doc ls) else ls in
-        filter_same (λ c. holds s doc f c) (λ c. holds t doc f' c) (candidates doc f base) (reordered_holds f f' h)
+        (λ i. filter (λ c. reordered_holds f f' h c i) (candidates doc f base))
         ∙ ap (λ (b : Bool). filter (λ c. holds t doc f' c) (if b then flattened doc base else base)) (same_own s t f f' h)
 
     pub reordered_holds : (f f' : Condition) → IsReorderedCondition s t f f' → (c : Location) → holds s doc f c ≡ holds t doc f' c

@@ -1,6 +1,7 @@
 -- What begins at the root is the same at every candidate.
-use Rattle.std.proofs.Common.{◌≡◌, ℕ, List, [], ◌∷◌, Bool, true, false, cond, ◌&&◌, refl, ap, ap₂, ◌∙◌}
+use Rattle.std.proofs.Common.{◌≡◌, ℕ, List, [], ◌∷◌, Bool, true, false, cond, refl, ap, ap₂, ◌∙◌}
 use Rattle.std.specs.Prelude.{filter, IsTrue}
+use Rattle.std.proofs.lemmas.Bool.{and_parts}
 use Rattle.jsonpath_nodes.specs.document.Document.{Document}
 use Rattle.jsonpath_paths.specs.tree.Tree.{Path, path, lone, compare, join, Term, at_path, literal}
 use Rattle.jsonpath_nodes.specs.place.Location.{Location}
@@ -10,10 +11,6 @@ use Rattle.jsonpath_select.specs.Rooted.{RootedTermIsFixed, is_rooted_path, is_r
 
 pub rooted_term_is_fixed : RootedTermIsFixed
 rooted_term_is_fixed text doc steps c d = refl
-
-both : (a b : Bool) → IsTrue (a && b) → IsTrue a × IsTrue b
-both true b h = (refl, h)
-both false b h = cc
 
 rooted_path : (text : List ℕ) (doc : Document) (p : Path) (c d : Location) → IsTrue (is_rooted_path p) → reached text doc p c ≡ reached text doc p d
 rooted_path text doc (path true steps) c d h = refl
@@ -26,10 +23,10 @@ rooted_term text doc (literal token) c d h = refl
 pub rooted_holds_alike : RootedHoldsAlike
 rooted_holds_alike text doc (lone p) c d h = ap is_some_location (rooted_path text doc p c d h)
 rooted_holds_alike text doc (compare l op r) c d h =
-    let parts = both (is_rooted_term l) (is_rooted_term r) h in
+    let parts = and_parts (is_rooted_term l) (is_rooted_term r) h in
     ap₂ (has_pair op) (rooted_term text doc l c d parts.0) (rooted_term text doc r c d parts.1)
 rooted_holds_alike text doc (join op a b) c d h =
-    let parts = both (is_rooted a) (is_rooted b) h in
+    let parts = and_parts (is_rooted a) (is_rooted b) h in
     ap₂ (joined op) (rooted_holds_alike text doc a c d parts.0) (rooted_holds_alike text doc b c d parts.1)
 
 filter_same : (b : Bool) (ls : List Location) → filter (λ (c : Location). b) ls ≡ cond b ls []

@@ -6,7 +6,7 @@ use Rattle.std.specs.Cmp.{IsTotalOrder, back_total, bool_cmp_total}
 use Rattle.std.specs.List.{list_any}
 use Rattle.std.specs.Ordering.{bool_cmp, is_lt, is_le, is_eq, is_gt, is_ge, flip_args, ordering_reverse, match_ordering}
 use Rattle.std.proofs.lemmas.Cmp.{alike_right, nat_list_cmp_total}
-use Rattle.std.proofs.Math.Bool.{or-false}
+use Rattle.std.proofs.Math.Bool.{and-false, or-false, or-true, or_assoc, or_comm, or_self_left}
 use Rattle.jsonpath_nodes.specs.compare.Comparisons.{Comparison, equal, not_equal, less, less_or_equal, greater, greater_or_equal, Seen, null_value, truth, fraction, text, unread, list, members, pair, is_satisfied, is_equal, is_not_equal}
 use Rattle.jsonpath_nodes.specs.compare.Fractions.{fraction_order, fraction_total}
 use Rattle.jsonpath_select.specs.comparison.Extremes.{least, greatest, some_pair, ends_meet, sets_meet, EndsDecide, truths, fractions, texts, text_cmp, is_null_value, meets, nulls_meet, is_unequal, EndsDecidePairs}
@@ -44,27 +44,6 @@ least_any {A} cmp total test down x (y ∷ ys) = by (is_lt (cmp y x)) refl (leas
     by false is lower same = absorbed (test x) (test y) (list_any test ys) (down y x is) ∙ same
 
 -- ---- tests of an order
-
-below_left : {A : Type 0} (cmp : A → A → Ordering) (total : IsTotalOrder cmp) (a b c : A) → is_lt (cmp a b) ≡ false → cmp a c ≡ Less → cmp b c ≡ Less
-below_left {A} cmp total a b c h k = by (cmp a b) refl h
-  where
-    by : (o : Ordering) → cmp a b ≡ o → is_lt o ≡ false → cmp b c ≡ Less
-    by Less is e = cc
-    by Equal is e = sym (total.congr a b c is) ∙ k
-    by Greater is e = total.trans b a c (total.antisymm b a ∙ ap ordering_reverse is) k
-
-upto_left : {A : Type 0} (cmp : A → A → Ordering) (total : IsTotalOrder cmp) (a b c : A) → is_lt (cmp a b) ≡ false → is_le (cmp a c) ≡ true → is_le (cmp b c) ≡ true
-upto_left {A} cmp total a b c h k = by (cmp a c) refl k
-  where
-    tied : (o : Ordering) → cmp a b ≡ o → cmp a c ≡ Equal → is_lt o ≡ false → is_le (cmp b c) ≡ true
-    tied Less is same e = cc
-    tied Equal is same e = ap is_le (sym (total.congr a b c is) ∙ same)
-    tied Greater is same e = ap is_le (sym (alike_right total a c b same) ∙ total.antisymm b a ∙ ap ordering_reverse is)
-
-    by : (o : Ordering) → cmp a c ≡ o → is_le o ≡ true → is_le (cmp b c) ≡ true
-    by Less is e = ap is_le (below_left cmp total a b c h is)
-    by Equal is e = tied (cmp a b) refl is h
-    by Greater is e = cc
 
 pub lt_is : (o : Ordering) → is_lt o ≡ true → o ≡ Less
 lt_is Less e = refl
@@ -129,45 +108,32 @@ ends_by {A} cmp total test left right (x ∷ xs) (y ∷ ys) =
 
 pub ends_decide : {A : Type 0} (cmp : A → A → Ordering) → IsTotalOrder cmp → EndsDecide cmp
 ends_decide cmp total xs ys = (
-  ends_by cmp total is_lt (λ a b c h k. ap is_lt (below_left cmp total a b c h (lt_is (cmp a c) k))) (λ a b c h k. ap is_lt (below_right cmp total a b c h (lt_is (cmp c a) k))) xs ys,
-  ends_by cmp total is_le (λ a b c h k. upto_left cmp total a b c h k) (λ a b c h k. upto_right cmp total a b c h k) xs ys,
+  ends_by cmp total is_lt (λ a b c h k. ap is_lt (below_right (flip_args cmp) (back_total total) a b c h (lt_is (cmp a c) k))) (λ a b c h k. ap is_lt (below_right cmp total a b c h (lt_is (cmp c a) k))) xs ys,
+  ends_by cmp total is_le (upto_right (flip_args cmp) (back_total total)) (upto_right cmp total) xs ys,
 )
 
 -- ---- sets
 
-swapped : (x y c : Bool) → (x || (y || c)) ≡ (y || (x || c))
-swapped true true c = refl
-swapped true false c = refl
-swapped false y c = refl
+pub swap_in : (p q r : Bool) → (p || (q || r)) ≡ (q || (p || r))
+swap_in p q r = sym (or_assoc p q r) ∙ ap (λ b. b || r) (or_comm p q) ∙ or_assoc q p r
 
-twice : (y c : Bool) → (y || c) ≡ (y || (y || c))
-twice true c = refl
-twice false c = refl
-
-pub insert_any : {A : Type 0} (cmp : A → A → Ordering) (total : IsTotalOrder cmp) (x k : A) (ys : List A)
-    → list_any (λ y. is_eq (cmp x y)) (insert_key cmp ys k) ≡ (is_eq (cmp x k) || list_any (λ y. is_eq (cmp x y)) ys)
-insert_any cmp total x k [] = refl
-insert_any {A} cmp total x k (y ∷ ys) = by (cmp k y) refl (insert_any cmp total x k ys)
+pub insert_test : {K : Type 0} (cmp : K → K → Ordering) (test : K → Bool) → ((k y : K) → cmp k y ≡ Equal → test k ≡ test y) → (k : K) (ys : List K) → list_any test (insert_key cmp ys k) ≡ (test k || list_any test ys)
+insert_test cmp test alike k [] = refl
+insert_test {K} cmp test alike k (y ∷ ys) = by (cmp k y) refl (insert_test cmp test alike k ys)
   where
-    by : (o : Ordering) → cmp k y ≡ o → list_any (λ z. is_eq (cmp x z)) (insert_key cmp ys k) ≡ (is_eq (cmp x k) || list_any (λ z. is_eq (cmp x z)) ys)
-        → list_any (λ z. is_eq (cmp x z)) (match_ordering o (k ∷ y ∷ ys) (y ∷ ys) (y ∷ insert_key cmp ys k)) ≡ (is_eq (cmp x k) || (is_eq (cmp x y) || list_any (λ z. is_eq (cmp x z)) ys))
+    by : (o : Ordering) → cmp k y ≡ o → list_any test (insert_key cmp ys k) ≡ (test k || list_any test ys) → list_any test (match_ordering o (k ∷ y ∷ ys) (y ∷ ys) (y ∷ insert_key cmp ys k)) ≡ (test k || (test y || list_any test ys))
     by Less is later = refl
-    by Equal is later = twice (is_eq (cmp x y)) (list_any (λ z. is_eq (cmp x z)) ys) ∙ ap (λ (b : Bool). b || (is_eq (cmp x y) || list_any (λ z. is_eq (cmp x z)) ys)) (sym (ap is_eq (alike_right total k y x is)))
-    by Greater is later = ap (λ (b : Bool). is_eq (cmp x y) || b) later ∙ swapped (is_eq (cmp x y)) (is_eq (cmp x k)) (list_any (λ z. is_eq (cmp x z)) ys)
-
-assoc : (a b c : Bool) → (a || (b || c)) ≡ ((b || a) || c)
-assoc true true c = refl
-assoc true false c = refl
-assoc false true c = refl
-assoc false false c = refl
+    by Equal is later = ap (λ b. b || list_any test ys) (sym (alike k y is)) ∙ sym (or_self_left (test k) (list_any test ys)) ∙ ap (λ b. test k || (b || list_any test ys)) (alike k y is)
+    by Greater is later = ap (λ b. test y || b) later ∙ swap_in (test y) (test k) (list_any test ys)
 
 fold_any : {A : Type 0} (cmp : A → A → Ordering) (total : IsTotalOrder cmp) (x : A) (ys kept : List A)
     → list_any (λ y. is_eq (cmp x y)) (fold (insert_key cmp) kept ys) ≡ (list_any (λ y. is_eq (cmp x y)) ys || list_any (λ y. is_eq (cmp x y)) kept)
 fold_any cmp total x [] kept = refl
 fold_any cmp total x (y ∷ ys) kept =
     fold_any cmp total x ys (insert_key cmp kept y)
-    ∙ ap (λ (b : Bool). list_any (λ z. is_eq (cmp x z)) ys || b) (insert_any cmp total x y kept)
-    ∙ assoc (list_any (λ z. is_eq (cmp x z)) ys) (is_eq (cmp x y)) (list_any (λ z. is_eq (cmp x z)) kept)
+    ∙ ap (λ (b : Bool). list_any (λ z. is_eq (cmp x z)) ys || b) (insert_test cmp (λ z. is_eq (cmp x z)) (λ k z same. ap is_eq (alike_right total k z x same)) y kept)
+    ∙ swap_in (list_any (λ z. is_eq (cmp x z)) ys) (is_eq (cmp x y)) (list_any (λ z. is_eq (cmp x z)) kept)
+    ∙ sym (or_assoc (is_eq (cmp x y)) (list_any (λ z. is_eq (cmp x z)) ys) (list_any (λ z. is_eq (cmp x z)) kept))
 
 pub sets_decide : {A : Type 0} (cmp : A → A → Ordering) → IsTotalOrder cmp → (xs ys : List A) → some_pair (λ x y. is_eq (cmp x y)) xs ys ≡ sets_meet cmp xs ys
 sets_decide cmp total xs ys = λ i. list_any (λ x. sym (fold_any cmp total x ys [] ∙ or-false (list_any (λ y. is_eq (cmp x y)) ys)) i) xs
@@ -208,11 +174,7 @@ text_row op a (text b ∷ ys) h = ap (λ (r : Bool). is_satisfied op (text_cmp a
 text_row op a (y ∷ ys) h = more (is_not_equal op) (list_any (pair op (text a)) ys) (list_any (λ b. is_satisfied op (text_cmp a b)) (texts ys)) h (text_row op a ys h)
 
 null_row : (op : Comparison) (ys : List Seen) → is_not_equal op ≡ false → list_any (pair op null_value) ys ≡ (is_equal op && list_any is_null_value ys)
-null_row op [] h = by (is_equal op)
-  where
-    by : (b : Bool) → false ≡ (b && false)
-    by true = refl
-    by false = refl
+null_row op [] h = sym (and-false (is_equal op))
 null_row op (null_value ∷ ys) h = ap (λ (r : Bool). is_equal op || r) (null_row op ys h) ∙ by (is_equal op)
   where
     by : (b : Bool) → (b || (b && list_any is_null_value ys)) ≡ (b && true)
@@ -234,28 +196,18 @@ by_kind op xs ys =
     || (some_pair (λ p q. is_satisfied op (fraction_order p q)) (fractions xs) (fractions ys)
     || (some_pair (λ a b. is_satisfied op (text_cmp a b)) (texts xs) (texts ys) || nulls op xs ys))
 
-first : (r t u : Bool) → (r || (t || u)) ≡ ((r || t) || u)
-first true t u = refl
-first false t u = refl
-
 second : (r t d u : Bool) → (r || (t || (d || u))) ≡ (t || ((r || d) || u))
-second true true d u = refl
-second true false d u = refl
-second false t d u = refl
+second r t d u = swap_in r t (d || u) ∙ ap (λ b. t || b) (sym (or_assoc r d u))
 
 third : (r t d s u : Bool) → (r || (t || (d || (s || u)))) ≡ (t || (d || ((r || s) || u)))
-third true true d s u = refl
-third true false true s u = refl
-third true false false s u = refl
-third false t d s u = refl
+third r t d s u = swap_in r t (d || (s || u)) ∙ ap (λ b. t || b) (second r d s u)
 
 fourth : (r t d s n : Bool) → (r || (t || (d || (s || (n && r))))) ≡ (t || (d || (s || r)))
-fourth true true d s n = refl
-fourth true false true s n = refl
-fourth true false false true n = refl
-fourth true false false false n = refl
-fourth false t d s true = refl
-fourth false t d s false = refl
+fourth r t d s n = third r t d s (n && r) ∙ ap (λ b. t || (d || b)) (by r)
+  where
+    by : (r : Bool) → ((r || s) || (n && r)) ≡ (s || r)
+    by true = sym (or-true s)
+    by false = ap (λ b. s || b) (and-false n)
 
 kind_rows : (op : Comparison) (xs ys : List Seen) → is_not_equal op ≡ false → some_pair (pair op) xs ys ≡ by_kind op xs ys
 kind_rows op [] ys h = refl
@@ -265,8 +217,8 @@ kind_rows op (null_value ∷ xs) ys h =
     (some_pair (λ p q. is_satisfied op (fraction_order p q)) (fractions xs) (fractions ys)) (some_pair (λ a b. is_satisfied op (text_cmp a b)) (texts xs) (texts ys)) (list_any is_null_value xs)
 kind_rows op (truth a ∷ xs) ys h =
     ap₂ (λ (a b : Bool). a || b) (truth_row op a ys h) (kind_rows op xs ys h)
-    ∙ first (list_any (λ b. is_satisfied op (bool_cmp a b)) (truths ys)) (some_pair (λ a b. is_satisfied op (bool_cmp a b)) (truths xs) (truths ys))
-    (some_pair (λ p q. is_satisfied op (fraction_order p q)) (fractions xs) (fractions ys) || (some_pair (λ a b. is_satisfied op (text_cmp a b)) (texts xs) (texts ys) || nulls op xs ys))
+    ∙ sym (or_assoc (list_any (λ b. is_satisfied op (bool_cmp a b)) (truths ys)) (some_pair (λ a b. is_satisfied op (bool_cmp a b)) (truths xs) (truths ys))
+    (some_pair (λ p q. is_satisfied op (fraction_order p q)) (fractions xs) (fractions ys) || (some_pair (λ a b. is_satisfied op (text_cmp a b)) (texts xs) (texts ys) || nulls op xs ys)))
 kind_rows op (fraction a m ∷ xs) ys h =
     ap₂ (λ (a b : Bool). a || b) (fraction_row op (a, m) ys h) (kind_rows op xs ys h)
     ∙ second (list_any (λ q. is_satisfied op (fraction_order (a, m) q)) (fractions ys)) (some_pair (λ a b. is_satisfied op (bool_cmp a b)) (truths xs) (truths ys))
@@ -281,11 +233,7 @@ kind_rows op (members ∷ xs) ys h = more (list_any (pair op members) ys) (some_
 
 nulls_is : (op : Comparison) (xs ys : List Seen) → nulls op xs ys ≡ nulls_meet op xs ys
 nulls_is equal xs ys = refl
-nulls_is op xs ys = by (list_any is_null_value xs)
-  where
-    by : (b : Bool) → (b && false) ≡ false
-    by true = refl
-    by false = refl
+nulls_is op xs ys = and-false (list_any is_null_value xs)
 
 pub extremes_and_sets_decide_pairs : EndsDecidePairs
 extremes_and_sets_decide_pairs op xs ys h =

@@ -5,9 +5,9 @@ use Rattle.std.specs.BTreeSet.{insert_key}
 use Rattle.std.specs.Cmp.{IsTotalOrder, back_total, bool_cmp_total}
 use Rattle.std.specs.Cmp.Lexicographic.{slice_cmp}
 use Rattle.std.specs.List.{list_any}
-use Rattle.std.specs.Ordering.{nat_cmp, int_cmp, bool_cmp, is_lt, is_le, is_eq, flip_args, ordering_reverse, match_ordering}
+use Rattle.std.specs.Ordering.{nat_cmp, int_cmp, bool_cmp, is_lt, is_le, is_eq, flip_args, ordering_reverse}
 use Rattle.std.proofs.lemmas.Cmp.{alike_right, nat_list_cmp_total}
-use Rattle.std.proofs.Math.Bool.{or-false}
+use Rattle.std.proofs.Math.Bool.{or-false, or_assoc}
 use Rattle.jsonpath_paths.specs.Numbers.{decimal_units}
 use Rattle.jsonpath_paths.specs.declared.decimal.Decimal.{Decimal}
 use Rattle.jsonpath_paths.specs.declared.token.tokens.FilterToken.{FilterToken}
@@ -21,15 +21,9 @@ use Rattle.jsonpath_select.specs.plan.Deciders.{is_order, some_right, one_of, ex
 use Rattle.jsonpath_select.specs.declared.comparison.extremes.Extremes.{Extremes}
 use Rattle.jsonpath_select.specs.declared.comparison.value_set.ValueSet.{ValueSet}
 use Rattle.jsonpath_select.proofs.comparison.ByKindLemmas.{ByKind, number_over, truth_or, number_or, text_or}
-use Rattle.jsonpath_select.proofs.comparison.ExtremeLemmas.{lt_is, back_lt, back_le, below_right, upto_right}
+use Rattle.jsonpath_select.proofs.comparison.ExtremeLemmas.{lt_is, back_lt, back_le, below_right, upto_right, swap_in, insert_test}
 
 -- ---- one more value
-
-add_bool : (old test rest : Bool) → ((test || old) || rest) ≡ (old || (test || rest))
-add_bool true true rest = refl
-add_bool true false rest = refl
-add_bool false true rest = refl
-add_bool false false rest = refl
 
 -- what is known of the values so far, and one more
 pub next_value : (test : Seen → Bool) (atoms : List Atom) (i : ℕ) (a : Atom) (old new all : Bool) → a ≡ get_or atoms i a → i < length atoms → new ≡ (test (seen_by a) || old)
@@ -38,7 +32,7 @@ next_value test atoms i a old new all is below more held =
     let next : suc i ≡ i + 1 = omega arith in
     let rest = list_any test (map seen_by (drop (i + 1) atoms)) in
     let step : drop i atoms ≡ a ∷ drop (i + 1) atoms = drop-cons atoms i a below ∙ ap₂ (λ (b : Atom) (j : ℕ). b ∷ drop j atoms) (sym is) next in
-    ap (λ b. b || rest) more ∙ add_bool old (test (seen_by a)) rest ∙ ap (λ (xs : List Atom). old || list_any test (map seen_by xs)) (sym step) ∙ held
+    ap (λ b. b || rest) more ∙ or_assoc (test (seen_by a)) old rest ∙ swap_in (test (seen_by a)) old rest ∙ ap (λ (xs : List Atom). old || list_any test (map seen_by xs)) (sym step) ∙ held
 
 pub no_more_values : (test : Seen → Bool) (atoms : List Atom) (i : ℕ) (old all : Bool) → length atoms ≤ i → (old || list_any test (map seen_by (drop i atoms))) ≡ all → old ≡ all
 no_more_values test atoms i old all over held =
@@ -135,11 +129,6 @@ farther f order a b x goes = by_order (λ p. p a b ≡ true → p x a ≡ true �
 nearer : (f : FilterToken) → IsTrue (is_order f) → (a b x : Seen) → IsNearer a b → is_pair f a b ≡ false → is_pair f x b ≡ true → is_pair f x a ≡ true
 nearer f order a b x goes = by_order (λ p. p a b ≡ false → p x b ≡ true → p x a ≡ true) (λ o by. goes o by x) f order
 
-swap_in : (p q r : Bool) → (p || (q || r)) ≡ (q || (p || r))
-swap_in true true r = refl
-swap_in true false r = refl
-swap_in false q r = refl
-
 any_middle : (test : Seen → Bool) (xs : List Seen) (y : Seen) (zs : List Seen) → list_any test (xs ++ y ∷ zs) ≡ (test y || list_any test (xs ++ zs))
 any_middle test [] y zs = refl
 any_middle test (x ∷ xs) y zs = ap (λ b. test x || b) (any_middle test xs y zs) ∙ swap_in (test x) (test y) (list_any test (xs ++ zs))
@@ -211,19 +200,6 @@ module _ (f : FilterToken) (order : IsTrue (is_order f)) (x : Seen) where
     nearer_text a v is within = nearer_end (λ t. text t.now) among_texts text_out e.text v a is (near_kind text text_or (slice_cmp nat_cmp) nat_list_cmp_total (λ o b c. refl) a.now v.now) within
 
 -- ---- the sets with one more value
-
-insert_test : {K : Type 0} (cmp : K → K → Ordering) (test : K → Bool) → ((k y : K) → cmp k y ≡ Equal → test k ≡ test y) → (k : K) (ys : List K) → list_any test (insert_key cmp ys k) ≡ (test k || list_any test ys)
-insert_test cmp test alike k [] = refl
-insert_test {K} cmp test alike k (y ∷ ys) = by (cmp k y) refl (insert_test cmp test alike k ys)
-  where
-    by : (o : Ordering) → cmp k y ≡ o → list_any test (insert_key cmp ys k) ≡ (test k || list_any test ys) → list_any test (match_ordering o (k ∷ y ∷ ys) (y ∷ ys) (y ∷ insert_key cmp ys k)) ≡ (test k || (test y || list_any test ys))
-    by Less is later = refl
-    by Equal is later = ap (λ b. b || list_any test ys) (sym (alike k y is)) ∙ twice (test k) (list_any test ys) ∙ ap (λ b. test k || (b || list_any test ys)) (alike k y is)
-      where
-        twice : (p r : Bool) → (p || r) ≡ (p || (p || r))
-        twice true r = refl
-        twice false r = refl
-    by Greater is later = ap (λ b. test y || b) later ∙ swap_in (test y) (test k) (list_any test ys)
 
 pub nothing_known : (all : Bool) (k : ValueSet) (x : Seen) → k.numbers.keys ≡ [] → k.texts.keys ≡ [] → k.has_null ≡ false → k.has_true ≡ false → k.has_false ≡ false → (is_among_known k x || all) ≡ all
 nothing_known all k x e g n t f = ap (λ b. b || all) (by x)

@@ -1,9 +1,10 @@
 -- A comparison with its sides changed.
-use Rattle.std.proofs.Common.{◌≡◌, ℕ, zero, suc, List, [], ◌∷◌, Bool, true, false, cond, ◌||◌, Ordering, Less, refl, sym, ap, ap₂, ◌∙◌}
+use Rattle.std.proofs.Common.{◌≡◌, ℕ, zero, suc, List, [], ◌∷◌, Bool, cond, ◌||◌, Ordering, Less, refl, sym, ap, ap₂, ◌∙◌}
 use Rattle.std.specs.Cmp.{IsTotalOrder, bool_cmp_total}
 use Rattle.std.specs.Cmp.Lexicographic.{slice_cmp}
 use Rattle.std.specs.List.{list_any}
 use Rattle.std.specs.Ordering.{nat_cmp, bool_cmp, ordering_reverse}
+use Rattle.std.proofs.Math.Bool.{or_assoc}
 use Rattle.std.proofs.lemmas.Cmp.{nat_list_cmp_total}
 use Rattle.jsonpath_nodes.specs.compare.Fractions.{fraction_order, fraction_total}
 use Rattle.jsonpath_nodes.specs.document.Document.{Document}
@@ -13,18 +14,14 @@ use Rattle.jsonpath_nodes.specs.compare.Comparisons.{Comparison, equal, not_equa
 use Rattle.jsonpath_select.specs.plan.Deciders.{with_sides_swapped}
 use Rattle.jsonpath_select.specs.plan.Machine.{Operand, values_front, values_behind, compared}
 use Rattle.jsonpath_select.specs.Parts.{is_pair, has_pair}
-use Rattle.jsonpath_select.proofs.comparison.ExtremeLemmas.{none_right}
+use Rattle.jsonpath_select.proofs.comparison.ExtremeLemmas.{none_right, swap_in}
 use Rattle.jsonpath_select.proofs.comparison.ByKindLemmas.{two_kinds}
 
 any_or : {A : Type 0} (f g : A → Bool) (xs : List A) → list_any (λ x. f x || g x) xs ≡ (list_any f xs || list_any g xs)
 any_or f g [] = refl
-any_or f g (x ∷ xs) = ap (λ b. (f x || g x) || b) (any_or f g xs) ∙ by (f x) (g x) (list_any f xs) (list_any g xs)
-  where
-    by : (a b c d : Bool) → ((a || b) || (c || d)) ≡ ((a || c) || (b || d))
-    by true b c d = refl
-    by false true true d = refl
-    by false true false d = refl
-    by false false c d = refl
+any_or f g (x ∷ xs) =
+    ap (λ b. (f x || g x) || b) (any_or f g xs) ∙ or_assoc (f x) (g x) (list_any f xs || list_any g xs)
+    ∙ ap (λ b. f x || b) (swap_in (g x) (list_any f xs) (list_any g xs)) ∙ sym (or_assoc (f x) (list_any f xs) (g x || list_any g xs))
 
 any_swap : {A B : Type 0} (p : A → B → Bool) (xs : List A) (ys : List B) → list_any (λ x. list_any (λ y. p x y) ys) xs ≡ list_any (λ y. list_any (λ x. p x y) xs) ys
 any_swap p [] ys = sym (none_right ys)

@@ -1,8 +1,10 @@
 -- One side of a comparison, tag by tag.
-use Rattle.std.proofs.Common.{◌≡◌, ℕ, zero, suc, ◌+◌, ◌-◌, ◌==◌, ◌<◌, Bool, true, false, List, [], ◌∷◌, ◌++◌, map, length, take, drop, cond, Option, Some, refl, sym, subst, ap, ap₂, ◌∙◌, append_assoc, arith}
+use Rattle.std.proofs.Common.{◌≡◌, ℕ, zero, suc, ◌+◌, ◌-◌, ◌==◌, ◌<◌, Bool, true, false, List, [], ◌∷◌, ◌++◌, map, length, take, drop, cond, Option, Some, refl, sym, subst, ap, ap₂, ◌∙◌, arith}
 use Rattle.std.specs.Prelude.{option_map}
 use Rattle.std.specs.List.{prefix_len}
+use Rattle.std.proofs.Math.Seq.{take-length}
 use Rattle.std.proofs.lemmas.List.{drop-map, take-map, drop-drop}
+use mathlib.Core.List.{map-map}
 use Rattle.jsonpath_nodes.specs.document.Document.{Document}
 use Rattle.jsonpath_nodes.specs.place.Location.{Location, at}
 use Rattle.jsonpath_nodes.specs.compare.Comparisons.{Seen, seen}
@@ -18,6 +20,8 @@ use Rattle.jsonpath_select.specs.declared.comparison.side.Side.{Side}
 use Rattle.jsonpath_select.specs.plan.Stack.{ShowsOperand, found_on}
 use Rattle.jsonpath_select.specs.declared.tagged.marks.Found.{Found as FoundOf}
 use Rattle.jsonpath_select.specs.declared.tagged.operand.Operand as ops
+use Rattle.jsonpath_select.proofs.tagged.ConditionLemmas.{more as one_tag}
+use Rattle.jsonpath_select.proofs.walk.MarkLemmas.{filter_map-some, found_alike}
 use Rattle.jsonpath_select.proofs.tagged.GroupLemmas.{run, front_of_tag-run, behind_tag-run}
 use Rattle.jsonpath_nodes.specs.place.Mark.{shown, look_kept, MarksStandAt}
 
@@ -28,28 +32,18 @@ past n (tags ts) = tags ts
 past n (literal vs) = literal vs
 
 seen_there : (doc : Document) (ls : List Location) (atoms : List Atom) → map (λ (a : Atom). Some (seen_by a)) atoms ≡ map (λ l. option_map seen (at doc l)) ls → map seen_by atoms ≡ values_at doc ls
-seen_there doc [] [] h = refl
-seen_there doc [] (a ∷ atoms) h = cc
-seen_there doc (l ∷ ls) [] h = cc
-seen_there doc (l ∷ ls) (a ∷ atoms) h =
-    let here : option_map seen (at doc l) ≡ Some (seen_by a) = cc in
-    let later : map (λ (b : Atom). Some (seen_by b)) atoms ≡ map (λ m. option_map seen (at doc m)) ls = cc in
-    rw here (ap (λ (xs : List Seen). seen_by a ∷ xs) (seen_there doc ls atoms later))
+seen_there doc ls atoms h = sym (filter_map-some seen_by atoms) ∙ found_alike (λ o. o) (λ (a : Atom). Some (seen_by a)) (λ l. option_map seen (at doc l)) atoms ls h
 
 -- where the side's run of a tag ends, and where the next begins
 abbrev pub end_of : Side → ℕ → ℕ → ℕ
 end_of s t from = cond s.is_constant (length s.atoms.items) (from + prefix_len (λ u. u == t) (drop from s.tags.items))
-
-take_whole : (xs : List Atom) → take (length xs) xs ≡ xs
-take_whole [] = refl
-take_whole (x ∷ xs) = ap (λ (ys : List Atom). x ∷ ys) (take_whole xs)
 
 -- a side that is the same for all tags is there as a whole
 all_there : (s : Side) (t from end : ℕ) → s.is_constant ≡ true → from ≡ 0 → end ≡ end_of s t from → take (end - from) (drop from s.atoms.items) ≡ s.atoms.items
 all_there s t from end constant at_first ends =
     let to_end : end ≡ length s.atoms.items = ends ∙ ap (λ b. cond b (length s.atoms.items) (from + prefix_len (λ u. u == t) (drop from s.tags.items))) constant in
     let size : end - from ≡ length s.atoms.items = omega (arith, to_end, at_first) in
-    ap₂ (λ k m. take k (drop m s.atoms.items)) size at_first ∙ take_whole s.atoms.items
+    ap₂ (λ k m. take k (drop m s.atoms.items)) size at_first ∙ take-length s.atoms.items
 
 -- where the run of a tag ends, of a side that has its own for each
 run_ends : (f : Found) (s : Side) (t from end : ℕ) → s.is_constant ≡ false → s.tags.items ≡ tags_of f.pairs → end ≡ end_of s t from → end ≡ from + run t (drop from f.pairs)
@@ -113,11 +107,7 @@ compare_next doc op a b l r count t lf le ln rf re rn holds xs ys out out' all h
     ap (λ k. compared doc op t k (past lf a) (past rf b)) fewer
     ∙ ap₂ (λ h (ts : List ℕ). cond h (t ∷ ts) ts) test
     (ap₂ (compared doc op (suc t) (count - (t + 1))) (here_behind doc a l t lf le ln ha sl el gl) (here_behind doc b r t rf re rn hb sr er gr) ∙ ap (λ m. compared doc op m (count - (t + 1)) (past ln a) (past rn b)) next_tag) in
-    by holds later more (ap (λ (ts : List ℕ). out ++ ts) (sym step) ∙ kept)
-  where
-    by : (h : Bool) (later : List ℕ) → out' ≡ cond h (out ++ t ∷ []) out → out ++ cond h (t ∷ later) later ≡ all → out' ++ later ≡ all
-    by true later e g = ap (λ (ts : List ℕ). ts ++ later) e ∙ append_assoc out (t ∷ []) later ∙ g
-    by false later e g = ap (λ (ts : List ℕ). ts ++ later) e ∙ g
+    one_tag holds t out out' later all more (ap (λ (ts : List ℕ). out ++ ts) (sym step) ∙ kept)
 
 -- one tag more is compared, where the right side is the same for all tags
 pub compare_to_next : (doc : Document) (op : FilterToken) (a b : Operand) (l r : Side) (count t from end : ℕ) (holds : Bool) (xs : List Atom) (out out' all : List ℕ)
@@ -131,7 +121,7 @@ compare_to_next doc op a b l r count t from end holds xs out out' all ha hb own 
     ∙ compare_next doc op a b l r count t from end end 0 size 0 holds xs r.atoms.items out out' all ha hb (λ h. let never : false ≡ true = sym own ∙ h in cc) (λ h. refl) below
     (ends ∙ sym (ap (λ c. cond c (length l.atoms.items) (from + prefix_len (λ u. u == t) (drop from l.tags.items))) own))
     (sym (ap (λ c. cond c size (0 + prefix_len (λ u. u == t) (drop 0 r.tags.items))) constant)) (sym (ap (λ c. cond c 0 end) own)) (sym (ap (λ c. cond c 0 size) constant))
-    ix (sym (ap (λ k. take k r.atoms.items) no_less ∙ take_whole r.atoms.items)) is more (ap (λ (o : Operand). out ++ compared doc op t (count - t) (past from a) o) (past_none b) ∙ kept)
+    ix (sym (ap (λ k. take k r.atoms.items) no_less ∙ take-length r.atoms.items)) is more (ap (λ (o : Operand). out ++ compared doc op t (count - t) (past from a) o) (past_none b) ∙ kept)
 
 -- ---- two sides that are the same for all tags
 
@@ -156,30 +146,13 @@ compared_once doc op a b l r ha hb cl cr t (suc count) =
     ap₂ (λ h (ts : List ℕ). cond h (t ∷ ts) ts) (sym (ap₂ (λ us vs. has_pair op us vs) left.0 right.0))
     (compared_once doc op a b l r ha hb cl cr (suc t) count ∙ sym (ap₂ (compared doc op (suc t) count) left.1 right.1))
 
-some_each : (atoms : List Atom) → map (λ (a : Atom). Some (seen_by a)) atoms ≡ map (λ x. Some x) (map seen_by atoms)
-some_each [] = refl
-some_each (a ∷ atoms) = ap (λ (xs : List (Option Seen)). Some (seen_by a) ∷ xs) (some_each atoms)
-
 -- ---- for marks of either kind: whether they keep their locations, where they stand, what they hold
 
 module _ {M : Type 0} (located : Bool) (stand_of : M → Location) (content_of : M → Document) where
-  -- ---- one tag more
-
-  -- ---- what an operand is seen as
-
   seen_marks : (doc : Document) (ls : List Location) (marks : List M) → MarksStandAt located stand_of content_of doc ls marks → map (λ s. Some (seen (content_of s))) marks ≡ map (λ l. option_map seen (at doc l)) ls
-  seen_marks doc [] [] h = refl
-  seen_marks doc [] (s ∷ marks) h = cc
-  seen_marks doc (l ∷ ls) [] h = cc
-  seen_marks doc (l ∷ ls) (s ∷ marks) h =
-      let here : (shown stand_of content_of) s ≡ look_kept located doc l = cc in
-      let there : at doc l ≡ Some (content_of s) = sym (ap (λ (x : Location × Option Document). x.1) here) in
-      let later : MarksStandAt located stand_of content_of doc ls marks = cc in
-      rw there (ap (λ (xs : List (Option Seen)). Some (seen (content_of s)) ∷ xs) (seen_marks doc ls marks later))
-
-  some_seen : (marks : List M) → map (λ x. Some x) (map (λ s. seen (content_of s)) marks) ≡ map (λ s. Some (seen (content_of s))) marks
-  some_seen [] = refl
-  some_seen (s ∷ marks) = ap (λ (xs : List (Option Seen)). Some (seen (content_of s)) ∷ xs) (some_seen marks)
+  seen_marks doc ls marks h =
+      let content : Location × Option Document → Option Seen = λ x. option_map seen x.1 in
+      sym (map-map content (shown stand_of content_of) marks) ∙ ap (map content) h ∙ map-map content (look_kept located doc) ls
 
   pub marks_side : (text : List ℕ) (doc : Document) (o : Operand) (x : ops.Operand M) (n : FoundOf M) (side : Side) → x ≡ found_on n → ShowsOperand located stand_of content_of text doc o x → side.is_constant ≡ n.is_shared → side.tags.items ≡ n.pairs.tags.items
       → map seen_by side.atoms.items ≡ map (λ s. seen (content_of s)) n.pairs.marks.items → ShowsSide doc o side
@@ -189,7 +162,7 @@ module _ {M : Type 0} (located : Bool) (stand_of : M → Location) (content_of :
       by (of_path f) h = (
         constant ∙ h.0,
         λ own. same ∙ h.1.0,
-        some_each side.atoms.items ∙ ap (map (λ (x : Seen). Some x)) atoms ∙ some_seen n.pairs.marks.items ∙ seen_marks doc (places f.pairs) n.pairs.marks.items h.1.1,
+        sym (map-map (λ x. Some x) seen_by side.atoms.items) ∙ ap (map (λ (x : Seen). Some x)) atoms ∙ map-map (λ x. Some x) (λ s. seen (content_of s)) n.pairs.marks.items ∙ seen_marks doc (places f.pairs) n.pairs.marks.items h.1.1,
       )
       by (tags ts) h = h
       by (literal vs) h = absurd h

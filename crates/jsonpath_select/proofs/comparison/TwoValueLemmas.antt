@@ -3,6 +3,8 @@ use Rattle.std.proofs.Common.{◌≡◌, ℕ, zero, suc, ◌<◌, List, [], ◌�
 use Rattle.std.specs.Cmp.{bool_cmp_total}
 use Rattle.std.specs.List.{list_any}
 use Rattle.std.specs.Ordering.{is_ne}
+use Rattle.std.proofs.Math.Bool.{or-true}
+use Rattle.std.proofs.lemmas.Bool.{or_parts}
 use Rattle.std.proofs.lemmas.Cmp.{nat_list_cmp_total}
 use Rattle.jsonpath_nodes.specs.compare.Atoms.{seen_by}
 use Rattle.jsonpath_nodes.specs.compare.Comparisons.{not_equal, Seen, truth, text, pair}
@@ -26,15 +28,11 @@ alike =
     (λ p q h. text_or (λ a. pair not_equal (text p) a ≡ pair not_equal (text q) a) (λ r. ap is_ne (nat_list_cmp_total.congr p q r (same_place _ h))) (λ y other. (other not_equal p).1 ∙ sym (other not_equal q).1))
     (λ x f apart h a. let never : true ≡ false = sym (apart not_equal).0 ∙ h in cc)
 
-both_false : (a b : Bool) → (a || b) ≡ false → (a ≡ false) × (b ≡ false)
-both_false true b h = cc
-both_false false b h = (refl, h)
-
 -- where all others are equal to the first, the first decides
 pub first_decides : (f : Seen) (ys : List Seen) → list_any (pair not_equal f) ys ≡ false → (x : Seen) → (pair not_equal x f || false) ≡ (pair not_equal x f || list_any (pair not_equal x) ys)
 first_decides f [] h x = refl
 first_decides f (y ∷ ys) h x =
-    let parts = both_false (pair not_equal f y) (list_any (pair not_equal f) ys) h in
+    let parts = or_parts (pair not_equal f y) (list_any (pair not_equal f) ys) h in
     let same : pair not_equal x f ≡ pair not_equal x y = pair_turned not_equal x f ∙ alike f y parts.0 x ∙ sym (pair_turned not_equal x y) in
     first_decides f ys parts.1 x ∙ by (pair not_equal x f) (pair not_equal x y) (list_any (pair not_equal x) ys) same
   where
@@ -57,8 +55,4 @@ two_decide f a ys differ among x = by (pair not_equal x f) refl
 pub among_at : (atoms : List Atom) (i : ℕ) (a d : Atom) → a ≡ get_or atoms i d → i < length atoms → IsAmong (seen_by a) (map seen_by atoms)
 among_at [] i a d is below test h = absurd (omega arith)
 among_at (b ∷ atoms) zero a d is below test h = ap (λ (c : Atom). test (seen_by c) || list_any test (map seen_by atoms)) (sym is) ∙ ap (λ c. c || list_any test (map seen_by atoms)) h
-among_at (b ∷ atoms) (suc i) a d is below test h = ap (λ c. test (seen_by b) || c) (among_at atoms i a d is (omega arith) test h) ∙ or_true (test (seen_by b))
-  where
-    or_true : (c : Bool) → (c || true) ≡ true
-    or_true true = refl
-    or_true false = refl
+among_at (b ∷ atoms) (suc i) a d is below test h = ap (λ c. test (seen_by b) || c) (among_at atoms i a d is (omega arith) test h) ∙ or-true (test (seen_by b))

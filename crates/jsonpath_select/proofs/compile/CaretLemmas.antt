@@ -4,6 +4,7 @@ use Rattle.std.specs.List.{AllByRecursion}
 use Rattle.std.proofs.lemmas.Bool.Decides.{eqb_tells}
 use Rattle.std.proofs.lemmas.Fmt.{decimal_by_steps}
 use Rattle.std.proofs.lemmas.List.{drop_all, length-replicate}
+use Rattle.std.proofs.lemmas.Option.{same_Some}
 use Rattle.jsonpath_select.specs.compile.Faults.{caret_text}
 
 -- where the row begins behind one byte more: behind a line end; else where it began, if the byte is `^`
@@ -73,12 +74,9 @@ IsBegun bytes i row = (begin_of i row (drop i bytes) ≡ begin_of 0 None bytes) 
 pub begun_at_end : (bytes : List ℕ) (i : ℕ) (row : Option ℕ) → i ≡ length bytes → IsBegun bytes i row → row ≡ begin_of 0 None bytes
 begun_at_end bytes i row end h = sym (ap (λ bs. begin_of i row bs) (drop_all i bytes (omega arith))) ∙ h.0
 
-some_is : (n : ℕ) (m : ℕ) → Some n ≡ Some m → n ≡ m
-some_is n m h = cc
-
 pub carets_counted : (bytes path : List ℕ) (n start : ℕ) → bytes ≡ caret_text path n → Some start ≡ begin_of 0 None bytes → length bytes - start ≡ n
 carets_counted bytes path n start is begun =
-    let first : start ≡ length path + 1 = some_is start (length path + 1) (begun ∙ ap (begin_of 0 None) is ∙ row_of_carets path n) in
+    let first : start ≡ length path + 1 = same_Some start (length path + 1) (begun ∙ ap (begin_of 0 None) is ∙ row_of_carets path n) in
     let all : length bytes ≡ length path + 1 + n = ap length is ∙ length_of_carets path n in
     omega arith
 

@@ -1,7 +1,7 @@
 -- A text is a word or a quoted text exactly if its first token is one and takes the whole text.
 use Rattle.std.proofs.Common.{◌≡◌, ◌+◌, ◌-◌, ◌==◌, ℕ, zero, suc, Bool, true, false, ◌||◌, List, [], ◌∷◌, length, take, Some, None, refl, sym, subst, ap, ◌∙◌, arith, eqb-true}
 use Rattle.std.specs.Str.{chars, IsUtf8}
-use Rattle.std.proofs.lemmas.Bool.{false_from_ne_true, eq-eqb}
+use Rattle.std.proofs.lemmas.Bool.{false_from_ne_true, eq-eqb, or_right}
 use Rattle.std.proofs.lemmas.Str.{encodes-chars, len_utf8_bounds}
 use Rattle.std.proofs.Math.Seq.{take-length}
 use Rattle.jsonpath_paths.specs.token.Kinds.{is_word, is_quoted, is_name, is_token, IsFirst, HasNone}
@@ -36,14 +36,10 @@ whole_front (suc n) (c ∷ cs) h = ap (λ (ds : List ℕ). c ∷ ds) (whole_fron
 
 -- ---- names by kinds
 
-or_second : (a b : Bool) → b ≡ true → (a || b) ≡ true
-or_second true b h = refl
-or_second false b h = h
-
 pub name_from : (kind : Kind) (cs : List ℕ) → is_name_kind kind ≡ true → is_token kind cs ≡ true → is_name cs ≡ true
 name_from k.Key cs h is = rw is refl
-name_from k.DoubleQuoted cs h is = or_second (is_word cs) (is_quoted double_quote cs || is_quoted single_quote cs) (rw is refl)
-name_from k.SingleQuoted cs h is = or_second (is_word cs) (is_quoted double_quote cs || is_quoted single_quote cs) (or_second (is_quoted double_quote cs) (is_quoted single_quote cs) is)
+name_from k.DoubleQuoted cs h is = or_right (is_word cs) (is_quoted double_quote cs || is_quoted single_quote cs) (rw is refl)
+name_from k.SingleQuoted cs h is = or_right (is_word cs) (is_quoted double_quote cs || is_quoted single_quote cs) (or_right (is_quoted double_quote cs) (is_quoted single_quote cs) is)
 name_from _ cs h is = cc h
 
 -- a name is a token of one of these kinds

@@ -1,12 +1,13 @@
 -- Lists of marks that gain what a walk sees from one mark after the other.
-use Rattle.std.proofs.Common.{◌≡◌, ℕ, suc, ◌+◌, ◌<◌, Bool, true, false, List, [], ◌∷◌, ◌++◌, map, take, drop, length, get_or, Option, Some, None, refl, sym, ap, ap₂, ◌∙◌, append-nil, drop-cons, arith}
+use Rattle.std.proofs.Common.{◌≡◌, ℕ, suc, ◌+◌, ◌<◌, Bool, true, false, List, [], ◌∷◌, ◌++◌, map, take, drop, length, get_or, Option, Some, refl, sym, ap, ap₂, ◌∙◌, append-nil, drop-cons, arith}
 use Rattle.std.specs.Prelude.{option_map, option_and_then, unwrap_or}
+use Rattle.std.proofs.lemmas.Grind.{flat_map-append}
 use Rattle.std.proofs.lemmas.List.{map-append, take_more}
 use Rattle.jsonpath_nodes.specs.document.Document.{Document}
-use Rattle.jsonpath_nodes.specs.place.Location.{Location, at, child}
+use Rattle.jsonpath_nodes.specs.place.Location.{Location, at}
 use Rattle.jsonpath_nodes.specs.place.Mark.{kept_location, shown, look_kept, look_kept_from, MarksStandAt, MarksGain}
 use Rattle.jsonpath_nodes.specs.step.Steps.{from, from_each}
-use Rattle.jsonpath_select.proofs.walk.LeadingLemmas.{from_each-append}
+use Rattle.jsonpath_select.proofs.answer.AllThereLemmas.{at_more}
 use Rattle.jsonpath_select.proofs.walk.MarkLemmas.{left_marks, length-marks}
 
 kept-twice : (b : Bool) (l m : Location) → kept_location b (kept_location b l ++ m) ≡ kept_location b (l ++ m)
@@ -14,12 +15,7 @@ kept-twice true l m = refl
 kept-twice false l m = refl
 
 at-below : (doc d : Document) (l m : Location) → at doc l ≡ Some d → at doc (l ++ m) ≡ at d m
-at-below doc d [] m h = let same : doc ≡ d = cc in ap (λ (e : Document). at e m) same
-at-below doc d (s ∷ l) m h = by (child s doc) h (λ c. at-below c d l m)
-  where
-    by : (o : Option Document) → option_and_then (λ c. at c l) o ≡ Some d → ((c : Document) → at c l ≡ Some d → at c (l ++ m) ≡ at d m) → option_and_then (λ c. at c (l ++ m)) o ≡ at d m
-    by None e later = cc
-    by (Some c) e later = later c e
+at-below doc d l m h = at_more l m doc ∙ ap (option_and_then (λ e. at e m)) h
 
 module _ {M : Type 0} (b : Bool) (stand : M → Location) (content : M → Document) (f : Document → List Location) (doc : Document) where
   -- what is seen from a mark of the document is what stands there
@@ -48,6 +44,6 @@ module _ {M : Type 0} (b : Bool) (stand : M → Location) (content : M → Docum
       let first : get_or ls i l ≡ l = cc in
       let more : take (i + 1) ls ≡ take i ls ++ l ∷ [] = take_more ls i l within ∙ ap (λ (k : Location). take i ls ++ k ∷ []) first in
       let all : from_each doc f (take i ls) ++ from doc f l ≡ from_each doc f (take (i + 1) ls) =
-      ap (λ (ks : List Location). from_each doc f (take i ls) ++ ks) (sym (append-nil (from doc f l))) ∙ sym (from_each-append doc f (take i ls) (l ∷ [])) ∙ ap (from_each doc f) (sym more) in
+      ap (λ (ks : List Location). from_each doc f (take i ls) ++ ks) (sym (append-nil (from doc f l))) ∙ sym (flat_map-append (from doc f) (take i ls) (l ∷ [])) ∙ ap (from_each doc f) (sym more) in
       gains ∙ ap₂ (λ (xs ys : List (Location × Option Document)). xs ++ ys) held (seen_from l m here)
       ∙ sym (map-append (look_kept b doc) (from_each doc f (take i ls)) (from doc f l)) ∙ ap (map (look_kept b doc)) all

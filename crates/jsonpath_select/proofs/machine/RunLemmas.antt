@@ -6,7 +6,7 @@ use Rattle.jsonpath_paths.specs.tree.Tree.{Path, path, PathSteps, no_steps, step
 use Rattle.jsonpath_paths.specs.tree.Tree as tree
 use Rattle.jsonpath_nodes.specs.place.Location.{Location}
 use Rattle.jsonpath_nodes.specs.place.NumbersWhere.{numbers_where}
-use Rattle.jsonpath_select.specs.Meaning.{follow, inner_on, holds, has_own_step}
+use Rattle.jsonpath_select.specs.Meaning.{follow, inner_on, holds, has_own_step, reached, values}
 use Rattle.jsonpath_select.specs.plan.Code.{Instruction, path_code, steps_code, inner_code, condition_code, term_code, leave, compares, joins}
 use Rattle.jsonpath_select.specs.plan.Machine.{Tagged, places, spread, each_tag, Found, list_count_for_candidates, starts, itself, Operand, of_path, tags, State, run_all, as_tags, is_side, stepped, gathered, entered, kept_by_number}
 use Rattle.jsonpath_select.proofs.tagged.TagLemmas.{path_from, path_tags, term_from, list_count_for_candidates-starts, each_tag-spread, compared-terms, joined-chosen, kept-chosen, filter-spread}
@@ -24,15 +24,15 @@ entered-spread doc true true f cs = each_tag-spread f (gathered doc true true) 0
 module _ (text : List ℕ) (doc : Document) where
   -- what a condition leaves
   abbrev pub found : Condition → List Location → Operand
-  found (lone p) cs = of_path (path_from text doc p 0 cs)
+  found (lone p) cs = of_path (path_from text doc (reached text doc) (values text doc) p 0 cs)
   found (compare a op b) cs = tags (numbers_where (holds text doc (compare a op b)) 0 cs)
   found (join op a b) cs = tags (numbers_where (holds text doc (join op a b)) 0 cs)
 
   pub tags-found : (c : Condition) (cs : List Location) → as_tags (length cs) (found c cs) ≡ Some (numbers_where (holds text doc c) 0 cs)
-  tags-found (lone p) cs = ap Some (path_tags text doc p cs)
+  tags-found (lone p) cs = ap Some (path_tags text doc (reached text doc) (values text doc) (λ ss c. refl) p cs)
   tags-found _ cs = refl
 
-  term-is : (a : Term) (cs : List Location) → is_side (term_from text doc a 0 cs) ≡ true
+  term-is : (a : Term) (cs : List Location) → is_side (term_from text doc (reached text doc) (values text doc) a 0 cs) ≡ true
   term-is (at_path p) cs = refl
   term-is (tree.literal token) cs = refl
 
@@ -42,7 +42,7 @@ module _ (text : List ℕ) (doc : Document) where
 
   mutual
     pub run_path : (p : Path) (rest : List Instruction) (cand : Found) (fs : List Found) (os : List Operand)
-        → run_all text doc (path_code p ++ rest) (state cand fs os) ≡ run_all text doc rest (state cand fs (of_path (path_from text doc p 0 (places cand.pairs)) ∷ os))
+        → run_all text doc (path_code p ++ rest) (state cand fs os) ≡ run_all text doc rest (state cand fs (of_path (path_from text doc (reached text doc) (values text doc) p 0 (places cand.pairs)) ∷ os))
     run_path (path true ss) rest cand fs os = run_steps ss true itself rest cand fs os
     run_path (path false ss) rest cand fs os = run_steps ss false itself rest cand fs os
 
@@ -82,9 +82,9 @@ module _ (text : List ℕ) (doc : Document) where
         let cs = places cand.pairs in
         ap (λ (is : List Instruction). run_all text doc is (state cand fs os)) (append_assoc (term_code a) (term_code b ++ compares op ∷ []) rest)
         ∙ run_term a ((term_code b ++ compares op ∷ []) ++ rest) cand fs os
-        ∙ ap (λ (is : List Instruction). run_all text doc is (state cand fs (term_from text doc a 0 cs ∷ os))) (append_assoc (term_code b) (compares op ∷ []) rest)
-        ∙ run_term b (compares op ∷ rest) cand fs (term_from text doc a 0 cs ∷ os)
-        ∙ rw (term-is a cs, term-is b cs) (ap (λ (ts : List ℕ). run_all text doc rest (state cand fs (tags ts ∷ os))) (compared-terms text doc op a b 0 cs))
+        ∙ ap (λ (is : List Instruction). run_all text doc is (state cand fs (term_from text doc (reached text doc) (values text doc) a 0 cs ∷ os))) (append_assoc (term_code b) (compares op ∷ []) rest)
+        ∙ run_term b (compares op ∷ rest) cand fs (term_from text doc (reached text doc) (values text doc) a 0 cs ∷ os)
+        ∙ rw (term-is a cs, term-is b cs) (ap (λ (ts : List ℕ). run_all text doc rest (state cand fs (tags ts ∷ os))) (compared-terms text doc (reached text doc) (values text doc) (λ ss c. refl) (λ p c. refl) (λ token c. refl) op a b 0 cs))
     run_condition (join op a b) rest cand fs os =
         let cs = places cand.pairs in
         ap (λ (is : List Instruction). run_all text doc is (state cand fs os)) (append_assoc (condition_code a) (condition_code b ++ joins op ∷ []) rest)
@@ -94,6 +94,6 @@ module _ (text : List ℕ) (doc : Document) where
         ∙ rw (tags-found a cs, tags-found b cs) (ap (λ (ts : List ℕ). run_all text doc rest (state cand fs (tags ts ∷ os))) (joined-chosen op (holds text doc a) (holds text doc b) 0 cs))
 
     run_term : (a : Term) (rest : List Instruction) (cand : Found) (fs : List Found) (os : List Operand)
-        → run_all text doc (term_code a ++ rest) (state cand fs os) ≡ run_all text doc rest (state cand fs (term_from text doc a 0 (places cand.pairs) ∷ os))
+        → run_all text doc (term_code a ++ rest) (state cand fs os) ≡ run_all text doc rest (state cand fs (term_from text doc (reached text doc) (values text doc) a 0 (places cand.pairs) ∷ os))
     run_term (at_path p) rest cand fs os = run_path p rest cand fs os
     run_term (tree.literal token) rest cand fs os = refl

@@ -1,6 +1,6 @@
 -- The scan of a tree's tokens gives the tree's instructions.
 use Rattle.std.proofs.Common.{◌≡◌, Bool, true, false, ◌||◌, List, [], ◌∷◌, ◌++◌, refl, sym, ap, ap₂, ◌∙◌, append_assoc, append-nil}
-use Rattle.std.proofs.Math.Bool.{or-false}
+use Rattle.std.proofs.Math.Bool.{or-false, or_assoc, or_comm}
 use Rattle.std.specs.Prelude.{IsTrue}
 use Rattle.jsonpath_paths.specs.tree.Tree.{Path, path, PathSteps, no_steps, step_then, Inner, plain, filter, Condition, lone, compare, join, Term, at_path, literal, is_comparison}
 use Rattle.jsonpath_paths.specs.tree.Visit.{path_tokens, step_tokens, one_step, inner_tokens, condition_tokens, term_tokens}
@@ -48,16 +48,9 @@ joining op h = rw h refl
 
 -- ---- marks
 
-or_swap : (o a b : Bool) → ((o || b) || a) ≡ (o || (a || b))
-or_swap true a b = refl
-or_swap false true true = refl
-or_swap false true false = refl
-or_swap false false true = refl
-or_swap false false false = refl
-
 note_own_step-note_own_step : (a b : Bool) (os : List Bool) → note_own_step a (note_own_step b os) ≡ note_own_step (a || b) os
 note_own_step-note_own_step a b [] = refl
-note_own_step-note_own_step a b (o ∷ os) = ap (λ c. c ∷ os) (or_swap o a b)
+note_own_step-note_own_step a b (o ∷ os) = ap (λ c. c ∷ os) (or_assoc o b a ∙ ap (λ c. o || c) (or_comm b a))
 
 note_own_step-false : (os : List Bool) → note_own_step false os ≡ os
 note_own_step-false [] = refl

@@ -1,7 +1,9 @@
 -- The code's steps beside the machine's.
 use Rattle.std.proofs.Common.{◌≡◌, ℕ, ◌+◌, ◌<◌, ◌&&◌, Bool, true, false, List, [], ◌∷◌, ◌++◌, map, length, get_or, cond, Option, Some, None, refl, sym, ap, ap₂, ◌∙◌, subst, length-append}
 use Rattle.std.specs.Prelude.{option_map, option_and_then}
-use Rattle.std.proofs.lemmas.List.{map-append}
+use Rattle.std.proofs.lemmas.Bool.{and_parts}
+use Rattle.std.proofs.lemmas.List.{map-append, same_from_push}
+use Rattle.std.proofs.lemmas.Option.{cond_some}
 use Rattle.jsonpath_nodes.specs.document.Document.{Document}
 use Rattle.jsonpath_paths.specs.declared.token.tokens.FilterToken.{FilterToken}
 use Rattle.jsonpath_paths.specs.declared.token.tokens.ParseToken.{ParseToken}
@@ -18,7 +20,6 @@ use Rattle.jsonpath_select.specs.declared.tagged.marks.Found.{Found}
 use Rattle.jsonpath_select.specs.declared.tagged.operand.Operand.{Operand}
 use Rattle.jsonpath_select.specs.declared.tagged.operand.Operand.TheVariants as operand
 use Rattle.jsonpath_nodes.specs.place.Mark.{shown, MarksStandAt}
-use Rattle.jsonpath_select.proofs.answer.OnceLemmas.{snoc_same}
 use Rattle.jsonpath_select.proofs.tagged.GroupLemmas.{Spread, spread_next}
 use Rattle.jsonpath_select.proofs.walk.MarkLemmas.{length-marks}
 use Rattle.jsonpath_select.proofs.tagged.TagLemmas.{each_tag-spread}
@@ -31,15 +32,6 @@ mapped f (Some x) y e = (x, refl, cc)
 pub chained : {A B : Type 0} (f : A → Option B) (o : Option A) (y : B) → option_and_then f o ≡ Some y → (x : A) × (o ≡ Some x) × (f x ≡ Some y)
 chained f None y e = cc
 chained f (Some x) y e = (x, refl, e)
-
-when : {X : Type 0} (b : Bool) (x y : X) → cond b (Some x) None ≡ Some y → (b ≡ true) × (x ≡ y)
-when true x y e = (refl, cc)
-when false x y e = cc
-
-both_true : (a b : Bool) → (a && b) ≡ true → (a ≡ true) × (b ≡ true)
-both_true true true e = (refl, refl)
-both_true true false e = cc
-both_true false b e = cc
 
 -- ---- for marks of either kind: whether they keep their locations, where they stand, what they hold
 
@@ -59,7 +51,7 @@ module _ {M : Type 0} (located : Bool) (stand_of : M → Location) (content_of :
   pub top_frame : (doc : Document) (cand : machine.Found) (fs : List machine.Found) (frames below : List (Found M)) (frame : Found M) → ShowsFrames located stand_of content_of doc (cand ∷ fs) frames → frames ≡ below ++ frame ∷ []
       → ShowsFound located stand_of content_of doc cand frame × ShowsFrames located stand_of content_of doc fs below
   top_frame doc cand fs frames below frame h e =
-      let both = snoc_same h.0 below h.1 frame (sym h.2 ∙ e) in
+      let both = same_from_push h.0 below h.1 frame (sym h.2 ∙ e) in
       (subst (ShowsFound located stand_of content_of doc cand) both.1 h.3, subst (ShowsFrames located stand_of content_of doc fs) both.0 h.4)
 
   size : (doc : Document) (cand : machine.Found) (frame : Found M) → ShowsFound located stand_of content_of doc cand frame → length frame.pairs.marks.items ≡ length (places cand.pairs)
@@ -74,7 +66,7 @@ module _ {M : Type 0} (located : Bool) (stand_of : M → Location) (content_of :
     pub top_operand : (o : machine.Operand) (os : List machine.Operand) (old below : List (Operand M)) (x : Operand M) → ShowsOperands located stand_of content_of text doc (o ∷ os) old → old ≡ below ++ x ∷ []
         → ShowsOperand located stand_of content_of text doc o x × ShowsOperands located stand_of content_of text doc os below
     top_operand o os old below x h e =
-        let both = snoc_same h.0 below h.1 x (sym h.2 ∙ e) in
+        let both = same_from_push h.0 below h.1 x (sym h.2 ∙ e) in
         (subst (ShowsOperand located stand_of content_of text doc o) both.1 h.3, subst (ShowsOperands located stand_of content_of text doc os) both.0 h.4)
 
     push_operand : (o : machine.Operand) (os : List machine.Operand) (old new : List (Operand M)) (top : Operand M) → ShowsOperands located stand_of content_of text doc os old → ShowsOperand located stand_of content_of text doc o top → new ≡ old ++ top ∷ [] → ShowsOperands located stand_of content_of text doc (o ∷ os) new
@@ -171,7 +163,7 @@ module _ {M : Type 0} (located : Bool) (stand_of : M → Location) (content_of :
         → inside text doc (compares op) fs os ≡ Some t → old ≡ mid ++ right ∷ [] → mid ≡ new ++ left ∷ [] → IsOfTerm left × IsOfTerm right
     compares_terms op (cand ∷ fs) (b ∷ a ∷ os) t old mid new right left h e is was =
         let m = mapped (λ more. let s : State = record { frames = cand ∷ fs; operands = more } in s) (cond (is_side a && is_side b) (Some (tags (compared doc op 0 (length (places cand.pairs)) a b) ∷ os)) None) t e in
-        let terms = both_true (is_side a) (is_side b) (when (is_side a && is_side b) (tags (compared doc op 0 (length (places cand.pairs)) a b) ∷ os) m.0 m.1).0 in
+        let terms = and_parts (is_side a) (is_side b) (cond_some (is_side a && is_side b) (tags (compared doc op 0 (length (places cand.pairs)) a b) ∷ os) m.0 m.1).0 in
         let first = top_operand b (a ∷ os) old mid right h is in
         let second = top_operand a os mid new left first.1 was in
         (of_term a left terms.0 second.0, of_term b right terms.1 first.0)
@@ -276,7 +268,7 @@ module _ {M : Type 0} (located : Bool) (stand_of : M → Location) (content_of :
     compare_done op (cand ∷ fs) (b ∷ a ∷ os) t frames below frame old mid low new right left top count numbers hf ho e is many first second decides shows more =
         let answer = tags (compared doc op 0 (length (places cand.pairs)) a b) in
         let m = mapped (λ operands. let s : State = record { frames = cand ∷ fs; operands = operands } in s) (cond (is_side a && is_side b) (Some (answer ∷ os)) None) t e in
-        let same : answer ∷ os ≡ m.0 = (when (is_side a && is_side b) (answer ∷ os) m.0 m.1).1 in
+        let same : answer ∷ os ≡ m.0 = (cond_some (is_side a && is_side b) (answer ∷ os) m.0 m.1).1 in
         let one = top_operand b (a ∷ os) old mid right ho first in
         let two = top_operand a os mid low left one.1 second in
         let decided : numbers ≡ compared doc op 0 (length (places cand.pairs)) a b = decides a b two.0 one.0 ∙ ap (λ k. compared doc op 0 k a b) (number doc cand fs frames below frame count hf is many) in

@@ -6,10 +6,10 @@ use Rattle.std.specs.Cmp.{IsTotalOrder}
 use Rattle.std.specs.List.{AllByRecursion, IsDistinct, list_any}
 use Rattle.std.specs.Ordering.{eq_by_cmp}
 use Rattle.std.proofs.Math.Seq.{take-suc}
-use Rattle.std.proofs.lemmas.Bool.{or_parts}
 use Rattle.std.proofs.lemmas.Cmp.{eq_by_cmp_equiv}
 use Rattle.std.proofs.lemmas.List.{map-append}
 use Rattle.std.proofs.lemmas.List.Folds.{list_any-append}
+use Rattle.std.proofs.lemmas.Map.Keys.{IsDistinct-push}
 
 pub all_snoc : {X : Type 0} (P : X → Type 0) (xs : List X) (x : X) → AllByRecursion P xs → P x → AllByRecursion P (xs ++ x ∷ [])
 all_snoc P [] x h k = (k, tt)
@@ -27,13 +27,6 @@ module _ {K X : Type 0} {R : X → X → Ordering} (total : IsTotalOrder R) (g :
   unfolding IsDistinct
   none_met seen empty = (tt, λ k. ap (list_any (is_at (by_key k))) empty)
 
-  distinct_snoc : (xs : List X) (x : X) → IsDistinct (eq_by_cmp R) xs → list_any (eq_by_cmp R x) xs ≡ false → IsDistinct (eq_by_cmp R) (xs ++ x ∷ [])
-  unfolding IsDistinct
-  distinct_snoc [] x h k = (tt, tt)
-  distinct_snoc (y ∷ xs) x h k =
-      let parts = or_parts (eq_by_cmp R x y) (list_any (eq_by_cmp R x) xs) k in
-      (all_snoc (λ z. eq_by_cmp R y z ≡ false) xs x h.0 ((eq_by_cmp_equiv total).symm y x ∙ parts.0), distinct_snoc xs x h.1 parts.1)
-
   one_or : (a b : Bool) → cond a true b ≡ (b || (a || false))
   one_or true true = refl
   one_or true false = refl
@@ -48,7 +41,7 @@ module _ {K X : Type 0} {R : X → X → Ordering} (total : IsTotalOrder R) (g :
       → ((q : K) → contains by_key next q ≡ cond (is_at (by_key k) q) true (contains by_key seen q)) → AreMet seen xs → AreMet next (xs ++ x ∷ [])
   one_more_met seen next xs k x is fresh updated met =
       let none : list_any (eq_by_cmp R x) xs ≡ false = ap (λ y. list_any (eq_by_cmp R y) xs) (sym is) ∙ sym (met.1 k) ∙ is_new (contains by_key seen k) fresh in (
-        distinct_snoc xs x met.0 none,
+        IsDistinct-push (eq_by_cmp_equiv total) xs x met.0 none,
         λ q. updated q
             ∙ ap₂ (λ (a b : Bool). cond a true b) ((eq_by_cmp_equiv total).symm (g k) (g q) ∙ ap (eq_by_cmp R (g q)) is) (met.1 q)
             ∙ one_or (eq_by_cmp R (g q) x) (list_any (eq_by_cmp R (g q)) xs) ∙ sym (list_any-append (eq_by_cmp R (g q)) xs (x ∷ [])),

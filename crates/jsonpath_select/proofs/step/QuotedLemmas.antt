@@ -1,9 +1,10 @@
 -- What a quoted text means, character by character.
-use Rattle.std.proofs.Common.{◌≡◌, ℕ, ◌-◌, ◌==◌, Bool, true, false, ◌||◌, List, [], ◌∷◌, ◌++◌, length, take, Option, Some, None, refl, sym, ap, ◌∙◌, append-nil, append_assoc, length-append, arith}
+use Rattle.std.proofs.Common.{◌≡◌, ℕ, ◌-◌, ◌==◌, Bool, true, false, List, [], ◌∷◌, ◌++◌, length, take, Option, Some, None, refl, sym, ap, ◌∙◌, append-nil, append_assoc, length-append, arith}
 use Rattle.std.specs.List.{list_any}
 use Rattle.std.specs.Option.{MatchOption}
 use Rattle.std.specs.Str.{chars, IsUtf8, encode_utf8_all}
 use Rattle.std.specs.Char.{encode_utf8}
+use Rattle.std.proofs.lemmas.Bool.{or_parts}
 use Rattle.std.proofs.lemmas.Str.{cons_from_encodes, length-le-encodes, encodes-chars, chars-nil, chars_past_char}
 use Rattle.std.proofs.lemmas.List.{nil_from_length}
 use Rattle.std.proofs.Math.Seq.{take-append_seam}
@@ -53,19 +54,10 @@ module _ {X : Type 0} (rest : X → List ℕ) where
 
 -- ---- the backslashes
 
-left_false : (a b : Bool) → (a || b) ≡ false → a ≡ false
-left_false true b h = h
-left_false false b h = refl
-
-right_false : (a b : Bool) → (a || b) ≡ false → b ≡ false
-right_false true b h = cc
-right_false false b h = h
-
 pub unescaped-plain : (cs : List ℕ) → list_any (λ c. c == backslash) cs ≡ false → unescaped cs ≡ cs
 unescaped-plain (c ∷ d ∷ cs) h =
-    let here : (c == backslash) ≡ false = left_false (c == backslash) (list_any (λ e. e == backslash) (d ∷ cs)) h in
-    let later : list_any (λ e. e == backslash) (d ∷ cs) ≡ false = right_false (c == backslash) (list_any (λ e. e == backslash) (d ∷ cs)) h in
-    rw here (ap (λ (es : List ℕ). c ∷ es) (unescaped-plain (d ∷ cs) later))
+    let parts = or_parts (c == backslash) (list_any (λ e. e == backslash) (d ∷ cs)) h in
+    rw parts.0 (ap (λ (es : List ℕ). c ∷ es) (unescaped-plain (d ∷ cs) parts.1))
 unescaped-plain _ h = refl
 
 -- a text that begins with a quote means what stands inside, up to its last character

@@ -2,12 +2,14 @@
 use Rattle.std.proofs.Common.{◌≡◌, ℕ, suc, ◌==◌, ◌<◌, ◌≢◌, Bool, true, false, List, [], ◌∷◌, ◌++◌, length, cond, refl, ap, ap₂, ◌∙◌, append-nil, arith, eq-eqb, ne_eqb}
 use Rattle.std.specs.Prelude.{filter}
 use Rattle.jsonpath_nodes.specs.document.Document.{Document}
-use Rattle.jsonpath_paths.specs.tree.Tree.{Path, path, Term}
+use Rattle.jsonpath_paths.specs.tree.Tree.{Path, path, PathSteps, Term}
 use Rattle.jsonpath_paths.specs.tree.Tree as tree
 use Rattle.jsonpath_paths.specs.declared.token.tokens.FilterToken.{FilterToken}
+use Rattle.jsonpath_paths.specs.declared.token.tokens.ParseToken.{ParseToken}
+use Rattle.jsonpath_nodes.specs.compare.Comparisons.{Seen}
 use Rattle.jsonpath_nodes.specs.place.Location.{Location}
 use Rattle.jsonpath_nodes.specs.place.NumbersWhere.{numbers_where}
-use Rattle.jsonpath_select.specs.Meaning.{is_some_location, reached, values, values_at}
+use Rattle.jsonpath_select.specs.Meaning.{is_some_location, values_at}
 use Rattle.jsonpath_select.specs.Parts.{literals, has_pair, joined}
 use Rattle.jsonpath_select.specs.plan.Machine.{Tagged, tagged, places, front_of_tag, behind_tag, each_tag, some_tags, all_tags_or_none, Found, found_tags, list_count_for_candidates, starts, Operand, of_path, literal, values_front, values_behind, compared, is_next, after, joined_tags, kept_by_number, spread}
 use Rattle.jsonpath_select.proofs.tagged.GroupLemmas.{places_tagged}
@@ -79,40 +81,44 @@ pub chosen-same : (b : Bool) (t : ℕ) (cs : List Location) → all_tags_or_none
 chosen-same b t [] = refl
 chosen-same b t (c ∷ cs) = ap (λ (ts : List ℕ). cond b (t ∷ ts) ts) (chosen-same b (suc t) cs)
 
-module _ (text : List ℕ) (doc : Document) where
+-- where a path leads from a candidate, and the values of a term there: as the meaning says, or by sets
+module _ (text : List ℕ) (doc : Document) (reach : Path → Location → List Location) (values_of : Term → Location → List Seen) where
   -- what a path finds, for candidates numbered from t on
   abbrev pub path_from : Path → ℕ → List Location → Found
-  path_from (path true ss) t cs = record { shared = true; pairs = spread (reached text doc (path true ss)) 0 ([] ∷ []) }
-  path_from (path false ss) t cs = record { shared = false; pairs = spread (reached text doc (path false ss)) t cs }
-
-  pub path_tags : (p : Path) (cs : List Location) → found_tags (path_from p 0 cs).shared (length cs) (path_from p 0 cs).pairs ≡ numbers_where (λ c. is_some_location (reached text doc p c)) 0 cs
-  path_tags (path true ss) cs =
-      ap (λ (ls : List Location). all_tags_or_none (is_some_location ls) 0 (length cs)) (places_alone 0 (reached text doc (path true ss) [])) ∙ chosen-same (is_some_location (reached text doc (path true ss) [])) 0 cs
-  path_tags (path false ss) cs = some_tags-spread (reached text doc (path false ss)) 0 cs
+  path_from (path true ss) t cs = record { shared = true; pairs = spread (reach (path true ss)) 0 ([] ∷ []) }
+  path_from (path false ss) t cs = record { shared = false; pairs = spread (reach (path false ss)) t cs }
 
   -- what a term leaves, for candidates numbered from t on
   abbrev pub term_from : Term → ℕ → List Location → Operand
   term_from (tree.at_path p) t cs = of_path (path_from p t cs)
   term_from (tree.literal token) t cs = literal (literals text token)
 
-  front_of_tag-term : (a : Term) (t : ℕ) (c : Location) (cs : List Location) → values_front doc t (term_from a t (c ∷ cs)) ≡ values text doc a c
-  front_of_tag-term (tree.at_path (path true ss)) t c cs = ap (values_at doc) (places_alone 0 (reached text doc (path true ss) []))
-  front_of_tag-term (tree.at_path (path false ss)) t c cs = ap (values_at doc) (front_of_tag-spread (reached text doc (path false ss)) t c cs)
-  front_of_tag-term (tree.literal token) t c cs = refl
+  module _ (rooted : (ss : PathSteps) (c : Location) → reach (path true ss) [] ≡ reach (path true ss) c) where
+    pub path_tags : (p : Path) (cs : List Location) → found_tags (path_from p 0 cs).shared (length cs) (path_from p 0 cs).pairs ≡ numbers_where (λ c. is_some_location (reach p c)) 0 cs
+    path_tags (path true ss) cs =
+        ap (λ (ls : List Location). all_tags_or_none (is_some_location ls) 0 (length cs)) (places_alone 0 (reach (path true ss) [])) ∙ chosen-same (is_some_location (reach (path true ss) [])) 0 cs
+        ∙ (λ i. numbers_where (λ c. is_some_location (rooted ss c i)) 0 cs)
+    path_tags (path false ss) cs = some_tags-spread (reach (path false ss)) 0 cs
 
-  behind_tag-term : (a : Term) (t : ℕ) (c : Location) (cs : List Location) → values_behind t (term_from a t (c ∷ cs)) ≡ term_from a (suc t) cs
-  behind_tag-term (tree.at_path (path false ss)) t c cs = ap (λ (ps : List Tagged). of_path (record { shared = false; pairs = ps })) (behind_tag-spread (reached text doc (path false ss)) t c cs)
-  behind_tag-term _ t c cs = refl
+    module _ (at_paths : (p : Path) (c : Location) → values_at doc (reach p c) ≡ values_of (tree.at_path p) c) (at_literals : (token : ParseToken) (c : Location) → literals text token ≡ values_of (tree.literal token) c) where
+      front_of_tag-term : (a : Term) (t : ℕ) (c : Location) (cs : List Location) → values_front doc t (term_from a t (c ∷ cs)) ≡ values_of a c
+      front_of_tag-term (tree.at_path (path true ss)) t c cs = ap (values_at doc) (places_alone 0 (reach (path true ss) []) ∙ rooted ss c) ∙ at_paths (path true ss) c
+      front_of_tag-term (tree.at_path (path false ss)) t c cs = ap (values_at doc) (front_of_tag-spread (reach (path false ss)) t c cs) ∙ at_paths (path false ss) c
+      front_of_tag-term (tree.literal token) t c cs = at_literals token c
 
-  pub compared-terms : (op : FilterToken) (a b : Term) (t : ℕ) (cs : List Location)
-      → compared doc op t (length cs) (term_from a t cs) (term_from b t cs) ≡ numbers_where (λ c. has_pair op (values text doc a c) (values text doc b c)) t cs
-  compared-terms op a b t [] = refl
-  compared-terms op a b t (c ∷ cs) =
-      let test : has_pair op (values_front doc t (term_from a t (c ∷ cs))) (values_front doc t (term_from b t (c ∷ cs))) ≡ has_pair op (values text doc a c) (values text doc b c) =
-      ap₂ (has_pair op) (front_of_tag-term a t c cs) (front_of_tag-term b t c cs) in
-      let later : compared doc op (suc t) (length cs) (values_behind t (term_from a t (c ∷ cs))) (values_behind t (term_from b t (c ∷ cs))) ≡ numbers_where (λ d. has_pair op (values text doc a d) (values text doc b d)) (suc t) cs =
-      ap₂ (compared doc op (suc t) (length cs)) (behind_tag-term a t c cs) (behind_tag-term b t c cs) ∙ compared-terms op a b (suc t) cs in
-      ap₂ (λ (b : Bool) (ts : List ℕ). cond b (t ∷ ts) ts) test later
+      behind_tag-term : (a : Term) (t : ℕ) (c : Location) (cs : List Location) → values_behind t (term_from a t (c ∷ cs)) ≡ term_from a (suc t) cs
+      behind_tag-term (tree.at_path (path false ss)) t c cs = ap (λ (ps : List Tagged). of_path (record { shared = false; pairs = ps })) (behind_tag-spread (reach (path false ss)) t c cs)
+      behind_tag-term _ t c cs = refl
+
+      pub compared-terms : (op : FilterToken) (a b : Term) (t : ℕ) (cs : List Location)
+          → compared doc op t (length cs) (term_from a t cs) (term_from b t cs) ≡ numbers_where (λ c. has_pair op (values_of a c) (values_of b c)) t cs
+      compared-terms op a b t [] = refl
+      compared-terms op a b t (c ∷ cs) =
+          let test : has_pair op (values_front doc t (term_from a t (c ∷ cs))) (values_front doc t (term_from b t (c ∷ cs))) ≡ has_pair op (values_of a c) (values_of b c) =
+          ap₂ (has_pair op) (front_of_tag-term a t c cs) (front_of_tag-term b t c cs) in
+          let later : compared doc op (suc t) (length cs) (values_behind t (term_from a t (c ∷ cs))) (values_behind t (term_from b t (c ∷ cs))) ≡ numbers_where (λ d. has_pair op (values_of a d) (values_of b d)) (suc t) cs =
+          ap₂ (compared doc op (suc t) (length cs)) (behind_tag-term a t c cs) (behind_tag-term b t c cs) ∙ compared-terms op a b (suc t) cs in
+          ap₂ (λ (b : Bool) (ts : List ℕ). cond b (t ∷ ts) ts) test later
 
 -- ---- ascending tags
 
@@ -153,7 +159,7 @@ module _ (test : Location → Bool) where
       ap₂ (λ (b : Bool) (ts : List ℕ). cond b (p ∷ kept_by_number (suc t) ts ps) (kept_by_number (suc t) ts ps)) (next-chosen t p.1 (places ps)) (after-chosen t p.1 (places ps))
       ∙ ap (λ (qs : List Tagged). cond (test p.1) (p ∷ qs) qs) (kept-chosen (suc t) ps)
 
-  filter-tagged : (t : ℕ) (ls : List Location) (ps : List Tagged) → filter (λ (p : Tagged). test p.1) (tagged t ls ++ ps) ≡ tagged t (filter test ls) ++ filter (λ (p : Tagged). test p.1) ps
+  pub filter-tagged : (t : ℕ) (ls : List Location) (ps : List Tagged) → filter (λ (p : Tagged). test p.1) (tagged t ls ++ ps) ≡ tagged t (filter test ls) ++ filter (λ (p : Tagged). test p.1) ps
   filter-tagged t [] ps = refl
   filter-tagged t (l ∷ ls) ps = by (test l) (filter-tagged t ls ps)
     where

@@ -1,7 +1,12 @@
 -- What leads to nothing needs not be followed: a path leads from some locations where it leads from those alone that lead on.
-use Rattle.std.proofs.Common.{◌≡◌, ℕ, Bool, true, false, cond, ◌&&◌, ◌||◌, List, [], ◌∷◌, ◌++◌, Ordering, Less, Equal, Greater, is_eq, refl, sym, ap, ◌∙◌, append_assoc, append-nil}
+use Rattle.std.proofs.Common.{◌≡◌, ℕ, Bool, true, false, cond, ◌&&◌, ◌||◌, List, [], ◌∷◌, ◌++◌, Equal, refl, sym, ap, ap₂, ◌∙◌, append-nil}
 use Rattle.std.specs.Prelude.{filter}
+use Rattle.std.specs.Cmp.{Equal-is}
 use Rattle.std.specs.List.{list_any}
+use Rattle.std.proofs.lemmas.Grind.{flat_map-append}
+use Rattle.std.proofs.lemmas.List.Elements.{filter-append}
+use Rattle.std.proofs.lemmas.List.Folds.{list_any-append}
+use Rattle.std.proofs.lemmas.Map.Views.{any-filter_same}
 use Rattle.jsonpath_nodes.specs.document.Document.{Document}
 use Rattle.jsonpath_paths.specs.tree.Tree.{PathSteps, Inner}
 use Rattle.jsonpath_paths.specs.tree.Tree as tree
@@ -15,23 +20,6 @@ use Rattle.jsonpath_select.specs.Parts.{plain_of}
 
 abbrev pub Additive : (List Location → List Location) → Type 0
 Additive f = (l : Location) (ls : List Location) → f (l ∷ ls) ≡ f (l ∷ []) ++ f ls
-
-pub filter-append : (test : Location → Bool) (xs ys : List Location) → filter test (xs ++ ys) ≡ filter test xs ++ filter test ys
-filter-append test [] ys = refl
-filter-append test (x ∷ xs) ys = by (test x) (filter-append test xs ys)
-  where
-    by : (b : Bool) → filter test (xs ++ ys) ≡ filter test xs ++ filter test ys
-        → cond b (x ∷ filter test (xs ++ ys)) (filter test (xs ++ ys)) ≡ cond b (x ∷ filter test xs) (filter test xs) ++ filter test ys
-    by true e = ap (λ (zs : List Location). x ∷ zs) e
-    by false e = e
-
-pub any-append : (test : Location → Bool) (xs ys : List Location) → list_any test (xs ++ ys) ≡ (list_any test xs || list_any test ys)
-any-append test [] ys = refl
-any-append test (x ∷ xs) ys = by (test x) (any-append test xs ys)
-  where
-    by : (b : Bool) → list_any test (xs ++ ys) ≡ (list_any test xs || list_any test ys) → (b || list_any test (xs ++ ys)) ≡ ((b || list_any test xs) || list_any test ys)
-    by true e = refl
-    by false e = e
 
 any-filter : (one two : Location → Bool) (xs : List Location) → list_any two (filter one xs) ≡ list_any (λ x. one x && two x) xs
 any-filter one two [] = refl
@@ -61,7 +49,7 @@ none-filter test (x ∷ xs) h = by (test x) h (none-filter test xs)
 
 pub any_of : (f : List Location → List Location) (test : Location → Bool) → f [] ≡ [] → Additive f → (ls : List Location) → list_any test (f ls) ≡ list_any (λ l. list_any test (f (l ∷ []))) ls
 any_of f test none add [] = ap (list_any test) none
-any_of f test none add (l ∷ ls) = ap (list_any test) (add l ls) ∙ any-append test (f (l ∷ [])) (f ls) ∙ ap (λ c. list_any test (f (l ∷ [])) || c) (any_of f test none add ls)
+any_of f test none add (l ∷ ls) = ap (list_any test) (add l ls) ∙ list_any-append test (f (l ∷ [])) (f ls) ∙ ap (λ c. list_any test (f (l ∷ [])) || c) (any_of f test none add ls)
 
 -- those from which nothing that passes is made can go
 kept_of : (f : List Location → List Location) (test : Location → Bool) → f [] ≡ [] → Additive f → (ls : List Location)
@@ -84,12 +72,8 @@ kept_of f test none add (l ∷ ls) = by (list_any test (f (l ∷ []))) refl (kep
 pub from_each-additive : (doc : Document) (f : Document → List Location) → Additive (from_each doc f)
 from_each-additive doc f l ls = ap (λ (xs : List Location). xs ++ from_each doc f ls) (sym (append-nil (from doc f l)))
 
-pub from_each-append : (doc : Document) (f : Document → List Location) (xs ys : List Location) → from_each doc f (xs ++ ys) ≡ from_each doc f xs ++ from_each doc f ys
-from_each-append doc f [] ys = refl
-from_each-append doc f (x ∷ xs) ys = ap (λ (zs : List Location). from doc f x ++ zs) (from_each-append doc f xs ys) ∙ sym (append_assoc (from doc f x) (from_each doc f xs) (from_each doc f ys))
-
 pub then_each : (doc : Document) (f : Document → List Location) (g : List Location → List Location) → Additive g → Additive (λ ls. from_each doc f (g ls))
-then_each doc f g add l ls = ap (from_each doc f) (add l ls) ∙ from_each-append doc f (g (l ∷ [])) (g ls)
+then_each doc f g add l ls = ap (from_each doc f) (add l ls) ∙ flat_map-append (from doc f) (g (l ∷ [])) (g ls)
 
 then_filter : (test : Location → Bool) (g : List Location → List Location) → Additive g → Additive (λ ls. filter test (g ls))
 then_filter test g add l ls = ap (filter test) (add l ls) ∙ filter-append test (g (l ∷ [])) (g ls)
@@ -97,18 +81,9 @@ then_filter test g add l ls = ap (filter test) (add l ls) ∙ filter-append test
 -- ---- each once
 
 module _ (apart : (l m : Location) → location_cmp l m ≡ Equal → l ≡ m) (test : Location → Bool) where
-  any_kept : (x : Location) (before : List Location) → test x ≡ true → list_any (is_same x) before ≡ list_any (is_same x) (filter test before)
-  any_kept x [] h = refl
-  any_kept x (b ∷ before) h = by (location_cmp x b) refl (test b) refl (any_kept x before h)
-    where
-      by : (o : Ordering) → location_cmp x b ≡ o → (t : Bool) → test b ≡ t → list_any (is_same x) before ≡ list_any (is_same x) (filter test before)
-          → (is_eq o || list_any (is_same x) before) ≡ list_any (is_same x) (cond t (b ∷ filter test before) (filter test before))
-      by Equal is true passes later = rw is refl
-      by Equal is false fails later = absurd (let bad : true ≡ false = sym h ∙ ap test (apart x b is) ∙ fails in cc)
-      by Less is true passes later = rw is later
-      by Less is false fails later = later
-      by Greater is true passes later = rw is later
-      by Greater is false fails later = later
+  -- whether one of those that pass is the same
+  pub same_passes : (l : Location) (ms : List Location) → list_any (is_same l) (filter test ms) ≡ (test l && list_any (is_same l) ms)
+  same_passes l = any-filter_same (is_same l) test (test l) (λ m same. sym (ap test (apart l m ((Equal-is (location_cmp l m)).0 same))))
 
   once_kept : (before xs : List Location) → filter test (each_once_after before xs) ≡ each_once_after (filter test before) (filter test xs)
   once_kept before [] = refl
@@ -119,11 +94,11 @@ module _ (apart : (l m : Location) → location_cmp l m ≡ Equal → l ≡ m) (
           → filter test (each_once_after (before ++ x ∷ []) xs) ≡ each_once_after (filter test (before ++ x ∷ [])) (filter test xs)
           → filter test (cond b (each_once_after before xs) (x ∷ each_once_after (before ++ x ∷ []) xs)) ≡ each_once_after (filter test before) (cond t (x ∷ filter test xs) (filter test xs))
       by true is true passes old new =
-          let there : list_any (is_same x) (filter test before) ≡ true = sym (any_kept x before passes) ∙ is in
+          let there : list_any (is_same x) (filter test before) ≡ true = same_passes x before ∙ ap₂ (λ a b. a && b) passes is in
           rw there old
       by true is false fails old new = old
       by false is true passes old new =
-          let absent : list_any (is_same x) (filter test before) ≡ false = sym (any_kept x before passes) ∙ is in
+          let absent : list_any (is_same x) (filter test before) ≡ false = same_passes x before ∙ ap₂ (λ a b. a && b) passes is in
           let longer : filter test (before ++ x ∷ []) ≡ filter test before ++ x ∷ [] = filter-append test before (x ∷ []) ∙ ap (λ t. filter test before ++ cond t (x ∷ []) []) passes in
           rw (absent, passes) (ap (λ (zs : List Location). x ∷ zs) (new ∙ ap (λ (ys : List Location). each_once_after ys (filter test xs)) longer))
       by false is false fails old new =

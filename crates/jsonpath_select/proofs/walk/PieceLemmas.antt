@@ -1,6 +1,8 @@
 -- What a list leads to begins with what its front leads to, so the first place of an answer is found from one piece at a time.
 use Rattle.std.proofs.Common.{◌≡◌, ℕ, ◌+◌, Option, Some, None, Bool, true, false, cond, List, [], ◌∷◌, ◌++◌, take, drop, length, ◌==◌, suc, ne_eqb, arith, Equal, refl, sym, ap, ◌∙◌}
+use Rattle.std.proofs.lemmas.Grind.{flat_map-append}
 use Rattle.std.proofs.lemmas.List.{drop-drop, take-append-drop}
+use Rattle.std.proofs.lemmas.List.Elements.{filter-append}
 use Rattle.std.specs.Prelude.{filter}
 use Rattle.std.specs.List.{list_any}
 use Rattle.jsonpath_nodes.specs.document.Document.{Document}
@@ -8,12 +10,12 @@ use Rattle.jsonpath_paths.specs.tree.Tree.{PathSteps, Inner, Condition}
 use Rattle.jsonpath_paths.specs.tree.Tree as tree
 use Rattle.jsonpath_nodes.specs.place.Location.{Location, location_cmp, is_same, below, flat}
 use Rattle.jsonpath_nodes.specs.step.SameMembers.{SomeOfASet, EachOnceKeepsMembers}
-use Rattle.jsonpath_nodes.specs.step.Steps.{every, step, all_below, from_each, single_steps, each_once, each_once_after, flattened}
+use Rattle.jsonpath_nodes.specs.step.Steps.{every, step, all_below, from, from_each, single_steps, each_once, each_once_after, flattened}
 use Rattle.jsonpath_select.specs.Meaning.{follow, inner_on, holds, is_some_location, has_own_step}
 use Rattle.jsonpath_select.specs.Parts.{plain_of}
 use Rattle.jsonpath_nodes.specs.place.Mark.{MarksStandAt}
 use Rattle.jsonpath_select.specs.plan.First.{kept_by}
-use Rattle.jsonpath_select.proofs.walk.LeadingLemmas.{filter-append, from_each-append, none-filter, pruned, some_lead}
+use Rattle.jsonpath_select.proofs.walk.LeadingLemmas.{none-filter, pruned, some_lead}
 
 -- the first list begins with the second
 abbrev Begins : List Location → List Location → Type 0
@@ -37,11 +39,11 @@ module _ (text : List ℕ) (doc : Document) where
       → Begins (filter pass (cond own (flattened doc whole) whole)) (filter pass (cond own (flattened doc front) front))
   passing-begins true pass whole front h =
       let once = each_once-begins [] (from_each doc flat front) (from_each doc flat h.0) in
-      filter-begins pass _ _ (once.0, ap (λ ls. flattened doc ls) h.1 ∙ ap each_once (from_each-append doc flat front h.0) ∙ once.1)
+      filter-begins pass _ _ (once.0, ap (λ ls. flattened doc ls) h.1 ∙ ap each_once (flat_map-append (from doc flat) front h.0) ∙ once.1)
   passing-begins false pass whole front h = filter-begins pass whole front h
 
   each-begins : (f : Document → List Location) (whole front : List Location) → Begins whole front → Begins (from_each doc f whole) (from_each doc f front)
-  each-begins f whole front h = (from_each doc f h.0, ap (from_each doc f) h.1 ∙ from_each-append doc f front h.0)
+  each-begins f whole front h = (from_each doc f h.0, ap (from_each doc f) h.1 ∙ flat_map-append (from doc f) front h.0)
 
   inner_on-begins : (inner : Inner) (leaves : Bool) (whole front : List Location) → Begins whole front → Begins (inner_on text doc inner leaves whole) (inner_on text doc inner leaves front)
   inner_on-begins (tree.plain token) true whole front h = each-begins (single_steps (plain_of text token)) _ _ (each-begins below whole front h)

@@ -1,9 +1,11 @@
 -- The walk over sets: lists of candidates at a time lead where the meaning by sets leads from each.
-use Rattle.std.proofs.Common.{◌≡◌, ℕ, suc, ◌≤◌, Bool, true, false, cond, ◌&&◌, ◌||◌, List, [], ◌∷◌, ◌++◌, length, map, drop, Ordering, Less, Equal, Greater, is_eq, refl, sym, ap, ap₂, subst, ◌∙◌, append_assoc, drop_of_length-le, drop-cons, get_or, Option, ◌+◌, ◌<◌, add-one}
-use Rattle.std.proofs.Math.Bool.{or-true}
+use Rattle.std.proofs.Common.{◌≡◌, ℕ, suc, ◌≤◌, Bool, true, false, cond, ◌&&◌, ◌||◌, List, [], ◌∷◌, ◌++◌, length, map, drop, Equal, refl, sym, ap, ap₂, subst, ◌∙◌, append-nil, append_assoc, drop_of_length-le, drop-cons, get_or, Option, ◌+◌, ◌<◌, add-one}
+use Rattle.std.proofs.Math.Bool.{and-true, or-true}
+use Rattle.std.proofs.lemmas.Cmp.{tied_itself}
+use Rattle.std.proofs.lemmas.List.{map-id}
+use mathlib.Core.List.{map-map}
 use Rattle.std.specs.Prelude.{filter}
 use Rattle.std.specs.List.{AllByRecursion, list_any}
-use Rattle.std.specs.Ordering.{ordering_reverse}
 use Rattle.jsonpath_nodes.specs.document.Document.{Document}
 use Rattle.jsonpath_paths.specs.tree.Tree.{Path, path, Inner, Condition, Term}
 use Rattle.jsonpath_paths.specs.tree.Tree as tree
@@ -16,9 +18,8 @@ use Rattle.jsonpath_nodes.specs.compare.Comparisons.{Seen}
 use Rattle.jsonpath_nodes.specs.place.SpotPlace.{StandAt, look, location_of, sight_of, value_of}
 use Rattle.jsonpath_nodes.specs.step.SameMembers.{SomeOfASet, KeptOfASet, topmost}
 use Rattle.jsonpath_nodes.specs.step.Steps.{every, step, all_below, flattened}
-use Rattle.jsonpath_select.specs.Meaning.{is_some_location, values_at, has_own_step, candidates, holds}
-use Rattle.jsonpath_select.specs.Parts.{literals, has_pair}
-use Rattle.jsonpath_select.specs.plan.Machine.{Tagged, tagged, places, each_tag, spread, starts, itself, found_tags, all_tags_or_none, Operand, of_path, literal, kept_by_number, values_front, values_behind, compared, gathered, entered, Found}
+use Rattle.jsonpath_select.specs.Meaning.{is_some_location, has_own_step, candidates, holds}
+use Rattle.jsonpath_select.specs.plan.Machine.{Tagged, tagged, places, each_tag, spread, starts, itself, found_tags, kept_by_number, compared, gathered, entered}
 use Rattle.jsonpath_select.specs.plan.SetWalk.{set_reached, set_follow, set_inner, set_holds, set_led, set_step, found_sets, term_sets, below_topmost}
 use Rattle.jsonpath_select.specs.SetMeaning.{values_by}
 use Rattle.jsonpath_select.specs.plan.Shown.{Shows}
@@ -28,9 +29,10 @@ use Rattle.jsonpath_paths.specs.tree.View.{path_of, inner_of, steps_of_list, pat
 use Rattle.jsonpath_paths.specs.declared.tree.parser_node.ParserNode.{ParserNode, out-ParserNode}
 use Rattle.jsonpath_paths.specs.declared.tree.parser_node.ParserStep.{ParserStep}
 use Rattle.jsonpath_select.proofs.tagged.GroupLemmas.{places_tagged}
+use Rattle.jsonpath_select.proofs.walk.LeadingLemmas.{same_passes}
 use Rattle.jsonpath_select.proofs.walk.MarkLemmas.{length-marks}
 use Rattle.jsonpath_select.proofs.machine.RunLemmas.{entered-spread}
-use Rattle.jsonpath_select.proofs.tagged.TagLemmas.{kept-chosen, each_tag-spread, front_of_tag-spread, behind_tag-spread, some_tags-spread, places_alone, chosen-same}
+use Rattle.jsonpath_select.proofs.tagged.TagLemmas.{path_tags, term_from, compared-terms, kept-chosen, each_tag-spread, places_alone, filter-tagged}
 
 -- spots that show pairs
 abbrev pub ShowsSpots : Document → List Tagged → TaggedMarks Spot → Type 0
@@ -46,13 +48,8 @@ pub turned : (doc : Document) (g : List Location → List Location) (f : Locatio
 turned doc g f ls n after is shows = subst (λ (ps : List Tagged). ShowsSpots doc ps after) (ap (λ k. each_tag g 0 k (spread f 0 ls)) is ∙ each_tag-spread f g 0 ls) shows
 
 pub filter_tagged : (test : Location → Bool) (t : ℕ) (ls : List Location) → places (filter (λ (p : Tagged). test p.1) (tagged t ls)) ≡ filter test ls
-filter_tagged test t [] = refl
-filter_tagged test t (l ∷ ls) = by (test l) (filter_tagged test t ls)
-  where
-    by : (b : Bool) → places (filter (λ (p : Tagged). test p.1) (tagged t ls)) ≡ filter test ls
-        → places (cond b ((t, l) ∷ filter (λ (p : Tagged). test p.1) (tagged t ls)) (filter (λ (p : Tagged). test p.1) (tagged t ls))) ≡ cond b (l ∷ filter test ls) (filter test ls)
-    by true e = ap (λ (ms : List Location). l ∷ ms) e
-    by false e = e
+filter_tagged test t ls =
+    ap (λ ps. places (filter (λ (p : Tagged). test p.1) ps)) (sym (append-nil (tagged t ls))) ∙ ap places (filter-tagged test t ls []) ∙ places_alone t (filter test ls)
 
 -- ---- steps
 
@@ -68,93 +65,33 @@ gathered_is doc f deep leaves ls is = ap (λ b. cond b (flattened doc (cond leav
 -- ---- conditions
 
 module _ (text : List ℕ) (doc : Document) where
-  pub set_tags : (p : Path) (cs : List Location) → found_tags (found_sets text doc p cs).shared (length cs) (found_sets text doc p cs).pairs ≡ numbers_where (λ c. is_some_location (set_reached text doc p c)) 0 cs
-  set_tags (path true ss) cs =
-      ap (λ (ls : List Location). all_tags_or_none (is_some_location ls) 0 (length cs)) (places_alone 0 (set_reached text doc (path true ss) [])) ∙ chosen-same (is_some_location (set_reached text doc (path true ss) [])) 0 cs
-  set_tags (path false ss) cs = some_tags-spread (set_reached text doc (path false ss)) 0 cs
-
-  -- what a term leaves, for candidates numbered from t on
-  sets_from : Path → ℕ → List Location → Found
-  sets_from (path true ss) t cs = record { shared = true; pairs = spread (set_reached text doc (path true ss)) 0 ([] ∷ []) }
-  sets_from (path false ss) t cs = record { shared = false; pairs = spread (set_reached text doc (path false ss)) t cs }
-
-  terms_from : Term → ℕ → List Location → Operand
-  unfolding sets_from
-  terms_from (tree.at_path p) t cs = of_path (sets_from p t cs)
-  terms_from (tree.literal token) t cs = literal (literals text token)
-
-  set_values : Term → Location → List Seen
+  abbrev set_values : Term → Location → List Seen
   set_values a c = values_by once_in_order (below_topmost doc) text doc a c
 
-  front_of : (a : Term) (t : ℕ) (c : Location) (cs : List Location) → values_front doc t (terms_from a t (c ∷ cs)) ≡ set_values a c
-  unfolding sets_from terms_from set_values
-  front_of (tree.at_path (path true ss)) t c cs = ap (values_at doc) (places_alone 0 (set_reached text doc (path true ss) []))
-  front_of (tree.at_path (path false ss)) t c cs = ap (values_at doc) (front_of_tag-spread (set_reached text doc (path false ss)) t c cs)
-  front_of (tree.literal token) t c cs = refl
+  pub set_tags : (p : Path) (cs : List Location) → found_tags (found_sets text doc p cs).shared (length cs) (found_sets text doc p cs).pairs ≡ numbers_where (λ c. is_some_location (set_reached text doc p c)) 0 cs
+  set_tags (path true ss) cs = path_tags text doc (set_reached text doc) set_values (λ ss c. refl) (path true ss) cs
+  set_tags (path false ss) cs = path_tags text doc (set_reached text doc) set_values (λ ss c. refl) (path false ss) cs
 
-  behind_of : (a : Term) (t : ℕ) (c : Location) (cs : List Location) → values_behind t (terms_from a t (c ∷ cs)) ≡ terms_from a (suc t) cs
-  unfolding sets_from terms_from
-  behind_of (tree.at_path (path false ss)) t c cs = ap (λ (ps : List Tagged). of_path (record { shared = false; pairs = ps })) (behind_tag-spread (set_reached text doc (path false ss)) t c cs)
-  behind_of _ t c cs = refl
-
-  compared_from : (op : FilterToken) (a b : Term) (t : ℕ) (cs : List Location)
-      → compared doc op t (length cs) (terms_from a t cs) (terms_from b t cs) ≡ numbers_where (λ c. has_pair op (set_values a c) (set_values b c)) t cs
-  compared_from op a b t [] = refl
-  compared_from op a b t (c ∷ cs) =
-      let test : has_pair op (values_front doc t (terms_from a t (c ∷ cs))) (values_front doc t (terms_from b t (c ∷ cs))) ≡ has_pair op (set_values a c) (set_values b c) =
-      ap₂ (has_pair op) (front_of a t c cs) (front_of b t c cs) in
-      let later : compared doc op (suc t) (length cs) (values_behind t (terms_from a t (c ∷ cs))) (values_behind t (terms_from b t (c ∷ cs))) ≡ numbers_where (λ d. has_pair op (set_values a d) (set_values b d)) (suc t) cs =
-      ap₂ (compared doc op (suc t) (length cs)) (behind_of a t c cs) (behind_of b t c cs) ∙ compared_from op a b (suc t) cs in
-      ap₂ (λ (b : Bool) (ts : List ℕ). cond b (t ∷ ts) ts) test later
-
-  terms_are : (a : Term) (cs : List Location) → term_sets text doc a cs ≡ terms_from a 0 cs
-  unfolding sets_from terms_from
+  terms_are : (a : Term) (cs : List Location) → term_sets text doc a cs ≡ term_from text doc (set_reached text doc) set_values a 0 cs
   terms_are (tree.at_path (path true ss)) cs = refl
-  terms_are _ cs = refl
+  terms_are (tree.at_path (path false ss)) cs = refl
+  terms_are (tree.literal token) cs = refl
 
   pub compared_sets : (op : FilterToken) (a b : Term) (n : ℕ) (cs : List Location) → n ≡ length cs
       → compared doc op 0 n (term_sets text doc a cs) (term_sets text doc b cs) ≡ numbers_where (set_holds text doc (tree.compare a op b)) 0 cs
-  unfolding set_values
-  compared_sets op a b n cs is = ap₂ (compared doc op 0 n) (terms_are a cs) (terms_are b cs) ∙ ap (λ k. compared doc op 0 k (terms_from a 0 cs) (terms_from b 0 cs)) is ∙ compared_from op a b 0 cs
+  compared_sets op a b n cs is =
+      ap₂ (compared doc op 0 n) (terms_are a cs) (terms_are b cs)
+      ∙ ap (λ k. compared doc op 0 k (term_from text doc (set_reached text doc) set_values a 0 cs) (term_from text doc (set_reached text doc) set_values b 0 cs)) is
+      ∙ compared-terms text doc (set_reached text doc) set_values (λ ss c. refl) (λ p c. refl) (λ token c. refl) op a b 0 cs
 
 -- ---- once for each location
 
-tied : (l : Location) → location_cmp l l ≡ Equal
-tied l = by (location_cmp l l) (location_total.antisymm l l)
-  where
-    by : (o : Ordering) → o ≡ ordering_reverse o → o ≡ Equal
-    by Less e = cc
-    by Equal e = refl
-    by Greater e = cc
-
 module _ (apart : (l m : Location) → location_cmp l m ≡ Equal → l ≡ m) (test : Location → Bool) where
-  -- whether one of those that pass is the same
-  same_passes : (l : Location) (ms : List Location) → list_any (is_same l) (filter test ms) ≡ (list_any (is_same l) ms && test l)
-  same_passes l [] = refl
-  same_passes l (m ∷ ms) = by (location_cmp l m) refl (test m) refl (same_passes l ms)
-    where
-      none : (b : Bool) → (b && false) ≡ false
-      none true = refl
-      none false = refl
-
-      by : (o : Ordering) → location_cmp l m ≡ o → (b : Bool) → test m ≡ b → list_any (is_same l) (filter test ms) ≡ (list_any (is_same l) ms && test l)
-          → list_any (is_same l) (cond b (m ∷ filter test ms) (filter test ms)) ≡ ((is_eq (location_cmp l m) || list_any (is_same l) ms) && test l)
-      by Equal is true passes later =
-          let same : test l ≡ true = ap test (apart l m is) ∙ passes in
-          rw (is, same) refl
-      by Equal is false fails later =
-          let same : test l ≡ false = ap test (apart l m is) ∙ fails in
-          rw (is, same) (later ∙ rw same (none (list_any (is_same l) ms)))
-      by Less is true passes later = rw is later
-      by Less is false fails later = rw is later
-      by Greater is true passes later = rw is later
-      by Greater is false fails later = rw is later
-
   IsThere : List Location → Location → Type 0
   IsThere ls l = list_any (is_same l) ls ≡ true
 
   there_last : (before : List Location) (l : Location) (ls : List Location) → list_any (is_same l) (before ++ l ∷ ls) ≡ true
-  there_last [] l ls = rw (tied l) refl
+  there_last [] l ls = rw (tied_itself location_total l) refl
   there_last (m ∷ before) l ls = ap (λ (b : Bool). is_same l m || b) (there_last before l ls) ∙ or-true (is_same l m)
 
   all_there : (before ls : List Location) → AllByRecursion (IsThere (before ++ ls)) ls
@@ -166,7 +103,7 @@ module _ (apart : (l m : Location) → location_cmp l m ≡ Equal → l ≡ m) (
   unfolding IsThere
   numbers_among all n [] h = refl
   numbers_among all n (l ∷ ls) h =
-      let passes : list_any (is_same l) (filter test all) ≡ test l = same_passes l all ∙ ap (λ (b : Bool). b && test l) h.0 in
+      let passes : list_any (is_same l) (filter test all) ≡ test l = same_passes apart test l all ∙ ap (λ (b : Bool). test l && b) h.0 ∙ and-true (test l) in
       ap₂ (λ (b : Bool) (ns : List ℕ). cond b (n ∷ ns) ns) passes (numbers_among all (suc n) ls h.1)
 
   module _ (keeps : OnceInOrderKeepsMembers) (kept_same : KeptOfASet) (some_same : SomeOfASet) where
@@ -180,13 +117,7 @@ module _ (apart : (l m : Location) → location_cmp l m ≡ Equal → l ≡ m) (
 -- ---- candidates
 
 pub standing : (doc : Document) (ls : List Location) (spots : List Spot) → StandAt doc ls spots → map location_of spots ≡ ls
-standing doc [] [] h = refl
-standing doc [] (s ∷ spots) h = cc
-standing doc (l ∷ ls) [] h = cc
-standing doc (l ∷ ls) (s ∷ spots) h =
-    let here : sight_of s ≡ look doc l = cc in
-    let later : StandAt doc ls spots = cc in
-    ap₂ (λ (m : Location) (ms : List Location). m ∷ ms) (ap (λ (x : Location × Option Document). x.0) here) (standing doc ls spots later)
+standing doc ls spots h = sym (map-map (λ x. x.0) sight_of spots) ∙ ap (map (λ (x : Location × Option Document). x.0)) h ∙ map-map (λ x. x.0) (look doc) ls ∙ map-id ls
 
 pub counted : (doc : Document) (ps : List Tagged) (n : TaggedMarks Spot) → ShowsSpots doc ps n → length n.marks.items ≡ length (places ps)
 counted doc ps n shows = length-marks true location_of value_of doc (places ps) n.marks.items shows.1

@@ -1,6 +1,6 @@
 -- The meaning of a path beside spots that stand in the document.
-use Rattle.std.proofs.Common.{Option, ◌≡◌, ℕ, suc, ◌≤◌, ◌<◌, List, [], ◌∷◌, ◌++◌, map, length, drop, Some, Bool, true, false, cond, not, ◌==◌, refl, sym, ap, ◌∙◌, append-nil, drop_of_length-le, get_or, arith, ne_eqb, ◌≢◌, ◌+◌, add-one, append_assoc, ap₂, take, ◌-◌, drop-cons, length-drop, subst}
-use Rattle.std.specs.Prelude.{filter, if◌then◌else◌}
+use Rattle.std.proofs.Common.{Option, ◌≡◌, ℕ, suc, ◌≤◌, ◌<◌, List, [], ◌∷◌, ◌++◌, map, length, drop, Some, Bool, true, false, cond, not, ◌==◌, refl, sym, ap, ◌∙◌, append-nil, drop_of_length-le, get_or, arith, ne_eqb, ◌≢◌, ◌+◌, add-one, append_assoc, ap₂, take, ◌-◌, drop-cons, subst}
+use Rattle.std.specs.Prelude.{filter, option_map, if◌then◌else◌}
 use Rattle.jsonpath_nodes.specs.document.Document.{Document}
 use Rattle.jsonpath_paths.specs.tree.Tree as tree
 use Rattle.jsonpath_paths.specs.tree.View.{path_of, term_of, inner_of, steps_of_list}
@@ -8,25 +8,18 @@ use Rattle.jsonpath_paths.specs.declared.tree.parser_node.ParserNode.{ParserNode
 use Rattle.jsonpath_paths.specs.declared.tree.parser_node.ParserStep.{ParserStep}
 use Rattle.jsonpath_paths.specs.declared.tree.parser_node.Term.{Term, Path}
 use Rattle.jsonpath_paths.specs.tree.View.{path_of_out}
-use Rattle.jsonpath_nodes.specs.place.Location.{Location, at}
-use Rattle.std.proofs.Math.Seq.{take-length}
+use Rattle.jsonpath_nodes.specs.place.Location.{Location}
+use Rattle.std.proofs.lemmas.List.{take_rest}
 use Rattle.jsonpath_nodes.specs.place.SpotPlace.{look, location_of, sight_of, value_of, LeadsIn, StandAt, StandsAt}
-use Rattle.jsonpath_nodes.specs.compare.Comparisons.{Seen, seen}
+use Rattle.jsonpath_nodes.specs.compare.Comparisons.{seen}
 use Rattle.jsonpath_nodes.specs.declared.place.spot.Spot.{Spot}
 use Rattle.jsonpath_select.specs.Meaning.{values_at, has_steps, has_own_step_path, follow, reached, values, holds, inner_on}
-use Rattle.jsonpath_select.proofs.walk.MarkLemmas.{length-marks, left_marks}
+use Rattle.jsonpath_select.proofs.walk.MarkLemmas.{length-marks, left_marks, filter_map-some, found_alike}
 
 -- ---- spots and what comparisons see of them
 
 pub values-StandAt : (doc : Document) (ls : List Location) (spots : List Spot) → StandAt doc ls spots → map (λ s. seen (value_of s)) spots ≡ values_at doc ls
-values-StandAt doc [] [] h = refl
-values-StandAt doc [] (s ∷ spots) h = cc
-values-StandAt doc (l ∷ ls) [] h = cc
-values-StandAt doc (l ∷ ls) (s ∷ spots) h =
-    let here : sight_of s ≡ look doc l = cc in
-    let there : at doc l ≡ Some (value_of s) = sym (ap (λ (x : Location × Option Document). x.1) here) in
-    let later : StandAt doc ls spots = cc in
-    rw there (ap (λ (xs : List Seen). seen (value_of s) ∷ xs) (values-StandAt doc ls spots later))
+values-StandAt doc ls spots h = sym (filter_map-some (λ s. seen (value_of s)) spots) ∙ found_alike (λ x. option_map seen x.1) sight_of (look doc) spots ls h
 
 -- ---- the steps one after the other
 
@@ -104,9 +97,6 @@ all_steps text doc n xs same =
     begin true = refl
     begin false = refl
 
-pub rest_of : {X : Type 0} (xs : List X) (i : ℕ) → take (length xs - i) (drop i xs) ≡ drop i xs
-rest_of xs i = ap (λ n. take n (drop i xs)) (sym (length-drop i xs)) ∙ take-length (drop i xs)
-
 pub follow_next : (text : List ℕ) (doc : Document) (xs : List ParserStep) (i : ℕ) (s : ParserStep) (ls all : List Location) → i < length xs → s ≡ get_or xs i s
     → follow text doc (steps_of_list (drop i xs)) ls ≡ all → follow text doc (steps_of_list (drop (i + 1) xs)) (inner_on text doc (inner_of s.inner) s.leaves ls) ≡ all
 follow_next text doc xs i s ls all within is follows =
@@ -132,7 +122,7 @@ module _ (front : List Location → List Location) (text : List ℕ) (doc : Docu
       let ms : List Location = inner_on text doc (inner_of s.inner) s.leaves way.0 in
       let stand : StandAt doc ms there = ap (map sight_of) at_there ∙ steps way.0 (ap (map sight_of) at_here ∙ way.1) in (
         leading (drop (i + 1) xs) ms,
-        subst (λ (ss : List ParserStep). StandAt doc (leading ss ms) kept) (rest_of xs (i + 1)) (keeps ms stand),
+        subst (λ (ss : List ParserStep). StandAt doc (leading ss ms) kept) (take_rest xs (i + 1)) (keeps ms stand),
         sym (law (steps_of_list (drop (i + 1) xs)) ms) ∙ ap front (follow_next text doc xs i s way.0 _ within is refl) ∙ way.2,
         again (filter (λ l. holds text doc (tree.lone (tree.path false (steps_of_list (drop (i + 1) xs)))) l) ms),
       )

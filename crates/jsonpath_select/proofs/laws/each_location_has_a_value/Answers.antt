@@ -2,4 +2,4 @@ use Rattle.jsonpath_select.proofs.answer.AllThereLemmas.{each_location_has_a_val
 use Rattle.jsonpath_select.proofs.laws.each_location_has_a_value.Goals as goal
 
 pub returns : goal.returns
-returns c = each_location_has_a_value c.all_locations_stand_below_root.ensures
+returns c = each_location_has_a_value

@@ -2,4 +2,7 @@ use Rattle.jsonpath_select.proofs.answer.OnceLemmas.{paths_without_repeats_selec
 use Rattle.jsonpath_select.proofs.laws.paths_without_repeats_select_once.Goals as goal
 
 pub returns : goal.returns
-returns c = paths_without_repeats_select_once c.equal_locations_are_same.ensures
+returns c =
+    let steps = c.steps_lead_without_repeats.ensures in
+    let candidates = c.apart_locations_meet_candidates_once.ensures in
+    paths_without_repeats_select_once steps.step steps.kept candidates.candidates candidates.no_repeat
