@@ -30,19 +30,18 @@ module _ (one_tree_per_text : (text : List ℕ) (p q : Path) → Spells text p �
 
 module _ (nowhere : ChangesNothing) where
   -- the run of updates at the location, if something stands there, is the single update
-  pub each_there : (answer : Option Document) (doc : Document) (l : Location) → update_each answer (where_it_is doc l) doc ≡ update l answer doc
-  each_there answer doc l = by_value (at doc l) refl
+  by_place : (answer : Option Document) (doc : Document) (l : Location) (run : List Location → Document) → run [] ≡ doc → run (l ∷ []) ≡ update l answer doc → run (where_it_is doc l) ≡ update l answer doc
+  by_place answer doc l run none one = by_value (at doc l) refl
     where
-      by_value : (o : Option Document) → at doc l ≡ o → update_each answer (cond (is_some o) (l ∷ []) []) doc ≡ update l answer doc
-      by_value None e = sym (nowhere answer l doc (no_target doc l e))
-      by_value (Some d) e = refl
+      by_value : (o : Option Document) → at doc l ≡ o → run (cond (is_some o) (l ∷ []) []) ≡ update l answer doc
+      by_value None e = none ∙ sym (nowhere answer l doc (no_target doc l e))
+      by_value (Some d) e = one
+
+  pub each_there : (answer : Option Document) (doc : Document) (l : Location) → update_each answer (where_it_is doc l) doc ≡ update l answer doc
+  each_there answer doc l = by_place answer doc l (λ ls. update_each answer ls doc) refl refl
 
   back_there : (answer : Option Document) (doc : Document) (l : Location) → update_each_back answer (where_it_is doc l) doc ≡ update l answer doc
-  back_there answer doc l = by_value (at doc l) refl
-    where
-      by_value : (o : Option Document) → at doc l ≡ o → update_each_back answer (cond (is_some o) (l ∷ []) []) doc ≡ update l answer doc
-      by_value None e = sym (nowhere answer l doc (no_target doc l e))
-      by_value (Some d) e = refl
+  back_there answer doc l = by_place answer doc l (λ ls. update_each_back answer ls doc) refl refl
 
   pub deletes_place : TargetsPlace → NullsInTurn → DeletesPlace
   deletes_place targets_of in_turn text before after l printed deleted =
