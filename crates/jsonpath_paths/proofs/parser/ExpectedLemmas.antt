@@ -1,5 +1,6 @@
 -- What is reported of the tokens that may come next is what the machine of wants takes.
 use Rattle.std.proofs.Common.{◌≡◌, ◌<◌, ◌+◌, ℕ, Bool, true, false, List, [], ◌∷◌, ◌++◌, length, take, get_or, Option, Some, None, refl, sym, ap, ap₂, ◌∙◌, codes, append-nil}
+use Rattle.std.proofs.Math.Bool.{and-false, or-false}
 use Rattle.std.proofs.lemmas.List.{take_more}
 use Rattle.std.specs.Prelude.{◌&&◌, ◌||◌, is_some, option_map, if◌then◌else◌}
 use Rattle.std.specs.List.{list_any}
@@ -142,10 +143,6 @@ same_fed : (us : List Want) (kind : Kind) (w : List ℕ) → (kind ≡ k.Key →
 same_fed [] kind w h = refl
 same_fed (v ∷ vs) kind w h = ap₂ (λ m o. moved m vs o) (same_move v kind w h) (same_fed vs kind w h)
 
-nothing : (b : Bool) → (b && false) ≡ false
-nothing true = refl
-nothing false = refl
-
 kinds_meant : (us : List Want) (kind : Kind) (w : List ℕ) (kinds : List Kind) → list_any (λ e. is_meant e kind w) (kinds_fed us kinds) ≡ (list_any (same_kind kind) kinds && is_some (feed us kind []))
 kinds_meant us kind w [] = refl
 kinds_meant us kind w (other ∷ kinds) = by_kind (same_kind kind other) (is_some (feed us other [])) refl refl (kinds_meant us kind w kinds)
@@ -157,16 +154,12 @@ kinds_meant us kind w (other ∷ kinds) = by_kind (same_kind kind other) (is_som
     by_kind true true e f h = ap (λ b. b || list_any (λ e. is_meant e kind w) (kinds_fed us kinds)) e ∙ sym (ap (λ x. is_some (feed us x [])) (same_kind_true kind other e) ∙ f)
     by_kind true false e f h =
         let none : is_some (feed us kind []) ≡ false = ap (λ x. is_some (feed us x [])) (same_kind_true kind other e) ∙ f in
-        h ∙ (ap (λ b. list_any (same_kind kind) kinds && b) none ∙ (nothing (list_any (same_kind kind) kinds) ∙ sym none))
-
-or_none : (b : Bool) → (b || false) ≡ b
-or_none true = refl
-or_none false = refl
+        h ∙ (ap (λ b. list_any (same_kind kind) kinds && b) none ∙ (and-false (list_any (same_kind kind) kinds) ∙ sym none))
 
 word_meant : (c : Words) (w : List ℕ) → list_any (λ e. is_meant e k.Key w) (option_to_list (reported c)) ≡ are c w
 word_meant no_word w = refl
 word_meant every_word w = refl
-word_meant c w = or_none (are c w)
+word_meant c w = or-false (are c w)
 
 no_word_meant : (c : Words) (kind : Kind) (w : List ℕ) → (kind ≡ k.Key → ⊥) → list_any (λ e. is_meant e kind w) (option_to_list (reported c)) ≡ false
 no_word_meant c k.Key w h = absurd (h refl)
@@ -200,7 +193,7 @@ all_meant us kind w =
     ∙ (ap₂ (λ a b. a || b) (kinds_meant us kind w OTHER_KINDS) (ap (λ o. list_any (λ e. is_meant e kind w) (option_to_list o)) (tried us)) ∙ by_kind kind)
   where
     other : (kind : Kind) → (kind ≡ k.Key → ⊥) → (is_some (feed us kind []) || list_any (λ e. is_meant e kind w) (option_to_list (reported (words_of us)))) ≡ is_some (feed us kind w)
-    other kind h = ap (λ b. is_some (feed us kind []) || b) (no_word_meant (words_of us) kind w h) ∙ (or_none (is_some (feed us kind [])) ∙ ap is_some (sym (same_fed us kind w h)))
+    other kind h = ap (λ b. is_some (feed us kind []) || b) (no_word_meant (words_of us) kind w h) ∙ (or-false (is_some (feed us kind [])) ∙ ap is_some (sym (same_fed us kind w h)))
 
     by_kind : (kind : Kind) → ((list_any (same_kind kind) OTHER_KINDS && is_some (feed us kind [])) || list_any (λ e. is_meant e kind w) (option_to_list (reported (words_of us)))) ≡ is_some (feed us kind w)
     by_kind k.Key = word_meant (words_of us) w ∙ sym (word_taken_so us w)

@@ -3,7 +3,6 @@ use Rattle.std.proofs.Common.{◌≡◌, ◌≤◌, ◌+◌, ℕ, zero, suc, Boo
 use Rattle.std.specs.Prelude.{if◌then◌else◌}
 use Rattle.std.specs.Char.{len_utf8}
 use Rattle.std.specs.Str.{chars, IsUtf8}
-use Rattle.std.proofs.lemmas.Bool.{and_from, and_parts}
 use Rattle.std.proofs.Math.Seq.{drop-append_seam, take-append_seam}
 use Rattle.std.proofs.lemmas.Str.{encodes-append}
 use lib.Utf8.{scalars, encodes}
@@ -25,7 +24,7 @@ use Rattle.jsonpath_paths.proofs.parser.FollowPathLemmas.{read_ends, ends_read}
 use Rattle.jsonpath_paths.proofs.parser.ApartLemmas.{Apart, safe, fed_safe, safe_real}
 use Rattle.jsonpath_paths.proofs.parser.WantsLemmas.{endings, kinds_of, samples, goes_on, all_end, run_behind}
 use Rattle.jsonpath_paths.proofs.token.FrontKeptLemmas.{reach, Within, LastEnds, kept}
-use Rattle.jsonpath_paths.proofs.tree.FencedLemmas.{At, scalars_parts}
+use Rattle.jsonpath_paths.proofs.tree.FencedLemmas.{At, scalars_both, scalars_parts}
 use Rattle.jsonpath_paths.proofs.token.TokenizedLemmas.{reads, read_so, found_spelled}
 use Rattle.jsonpath_paths.specs.token.Reading.{reading_from}
 use Rattle.jsonpath_paths.specs.text.Spans.{Tile}
@@ -158,10 +157,6 @@ reach_end (p ∷ ps) = refl
 front_bytes : (cs ds : List ℕ) → take (byte_len cs) (encodes (cs ++ ds)) ≡ encodes cs
 front_bytes cs ds = ap₂ (λ n xs. take n xs) (byte_len_is cs) (encodes-append cs ds) ∙ take-append_seam (encodes cs) (encodes ds)
 
-scalars_upon : (xs ys : List ℕ) → scalars xs ≡ true → scalars ys ≡ true → scalars (xs ++ ys) ≡ true
-scalars_upon [] ys h i = i
-scalars_upon (x ∷ xs) ys h i = let p = and_parts _ _ h in and_from _ _ p.0 (scalars_upon xs ys p.1 i)
-
 -- a text that begins with the tokens that ran, and goes on with samples that may come next
 pub record Longer (text : List ℕ) (front : Lexemes) (kinds : List Kind) : Type 0 where
   pub other : List ℕ
@@ -185,7 +180,7 @@ longer text front here rest us vs kinds utf8 read ran next =
     let same : take (end_of front) other ≡ take (end_of front) text =
     ap (λ n. take n other) end ∙ (front_bytes fc w ∙ (sym (front_bytes fc k.tail) ∙ (ap (take (byte_len fc)) (sym text_is) ∙ ap (λ n. take n text) (sym end)))) in
     let front_scalars = (scalars_parts fc k.tail (subst (λ x. scalars x ≡ true) k.split (scalars-chars text utf8))).0 in
-    let all_scalars = scalars_upon fc w front_scalars (added_scalars kinds) in
+    let all_scalars = scalars_both fc w front_scalars (added_scalars kinds) in
     let apart = ran_apart text whole_wants us front refl ran in
     let there : At other (0 + byte_len fc) w = (
       omega (arith, byte_len_is fc, ap length (encodes-append fc w), length-append (encodes fc) (encodes w)),

@@ -1,20 +1,12 @@
 -- A word of digits is not `true` or `false`.
 use Rattle.std.proofs.Common.{◌≡◌, ◌<◌, ◌&&◌, ◌+◌, ℕ, Bool, true, false, List, [], ◌∷◌, Option, Some, None, refl, sym, ◌∙◌, ap, cond, arith, eqb, ltb, leb, map, length}
-use Rattle.std.proofs.lemmas.Bool.{lt-ltb, leb-true, ne_eqb, eqb-true}
+use Rattle.std.proofs.lemmas.Bool.{and_parts, lt-ltb, leb-true, ne_eqb, eqb-true}
 use Rattle.std.specs.Char.{to_ascii_lowercase, is_ascii_digit}
 use Rattle.std.specs.Prelude.{codes}
 use Rattle.std.specs.Str.{str_eq_ignore_ascii_case, all_ascii_digits, bytes_eq}
 use Rattle.jsonpath_paths.specs.declared.decimal.Decimal.{Decimal}
 use Rattle.jsonpath_paths.specs.Numbers.{decimal_of, is_whole, is_digits, without_minus}
 use Rattle.jsonpath_paths.specs.Literals.{truth_of}
-
-and_left : (a b : Bool) → (a && b) ≡ true → a ≡ true
-and_left true b h = refl
-and_left false b h = h
-
-and_right : (a b : Bool) → (a && b) ≡ true → b ≡ true
-and_right true b h = h
-and_right false b h = cc
 
 if_some : {A : Type 0} (b : Bool) (x : Option A) (y : A) → cond b x None ≡ Some y → b ≡ true
 if_some true x y h = refl
@@ -25,7 +17,7 @@ unfolding decimal_of
 decimal_whole bs fraction x h = if_some (is_whole bs) _ x h
 
 digit_low : (c : ℕ) → is_ascii_digit c ≡ true → c < 65
-digit_low c h = let below = leb-true c 57 (and_right (leb 48 c) (leb c 57) h) in omega arith
+digit_low c h = let below = leb-true c 57 (and_parts (leb 48 c) (leb c 57) h).1 in omega arith
 
 first_low : (c : ℕ) (cs : List ℕ) → is_whole (c ∷ cs) ≡ true → c < 65
 first_low c cs h = by_test (eqb c 45) refl
@@ -33,9 +25,9 @@ first_low c cs h = by_test (eqb c 45) refl
     by_test : (b : Bool) → eqb c 45 ≡ b → c < 65
     by_test true e = let same = eqb-true c 45 e in omega arith
     by_test false e =
-        let digits : is_digits (without_minus (c ∷ cs)) ≡ true = and_left (is_digits (without_minus (c ∷ cs))) _ h in
+        let digits : is_digits (without_minus (c ∷ cs)) ≡ true = (and_parts (is_digits (without_minus (c ∷ cs))) _ h).0 in
         let whole : is_digits (c ∷ cs) ≡ true = sym (ap (λ b. is_digits (cond b cs (c ∷ cs))) e) ∙ digits in
-        digit_low c (and_left (is_ascii_digit c) (all_ascii_digits cs) (and_right (ltb 0 (length (c ∷ cs))) (all_ascii_digits (c ∷ cs)) whole))
+        digit_low c (and_parts (is_ascii_digit c) (all_ascii_digits cs) (and_parts (ltb 0 (length (c ∷ cs))) (all_ascii_digits (c ∷ cs)) whole).1).0
 
 no_letter : (c : ℕ) (cs : List ℕ) (l : ℕ) (ls : List ℕ) → c < 65 → 65 < l → bytes_eq (map to_ascii_lowercase (c ∷ cs)) (l ∷ ls) ≡ false
 no_letter c cs l ls h less =

@@ -1,8 +1,9 @@
 -- A step over one character.
-use Rattle.std.proofs.Common.{◌≡◌, ℕ, ◌+◌, ◌-◌, ◌≤◌, List, [], ◌∷◌, ◌++◌, length, drop, sym, ◌∙◌, ap, arith, length-append, length-drop, add-zero, refl}
+use Rattle.std.proofs.Common.{◌≡◌, ℕ, ◌+◌, ◌-◌, ◌≤◌, List, [], ◌∷◌, ◌++◌, length, drop, sym, ◌∙◌, ap, arith, length-append, length-drop, add-zero}
 use Rattle.std.specs.Prelude.{encode_utf8}
 use Rattle.std.specs.Char.{len_utf8}
 use Rattle.std.specs.Str.{IsUtf8, chars}
+use Rattle.std.proofs.lemmas.List.{nil_from_length}
 use Rattle.std.proofs.lemmas.Str.{drop_past_char, chars_past_char, length-encode, chars-nil}
 use Rattle.jsonpath_paths.specs.text.TextPlace.{Place, ahead, past}
 
@@ -24,13 +25,9 @@ ahead_past p after c u e =
     let rest = drop_past_char p.text after p.pos c e in
     chars_past_char (drop p.pos p.text) after c u e ∙ ap (λ bs. c ∷ chars bs) (sym (ap (λ n. drop (p.pos + n) p.text) (add-zero (len_utf8 c)) ∙ rest))
 
-pub no_length : (xs : List ℕ) → length xs ≡ 0 → xs ≡ []
-no_length [] h = refl
-no_length (x ∷ xs) h = cc
-
 pub ahead_nil : (p : Place) → length (drop p.pos p.text) ≡ 0 → ahead p ≡ []
 unfolding ahead
-ahead_nil p h = ap chars (no_length _ h) ∙ chars-nil
+ahead_nil p h = ap chars (nil_from_length _ h) ∙ chars-nil
 
 -- the place behind one character, by its fields
 pub past_one : (p : Place) (n c : ℕ) → n ≡ len_utf8 c → (let new : Place = record { text = p.text; pos = p.pos + n } in new ≡ past p (c ∷ []))

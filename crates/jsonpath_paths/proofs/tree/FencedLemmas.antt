@@ -3,7 +3,7 @@ use Rattle.std.proofs.Common.{◌≡◌, ◌<◌, ◌≤◌, ◌+◌, ◌⊎◌,
 use Rattle.std.specs.Prelude.{option_map}
 use Rattle.std.specs.Char.{is_whitespace}
 use Rattle.std.specs.Str.{IsUtf8, bytes_eq}
-use Rattle.std.proofs.lemmas.Bool.{and_from, and_parts, eqb-true, eqb-false, false_from_ne_true, ltb-true, ltb-false}
+use Rattle.std.proofs.lemmas.Bool.{or_from, or_right, and_from, and_parts, eqb-true, eqb-false, false_from_ne_true, ltb-true, ltb-false}
 use Rattle.std.proofs.lemmas.List.{take-append-drop, take-append-le, drop-append-le}
 use Rattle.std.proofs.lemmas.Str.{encodes-append}
 use Rattle.std.proofs.Math.Seq.{drop-append_seam, take-append_seam}
@@ -23,7 +23,7 @@ use Rattle.jsonpath_paths.proofs.token.FoundLemmas.{first_or_none, closing_close
 use Rattle.jsonpath_paths.proofs.token.LongestLemmas.{same_text, closed_covers}
 use Rattle.jsonpath_paths.proofs.token.ReadingLemmas.{more_at}
 use Rattle.jsonpath_paths.proofs.parser.SoundLemmas.{some_same}
-use Rattle.jsonpath_paths.proofs.tree.SpanNameLemmas.{or_second, span_is}
+use Rattle.jsonpath_paths.proofs.tree.SpanNameLemmas.{span_is}
 use Rattle.jsonpath_paths.proofs.token.TokenizedLemmas.{found_one, read_so}
 
 -- ---- fronts of two lists put together
@@ -39,20 +39,16 @@ abbrev has_close : List ℕ → Bool
 has_close [] = false
 has_close (c ∷ cs) = c == 41 || has_close cs
 
-or_both : (a b : Bool) → a ≡ false → b ≡ false → (a || b) ≡ false
-or_both true b h i = cc
-or_both false b h i = i
-
 has_close_in : (xs ys : List ℕ) → has_close (xs ++ 41 ∷ ys) ≡ true
 has_close_in [] ys = refl
-has_close_in (x ∷ xs) ys = or_second (x == 41) (has_close (xs ++ 41 ∷ ys)) (has_close_in xs ys)
+has_close_in (x ∷ xs) ys = or_right (x == 41) (has_close (xs ++ 41 ∷ ys)) (has_close_in xs ys)
 
 no_close : (test : ℕ → Bool) (xs : List ℕ) → test 41 ≡ false → all_pass test xs ≡ true → has_close xs ≡ false
 no_close test [] e h = refl
 no_close test (x ∷ xs) e h =
     let both = and_parts (test x) (all_pass test xs) h in
     let other : (x == 41) ≡ false = false_from_ne_true (x == 41) (λ t. let same : x ≡ 41 = eqb-true x 41 t in cc (e, both.0, ap test same)) in
-    or_both (x == 41) (has_close xs) other (no_close test xs e both.1)
+    or_from (x == 41) (has_close xs) other (no_close test xs e both.1)
 
 abbrev IsQuote : ℕ → Type 0
 IsQuote q = (q ≡ 34) ⊎ (q ≡ 39)
@@ -304,6 +300,10 @@ words_then (w ∷ ws) pos xs after more h later =
 -- from this byte on the text has these characters
 abbrev pub At : List ℕ → ℕ → List ℕ → Type 0
 At text i cs = (i ≤ length text) × (scalars cs ≡ true) × (drop i text ≡ encodes cs)
+
+pub scalars_both : (xs ys : List ℕ) → scalars xs ≡ true → scalars ys ≡ true → scalars (xs ++ ys) ≡ true
+scalars_both [] ys h i = i
+scalars_both (x ∷ xs) ys h i = let both = and_parts _ _ h in and_from _ _ both.0 (scalars_both xs ys both.1 i)
 
 pub scalars_parts : (xs ys : List ℕ) → scalars (xs ++ ys) ≡ true → (scalars xs ≡ true) × (scalars ys ≡ true)
 scalars_parts [] ys h = (refl, h)

@@ -1,7 +1,6 @@
 -- The tree of two conditions in parentheses and a connective joins the conditions that the two spell alone.
 use Rattle.std.proofs.Common.{◌≡◌, ◌≤◌, ◌+◌, ◌⊎◌, inl, inr, ℕ, suc, Bool, true, false, List, [], ◌∷◌, ◌++◌, length, Some, None, cond, refl, sym, subst, ap, ap₂, ◌∙◌, arith}
 use Rattle.std.specs.Str.{IsUtf8, chars}
-use Rattle.std.proofs.lemmas.Bool.{and_from, and_parts}
 use Rattle.std.proofs.lemmas.Str.{chars-encodes, encodes-append, encodes-chars, scalars-chars}
 use lib.Utf8.{scalars, encode, encodes}
 use Rattle.jsonpath_paths.specs.tree.Alike.{AlikeCondition}
@@ -24,7 +23,7 @@ use Rattle.jsonpath_paths.specs.declared.token.tokens.Lexeme.{Lexeme}
 use Rattle.jsonpath_paths.proofs.parser.CompleteLemmas.{complete_condition}
 use Rattle.jsonpath_paths.proofs.parser.DerivationLemmas.{complete_path}
 use Rattle.jsonpath_paths.proofs.tree.ElsewhereLemmas.{Along, at_rest, one_more, condition_along, condition_deeper}
-use Rattle.jsonpath_paths.proofs.tree.FencedLemmas.{Words, Reads, put, end, close, bracket_behind, fenced, token_then, words_then, At, at_next, at_end, words_along}
+use Rattle.jsonpath_paths.proofs.tree.FencedLemmas.{scalars_both, Words, Reads, put, end, close, bracket_behind, fenced, token_then, words_then, At, at_next, at_end, words_along}
 use Rattle.jsonpath_paths.proofs.token.FoundLemmas.{first_is}
 use Rattle.jsonpath_paths.proofs.token.LongestLemmas.{first_has_none}
 use Rattle.jsonpath_paths.proofs.parser.ShorterLemmas.{skip_shorter, eats_shorter}
@@ -271,10 +270,6 @@ unfolding last_two skip
 after_right text n i x z h = some_same (x, bracket_behind (i + byte_len (41 ∷ []))) z h
 
 -- ---- the texts
-
-scalars_both : (xs ys : List ℕ) → scalars xs ≡ true → scalars ys ≡ true → scalars (xs ++ ys) ≡ true
-scalars_both [] ys h i = i
-scalars_both (x ∷ xs) ys h i = let both = and_parts _ _ h in and_from _ _ both.0 (scalars_both xs ys both.1 i)
 
 encoded : (a : List ℕ) (xs later : List ℕ) → IsUtf8 a → later ≡ encodes xs → a ++ later ≡ encodes (chars a ++ xs)
 encoded a xs later u e = ap₂ (λ x y. x ++ y) (sym (encodes-chars a u)) e ∙ sym (encodes-append (chars a) xs)

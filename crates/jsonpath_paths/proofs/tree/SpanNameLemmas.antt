@@ -1,7 +1,7 @@
 -- At each span of the tree that a text spells stands a word or a quoted text.
 use Rattle.std.proofs.Common.{◌≡◌, ◌≤◌, ◌+◌, ℕ, zero, suc, Bool, true, false, ◌||◌, List, [], ◌∷◌, ◌++◌, length, take, drop, All, refl, sym, subst, ap, ◌∙◌, arith, length-append, length-drop}
 use Rattle.std.specs.Str.{chars, IsUtf8}
-use Rattle.std.proofs.lemmas.Bool.{and_from, and_parts}
+use Rattle.std.proofs.lemmas.Bool.{and_from, and_parts, or_right}
 use Rattle.std.proofs.lemmas.List.{drop-drop, take-append-drop}
 use Rattle.std.proofs.lemmas.List.Elements.{All-cons, All-nil}
 use Rattle.std.proofs.lemmas.Str.{encodes-chars, scalars-chars, chars-encodes, encodes-append, IsCharBoundary-from_drop}
@@ -27,10 +27,6 @@ scalars_take : (n : ℕ) (cs : List ℕ) → scalars cs ≡ true → scalars (ta
 scalars_take zero cs h = refl
 scalars_take (suc n) [] h = h
 scalars_take (suc n) (c ∷ cs) h = let both = and_parts _ _ h in and_from _ _ both.0 (scalars_take n cs both.1)
-
-pub or_second : (a b : Bool) → b ≡ true → (a || b) ≡ true
-or_second true b h = refl
-or_second false b h = h
 
 module _ (text : List ℕ) where
   abbrev IsPieceOf : Kind → StrRange → Type 0
@@ -66,10 +62,10 @@ module _ (text : List ℕ) where
   word_named s h = (h.0, rw (h.1) refl)
 
   quoted_named : (double : Bool) (s : StrRange) → IsPieceOf (quote_kind double) s → IsNamed s
-  quoted_named true s h = let cs = chars (bytes_at text s) in (h.0, or_second (is_word cs) (is_quoted double_quote cs || is_quoted single_quote cs) (rw (h.1) refl))
+  quoted_named true s h = let cs = chars (bytes_at text s) in (h.0, or_right (is_word cs) (is_quoted double_quote cs || is_quoted single_quote cs) (rw (h.1) refl))
   quoted_named false s h =
       let cs = chars (bytes_at text s) in
-      (h.0, or_second (is_word cs) (is_quoted double_quote cs || is_quoted single_quote cs) (or_second (is_quoted double_quote cs) (is_quoted single_quote cs) h.1))
+      (h.0, or_right (is_word cs) (is_quoted double_quote cs || is_quoted single_quote cs) (or_right (is_quoted double_quote cs) (is_quoted single_quote cs) h.1))
 
   pub names_read : (p : Path) → IsUtf8 text → Spells text p → MayReadPath (λ s. IsNamed s.now) p
   names_read p u h =
