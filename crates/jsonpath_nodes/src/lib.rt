@@ -11,7 +11,7 @@ mod tree;
 mod update;
 
 pub use compare::atom::{Atom, to_num};
-pub use compare::cmp::{Cmp, CmpEq, CmpGe, CmpGt, CmpLe, CmpLt, CmpNe, holds, holds_atoms};
+pub use compare::cmp::{Cmp, CmpEq, CmpGe, CmpGt, CmpLe, CmpLt, CmpNe, holds, holds_atoms, holds_by_tree};
 pub use memory::NoMemory;
 pub use place::document_order::{in_document_order, indexes_standing_among, topmost_spots};
 pub use place::location::{LocStep, Location};
@@ -22,6 +22,7 @@ pub use step::child_lookup::abs_index;
 pub use step::plain_step::PlainStep;
 pub use step::stride::{Selection, Stride};
 pub use step::value_walker::ValueWalker;
+pub use tree::Tree;
 pub use update::at_once::set::set_at_once;
 pub use update::at_once::take::take_at_once;
 pub use update::each::{delete_at, replace_at};

@@ -1,25 +1,41 @@
 //! What the steps of a path need of a document: its values, as small copies that lead to them. A `Tree` names no
 //! lifetime, so functions that call themselves can be generic over it.
 
-ghost use Rattle.std.specs.Prelude.{◌≡◌, List, ℕ, None, option_map, MatchOption, IfSome, IfNone};
+ghost use Rattle.std.specs.Prelude.{◌≡◌, List, ℕ, ℤ, None, option_map, MatchOption, IfOk, IfSome, IfNone};
+ghost use Rattle.jsonpath_nodes.specs.compare.Atoms.{seen_with};
+ghost use Rattle.jsonpath_nodes.specs.compare.Comparisons.{seen};
+ghost use Rattle.jsonpath_nodes.specs.compare.Fractions.{fraction_order};
 ghost use Rattle.jsonpath_nodes.specs.document.Document.{Document, Items, Members, array, object, no_items, item, no_members, member};
 ghost use Rattle.jsonpath_nodes.specs.document.Find.{items_len, as_array, as_object, get_item, get_member};
 ghost use Rattle.jsonpath_nodes.specs.place.Order.{NamesAscend};
 
 pub(crate) mod of_value;
 
-// A value of a document, as what leads to it.
+use crate::compare::atom::Atom;
+use std::cmp::Ordering;
+
+/// A value of a document, as a small copy that leads to it: a reference, for `&Value`. Steps and comparisons are generic
+/// over it.
+///
+/// ```text
+/// let value = Value::Bool(true);
+/// assert!(rt; matches!(Tree::atom(&&value)?, Atom::Bool(true)));
+/// ```
 pub trait Tree: Copy + Drop {
-    // The name of a member, as the document has it.
+    /// The name of a member, as the document has it.
     type Name: Copy;
-    // An array.
+    /// An array.
     type Array: Copy;
-    // An object.
+    /// An object.
     type Object: Copy;
-    // The items of an array that are still to come.
+    /// The items of an array that are still to come.
     type ItemsLeft: Drop;
-    // The members of an object that are still to come.
+    /// The members of an object that are still to come.
     type MembersLeft: Drop;
+    /// A number, as it is compared.
+    type Number: Drop;
+    /// Why a value can't be compared.
+    type Error: Drop;
 
     ghost content: { Self → Document };
 
@@ -32,44 +48,55 @@ pub trait Tree: Copy + Drop {
     ghost items_left: { Self.ItemsLeft → Items };
 
     ghost members_left: { Self.MembersLeft → Members };
+    // A number as a whole number over a power of ten.
+    ghost fraction_of: { Self.Number → ℤ × ℕ };
 
-    // The array, if the value is one.
+    /// What a comparison uses of the value: its kind, and the content of a boolean, a number or a text. The error says why
+    /// the value can't be compared.
+    fn atom(&self) -> Result<Atom<'_, Self::Number>, Self::Error>
+        ensures { IfOk result (λ atom. seen_with fraction_of atom ≡ seen (content self.now)) };
+
+    /// The order of two numbers, exactly.
+    fn compare_numbers(left: &Self::Number, right: &Self::Number) -> Ordering
+        ensures { result ≡ fraction_order (fraction_of left.now) (fraction_of right.now) };
+
+    /// The array, if the value is one.
     fn as_array(self) -> Option<Self::Array>
         ensures some { IfSome result (λ a. content self ≡ array (items a)) }
         ensures none { IfNone result (as_array (content self) ≡ None) };
 
-    // The object, if the value is one.
+    /// The object, if the value is one.
     fn as_object(self) -> Option<Self::Object>
         ensures some { IfSome result (λ o. content self ≡ object (members o)) }
         ensures none { IfNone result (as_object (content self) ≡ None) };
 
-    // The number of items.
+    /// The number of items.
     fn len(array: Self::Array) -> usize
         ensures { result ≡ items_len (items array) };
 
-    // The item at an index from the front.
+    /// The item at an index from the front.
     fn item_at(array: Self::Array, index: usize) -> Option<Self>
         ensures { option_map (λ v. content v) result ≡ get_item index (items array) };
 
-    // The member of this name, with the name as the object has it; the last one, where the name comes again.
+    /// The member of this name, with the name as the object has it; the last one, where the name comes again.
     fn member_named(object: Self::Object, name: &str) -> Option<(Self::Name, Self)>
         ensures key { IfSome result (λ p. name_bytes p.0 ≡ name.now) }
         ensures value { option_map (λ p. content p.1) result ≡ get_member name.now (members object) };
 
-    // The items in their order.
+    /// The items in their order.
     fn each_item(array: Self::Array) -> Self::ItemsLeft
         ensures { items_left result ≡ items array };
 
-    // The next item.
+    /// The next item.
     fn next_item(left: &mut Self::ItemsLeft) -> Option<Self>
         ensures { MatchOption result (items_left left.old ≡ no_items) (λ v. items_left left.old ≡ item (content v) (items_left left.new)) };
 
-    // The members in the order of their names' bytes, each name once.
+    /// The members in the order of their names' bytes, each name once.
     fn each_member(object: Self::Object) -> Self::MembersLeft
         ensures all { members_left result ≡ members object }
         ensures ordered { NamesAscend (members object) };
 
-    // The next member.
+    /// The next member.
     fn next_member(left: &mut Self::MembersLeft) -> Option<(Self::Name, Self)>
         ensures { MatchOption result (members_left left.old ≡ no_members) (λ p. members_left left.old ≡ member (name_bytes p.0) (content p.1) (members_left left.new)) };
 }

@@ -11,19 +11,19 @@ use jsonpath_paths::Decimal;
 use serde_json::{Number, Value};
 
 /// What a comparison in a filter uses of a JSON value or of a literal of the path: its kind, and the content of a
-/// boolean, a number or a text.
+/// boolean, a number or a text. `N` is what a number is compared as: a `Decimal`, for a `Value` and a literal.
 ///
 /// ```text
 /// assert!(rt; matches!(Atom::of(&Value::Bool(true)), Atom::Bool(true)));
 /// ```
 #[derive(Clone, Copy, Debug)]
-pub enum Atom<'a> {
+pub enum Atom<'a, N = Decimal> {
     /// The JSON value `null`.
     Null,
     /// The boolean `true` or `false`.
     Bool(bool),
-    /// A number that is an `i64`, a `u64` or a literal of a path, exact to 18 decimal places.
-    Number(Decimal),
+    /// A number. As a `Decimal`, one that is an `i64`, a `u64` or a literal of a path, exact to 18 decimal places.
+    Number(N),
     /// The content of a text, without its quotes and with its escapes resolved.
     Text(&'a str),
     /// A number that is neither an `i64` nor a `u64`, such as 1.5. Its value is not kept: it satisfies `!=` alone.

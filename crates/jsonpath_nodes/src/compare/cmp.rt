@@ -4,10 +4,11 @@ ghost use Rattle.std.specs.Prelude.{◌≡◌, Some, IsSome};
 ghost use Rattle.serde_json.specs.View.{view};
 ghost use Rattle.jsonpath_nodes.specs.document.OfData.{document_of};
 ghost use Rattle.jsonpath_paths.specs.Numbers.{decimal_units};
-ghost use Rattle.jsonpath_nodes.specs.compare.Atoms.{seen_by, comparison_of};
+ghost use Rattle.jsonpath_nodes.specs.compare.Atoms.{seen_by, seen_with, comparison_of};
 ghost use Rattle.jsonpath_nodes.specs.compare.Comparisons.{Comparison, equal, not_equal, less, less_or_equal, greater, greater_or_equal, truth, decimal, text, seen, pair, is_satisfied, is_not_equal};
 
 use crate::compare::atom::Atom;
+use crate::tree::Tree;
 use jsonpath_paths::{Decimal, FilterToken};
 use serde_json::Value;
 use std::cmp::Ordering;
@@ -186,6 +187,31 @@ fn is_satisfied_by_order(op: FilterToken, order: Ordering) -> bool
     }
 }
 
+/// Whether two atoms of a tree's values satisfy a comparison, as `holds_atoms` says of atoms whose numbers are decimals.
+/// `op` must be one of the six comparisons, so neither `And` nor `Or`.
+///
+/// ```text
+/// let (seven, eight) = (Atom::Number(Decimal::of_u64(7)), Atom::Number(Decimal::of_u64(8)));
+/// assert!(rt; holds_by_tree::<&Value>(FilterToken::Little, &seven, &eight));
+/// ```
+#[inline]
+pub fn holds_by_tree<T: Tree>(
+    op: FilterToken,
+    left: &Atom<'_, T::Number>,
+    right: &Atom<'_, T::Number>,
+) -> bool
+    requires { IsSome (comparison_of op) }
+    ensures { (o : Comparison) → comparison_of op ≡ Some o → result ≡ pair o (seen_with T.fraction_of left.now) (seen_with T.fraction_of right.now) }
+{
+    match (left, right) {
+        (Atom::Bool(a), Atom::Bool(b)) => is_satisfied_by_order(op, a.cmp(b)),
+        (Atom::Number(a), Atom::Number(b)) => is_satisfied_by_order(op, T::compare_numbers(a, b)),
+        (Atom::Text(a), Atom::Text(b)) => is_satisfied_by_order(op, a.cmp(b)),
+        (Atom::Null, Atom::Null) => op == FilterToken::Equal,
+        _ => op == FilterToken::NotEqual,
+    }
+}
+
 /// Whether two atoms (each what a comparison uses of a value) satisfy a comparison. `op` must be one of the six
 /// comparisons, so neither `And` nor `Or`.
 ///
@@ -195,19 +221,12 @@ fn is_satisfied_by_order(op: FilterToken, order: Ordering) -> bool
 /// ```text
 /// assert!(rt; holds_atoms(FilterToken::Equal, &Atom::Null, &Atom::Null));
 /// ```
-#[tactic(auto, using(crate::specs::compare::Fractions::units_cmp))]
 #[inline]
 pub fn holds_atoms(op: FilterToken, left: &Atom<'_>, right: &Atom<'_>) -> bool
     requires { IsSome (comparison_of op) }
     ensures { (o : Comparison) → comparison_of op ≡ Some o → result ≡ pair o (seen_by left.now) (seen_by right.now) }
 {
-    match (left, right) {
-        (Atom::Bool(a), Atom::Bool(b)) => is_satisfied_by_order(op, a.cmp(b)),
-        (Atom::Number(a), Atom::Number(b)) => is_satisfied_by_order(op, a.cmp(b)),
-        (Atom::Text(a), Atom::Text(b)) => is_satisfied_by_order(op, a.cmp(b)),
-        (Atom::Null, Atom::Null) => op == FilterToken::Equal,
-        _ => op == FilterToken::NotEqual,
-    }
+    holds_by_tree::<&Value>(op, left, right)
 }
 
 /// Whether two values satisfy a comparison; `op` must be neither `And` nor `Or`. Two arrays, two objects and values of

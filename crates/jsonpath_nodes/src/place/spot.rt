@@ -1,19 +1,21 @@
 //! `Spot`, a node: a value of a document with its location. Children of one value share its location.
 
-ghost use Rattle.std.specs.Prelude.{◌≡◌, ◌↔◌, [], ◌∷◌, ◌++◌, ◌^◌, ◌-◌, length, min, pos, IsTrue, IfOk, IfSome, IfNone, IsSomeAnd, option_to_list};
+ghost use Rattle.std.specs.Prelude.{◌≡◌, ◌↔◌, [], ◌∷◌, ◌++◌, ◌^◌, ◌-◌, length, min, pos, true, IsTrue, IfOk, OnOk, IfSome, IfNone, IsSomeAnd, option_to_list};
 ghost use Rattle.serde_json.specs.View.{view};
 ghost use Rattle.jsonpath_nodes.specs.document.OfData.{document_of};
+ghost use Rattle.jsonpath_nodes.specs.place.Location.{below};
+ghost use Rattle.jsonpath_nodes.specs.place.Mark.{MarksGain};
 ghost use Rattle.jsonpath_nodes.specs.place.SpotPlace.{step_of, steps_of, path_location, location_of, value_of, sight_of, LeadsBy};
 ghost use Rattle.jsonpath_nodes.specs.step.Steps.{step, all_below, every, named, nth};
 
 use crate::memory::NoMemory;
 use crate::place::location::Location;
+use crate::place::mark::Mark;
 use crate::place::trail::{
     PathTo, Trail, add_steps_of_path_to_value, clone_trail, is_root, len_of_path_to_value,
     shared_trail,
 };
 use crate::step::child_lookup::item_of_value;
-use crate::step::children::{add_named_member, add_selected_children};
 use crate::step::descend::add_node_and_all_below;
 use crate::step::plain_step::PlainStep;
 use serde_json::Value;
@@ -140,7 +142,7 @@ impl<'a> Spot<'a> {
         ensures { IfOk result (λ found. LeadsBy (λ doc ls. step doc every ls) (self.now ∷ []) found.items) }
     {
         let mut found = Vec::new(alloc);
-        add_selected_children(self, alloc, &PlainStep::Every, &mut found)?;
+        self.add_selected_children(alloc, &PlainStep::Every, &mut found)?;
         Ok(found)
     }
 
@@ -154,7 +156,7 @@ impl<'a> Spot<'a> {
         ensures { IfOk result (λ found. LeadsBy (λ doc ls. step doc (named name.now) ls) (self.now ∷ []) (option_to_list found)) }
     {
         let mut found = Vec::new(alloc);
-        add_named_member(self, alloc, name, &mut found)?;
+        self.add_named_member(alloc, name, &mut found)?;
         Ok(found.pop())
     }
 
@@ -190,8 +192,19 @@ impl<'a> Spot<'a> {
         ensures { IfOk result (λ found. LeadsBy all_below (self.now ∷ []) found.items) }
     {
         let mut found = Vec::new(alloc);
-        add_node_and_all_below(alloc, self, &mut found)?;
+        self.add_all_below(alloc, &mut found)?;
         Ok(found)
+    }
+
+    // Appends to `out` this node and all its descendants, in document order.
+    pub(crate) fn add_all_below(
+        &self,
+        alloc: Global,
+        out: &mut Vec<Spot<'a>>,
+    ) -> Result<(), NoMemory>
+        ensures { OnOk result (MarksGain true location_of value_of below (location_of self.now) (value_of self.now) out.old.items out.new.items) }
+    {
+        add_node_and_all_below(alloc, self, out)
     }
 }
 

@@ -9,7 +9,6 @@ ghost use Rattle.jsonpath_nodes.specs.step.Steps.{step, step as step_word, all_b
 use crate::memory::NoMemory;
 use crate::place::spot::Spot;
 use crate::step::candidates;
-use crate::step::descend::add_node_and_all_below;
 use crate::step::plain_step::PlainStep;
 use crate::steps_on_marks::{
     candidates_below_mark, flattened_from_each, plain_step_from_all_below, plain_step_from_each,
@@ -191,7 +190,7 @@ impl ValueWalker {
     {
         let mut found = Vec::new(alloc);
         for spot in spots {
-            add_node_and_all_below(alloc, spot, &mut found)?;
+            spot.add_all_below(alloc, &mut found)?;
         }
         Ok(found)
     }

@@ -15,7 +15,7 @@ use Rattle.jsonpath_paths.specs.declared.token.tokens.FilterToken.TheVariants as
 use Rattle.jsonpath_nodes.specs.compare.Atoms.{seen_by}
 use Rattle.jsonpath_nodes.specs.compare.Comparisons.{Comparison, equal, less, less_or_equal, greater, greater_or_equal, Seen, null_value, truth, fraction, decimal, text, pair, is_satisfied, fraction_cmp}
 use Rattle.jsonpath_nodes.specs.compare.Fractions.{fraction_order, fraction_total, units_cmp}
-use Rattle.jsonpath_nodes.specs.declared.compare.atom.Atom.{Atom}
+use Rattle.jsonpath_nodes.specs.compare.Atoms.{DecimalAtom}
 use Rattle.jsonpath_select.specs.Parts.{is_pair}
 use Rattle.jsonpath_select.specs.plan.Deciders.{is_order, some_right, one_of, extreme_values, is_among_known}
 use Rattle.jsonpath_select.specs.declared.comparison.extremes.Extremes.{Extremes}
@@ -26,17 +26,17 @@ use Rattle.jsonpath_select.proofs.comparison.ExtremeLemmas.{lt_is, back_lt, back
 -- ---- one more value
 
 -- what is known of the values so far, and one more
-pub next_value : (test : Seen → Bool) (atoms : List Atom) (i : ℕ) (a : Atom) (old new all : Bool) → a ≡ get_or atoms i a → i < length atoms → new ≡ (test (seen_by a) || old)
+pub next_value : (test : Seen → Bool) (atoms : List DecimalAtom) (i : ℕ) (a : DecimalAtom) (old new all : Bool) → a ≡ get_or atoms i a → i < length atoms → new ≡ (test (seen_by a) || old)
     → (old || list_any test (map seen_by (drop i atoms))) ≡ all → (new || list_any test (map seen_by (drop (i + 1) atoms))) ≡ all
 next_value test atoms i a old new all is below more held =
     let next : suc i ≡ i + 1 = omega arith in
     let rest = list_any test (map seen_by (drop (i + 1) atoms)) in
-    let step : drop i atoms ≡ a ∷ drop (i + 1) atoms = drop-cons atoms i a below ∙ ap₂ (λ (b : Atom) (j : ℕ). b ∷ drop j atoms) (sym is) next in
-    ap (λ b. b || rest) more ∙ or_assoc (test (seen_by a)) old rest ∙ swap_in (test (seen_by a)) old rest ∙ ap (λ (xs : List Atom). old || list_any test (map seen_by xs)) (sym step) ∙ held
+    let step : drop i atoms ≡ a ∷ drop (i + 1) atoms = drop-cons atoms i a below ∙ ap₂ (λ (b : DecimalAtom) (j : ℕ). b ∷ drop j atoms) (sym is) next in
+    ap (λ b. b || rest) more ∙ or_assoc (test (seen_by a)) old rest ∙ swap_in (test (seen_by a)) old rest ∙ ap (λ (xs : List DecimalAtom). old || list_any test (map seen_by xs)) (sym step) ∙ held
 
-pub no_more_values : (test : Seen → Bool) (atoms : List Atom) (i : ℕ) (old all : Bool) → length atoms ≤ i → (old || list_any test (map seen_by (drop i atoms))) ≡ all → old ≡ all
+pub no_more_values : (test : Seen → Bool) (atoms : List DecimalAtom) (i : ℕ) (old all : Bool) → length atoms ≤ i → (old || list_any test (map seen_by (drop i atoms))) ≡ all → old ≡ all
 no_more_values test atoms i old all over held =
-    sym (or-false old) ∙ ap (λ (xs : List Atom). old || list_any test (map seen_by xs)) (sym (drop_of_length-le atoms {i = i} over)) ∙ held
+    sym (or-false old) ∙ ap (λ (xs : List DecimalAtom). old || list_any test (map seen_by xs)) (sym (drop_of_length-le atoms {i = i} over)) ∙ held
 
 -- ---- in a total order
 

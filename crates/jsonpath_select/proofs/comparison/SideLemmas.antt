@@ -12,7 +12,7 @@ use Rattle.jsonpath_select.specs.Meaning.{values_at}
 use Rattle.jsonpath_select.specs.Parts.{has_pair}
 use Rattle.jsonpath_nodes.specs.compare.Atoms.{seen_by}
 use Rattle.jsonpath_paths.specs.declared.token.tokens.FilterToken.{FilterToken}
-use Rattle.jsonpath_nodes.specs.declared.compare.atom.Atom.{Atom}
+use Rattle.jsonpath_nodes.specs.compare.Atoms.{DecimalAtom}
 use Rattle.jsonpath_select.specs.plan.Machine.{Tagged, places, front_of_tag, all_tags_or_none, Found, locations_at_tag, pairs_behind, Operand, of_path, tags, literal, values_front, values_behind, compared}
 use Rattle.jsonpath_select.specs.plan.Shown.{tags_of}
 use Rattle.jsonpath_select.specs.plan.Sides.{ShowsSide}
@@ -31,8 +31,8 @@ past n (of_path f) = of_path (record f { pairs = drop n f.pairs })
 past n (tags ts) = tags ts
 past n (literal vs) = literal vs
 
-seen_there : (doc : Document) (ls : List Location) (atoms : List Atom) → map (λ (a : Atom). Some (seen_by a)) atoms ≡ map (λ l. option_map seen (at doc l)) ls → map seen_by atoms ≡ values_at doc ls
-seen_there doc ls atoms h = sym (filter_map-some seen_by atoms) ∙ found_alike (λ o. o) (λ (a : Atom). Some (seen_by a)) (λ l. option_map seen (at doc l)) atoms ls h
+seen_there : (doc : Document) (ls : List Location) (atoms : List DecimalAtom) → map (λ (a : DecimalAtom). Some (seen_by a)) atoms ≡ map (λ l. option_map seen (at doc l)) ls → map seen_by atoms ≡ values_at doc ls
+seen_there doc ls atoms h = sym (filter_map-some seen_by atoms) ∙ found_alike (λ o. o) (λ (a : DecimalAtom). Some (seen_by a)) (λ l. option_map seen (at doc l)) atoms ls h
 
 -- where the side's run of a tag ends, and where the next begins
 abbrev pub end_of : Side → ℕ → ℕ → ℕ
@@ -67,8 +67,8 @@ here_front doc (of_path f) s t from end h start ends = by f.shared refl
         let size : end - from ≡ n = omega (arith, at_end) in
         ap (λ k. map seen_by (take k (drop from s.atoms.items))) size
         ∙ seen_there doc (front_of_tag t left) (take n (drop from s.atoms.items))
-        (sym (take-map (λ (a : Atom). Some (seen_by a)) n (drop from s.atoms.items))
-        ∙ ap (take n) (sym (drop-map (λ (a : Atom). Some (seen_by a)) from s.atoms.items) ∙ ap (drop from) h.2 ∙ drop-map (λ l. option_map seen (at doc l)) from (places f.pairs))
+        (sym (take-map (λ (a : DecimalAtom). Some (seen_by a)) n (drop from s.atoms.items))
+        ∙ ap (take n) (sym (drop-map (λ (a : DecimalAtom). Some (seen_by a)) from s.atoms.items) ∙ ap (drop from) h.2 ∙ drop-map (λ l. option_map seen (at doc l)) from (places f.pairs))
         ∙ take-map (λ l. option_map seen (at doc l)) n (drop from (places f.pairs))
         ∙ ap (map (λ l. option_map seen (at doc l))) (ap (take n) (drop-map (λ (p : Tagged). p.1) from f.pairs) ∙ sym (front_of_tag-run t left)))
 here_front doc (tags ts) s t from end h start ends = absurd h
@@ -91,7 +91,7 @@ pub past_none : (o : Operand) → past 0 o ≡ o
 past_none (of_path f) = refl
 past_none _ = refl
 
-pub compare_next : (doc : Document) (op : FilterToken) (a b : Operand) (l r : Side) (count t lf le ln rf re rn : ℕ) (holds : Bool) (xs ys : List Atom) (out out' all : List ℕ)
+pub compare_next : (doc : Document) (op : FilterToken) (a b : Operand) (l r : Side) (count t lf le ln rf re rn : ℕ) (holds : Bool) (xs ys : List DecimalAtom) (out out' all : List ℕ)
     → ShowsSide doc a l → ShowsSide doc b r → (l.is_constant ≡ true → lf ≡ 0) → (r.is_constant ≡ true → rf ≡ 0)
     → t < count → le ≡ end_of l t lf → re ≡ end_of r t rf → ln ≡ cond l.is_constant 0 le → rn ≡ cond r.is_constant 0 re
     → xs ≡ take (le - lf) (drop lf l.atoms.items) → ys ≡ take (re - rf) (drop rf r.atoms.items) → holds ≡ has_pair op (map seen_by xs) (map seen_by ys)
@@ -110,7 +110,7 @@ compare_next doc op a b l r count t lf le ln rf re rn holds xs ys out out' all h
     one_tag holds t out out' later all more (ap (λ (ts : List ℕ). out ++ ts) (sym step) ∙ kept)
 
 -- one tag more is compared, where the right side is the same for all tags
-pub compare_to_next : (doc : Document) (op : FilterToken) (a b : Operand) (l r : Side) (count t from end : ℕ) (holds : Bool) (xs : List Atom) (out out' all : List ℕ)
+pub compare_to_next : (doc : Document) (op : FilterToken) (a b : Operand) (l r : Side) (count t from end : ℕ) (holds : Bool) (xs : List DecimalAtom) (out out' all : List ℕ)
     → ShowsSide doc a l → ShowsSide doc b r → l.is_constant ≡ false → r.is_constant ≡ true → t < count → end ≡ from + prefix_len (λ u. u == t) (drop from l.tags.items)
     → xs ≡ take (end - from) (drop from l.atoms.items) → holds ≡ has_pair op (map seen_by xs) (map seen_by r.atoms.items) → out' ≡ cond holds (out ++ t ∷ []) out
     → out ++ compared doc op t (count - t) (past from a) b ≡ all → out' ++ compared doc op (t + 1) (count - (t + 1)) (past end a) b ≡ all

@@ -9,7 +9,7 @@ use Rattle.std.proofs.lemmas.Cmp.{nat_list_cmp_total}
 use Rattle.jsonpath_nodes.specs.compare.Atoms.{seen_by}
 use Rattle.jsonpath_nodes.specs.compare.Comparisons.{not_equal, Seen, truth, text, pair}
 use Rattle.jsonpath_nodes.specs.compare.Fractions.{fraction_total}
-use Rattle.jsonpath_nodes.specs.declared.compare.atom.Atom.{Atom}
+use Rattle.jsonpath_nodes.specs.compare.Atoms.{DecimalAtom}
 use Rattle.jsonpath_select.specs.plan.Deciders.{IsAmong}
 use Rattle.jsonpath_select.proofs.comparison.FlippedLemmas.{pair_turned}
 use Rattle.jsonpath_select.proofs.comparison.ByKindLemmas.{number_over, truth_or, number_or, text_or, two_kinds}
@@ -52,7 +52,7 @@ two_decide f a ys differ among x = by (pair not_equal x f) refl
         ap (λ b. b || false) unequal ∙ sym (among (pair not_equal x) unequal)
 
 -- a value at a place is among them
-pub among_at : (atoms : List Atom) (i : ℕ) (a d : Atom) → a ≡ get_or atoms i d → i < length atoms → IsAmong (seen_by a) (map seen_by atoms)
+pub among_at : (atoms : List DecimalAtom) (i : ℕ) (a d : DecimalAtom) → a ≡ get_or atoms i d → i < length atoms → IsAmong (seen_by a) (map seen_by atoms)
 among_at [] i a d is below test h = absurd (omega arith)
-among_at (b ∷ atoms) zero a d is below test h = ap (λ (c : Atom). test (seen_by c) || list_any test (map seen_by atoms)) (sym is) ∙ ap (λ c. c || list_any test (map seen_by atoms)) h
+among_at (b ∷ atoms) zero a d is below test h = ap (λ (c : DecimalAtom). test (seen_by c) || list_any test (map seen_by atoms)) (sym is) ∙ ap (λ c. c || list_any test (map seen_by atoms)) h
 among_at (b ∷ atoms) (suc i) a d is below test h = ap (λ c. test (seen_by b) || c) (among_at atoms i a d is (omega arith) test h) ∙ or-true (test (seen_by b))

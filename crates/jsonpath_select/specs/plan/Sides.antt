@@ -4,14 +4,14 @@ use Rattle.jsonpath_nodes.specs.document.Document.{Document}
 use Rattle.jsonpath_nodes.specs.place.Location.{Location, at}
 use Rattle.jsonpath_nodes.specs.compare.Comparisons.{seen}
 use Rattle.jsonpath_nodes.specs.compare.Atoms.{seen_by}
-use Rattle.jsonpath_nodes.specs.declared.compare.atom.Atom.{Atom}
+use Rattle.jsonpath_nodes.specs.compare.Atoms.{DecimalAtom}
 use Rattle.jsonpath_select.specs.plan.Machine.{Operand, of_path, tags, literal, places}
 use Rattle.jsonpath_select.specs.plan.Shown.{tags_of}
 use Rattle.jsonpath_select.specs.declared.comparison.side.Side.{Side}
 
 -- there is one for each location
-abbrev pub SeesEach : Document → List Location → List Atom → Type 0
-SeesEach doc ls atoms = map (λ (a : Atom). Some (seen_by a)) atoms ≡ map (λ l. option_map seen (at doc l)) ls
+abbrev pub SeesEach : Document → List Location → List DecimalAtom → Type 0
+SeesEach doc ls atoms = map (λ (a : DecimalAtom). Some (seen_by a)) atoms ≡ map (λ l. option_map seen (at doc l)) ls
 
 -- a path's values are there, one for each location, with the tags where they differ; a literal's are there once
 abbrev pub ShowsSide : Document → Operand → Side → Type 0

@@ -1,5 +1,5 @@
 use Rattle.std.proofs.Common.{◌≡◌, ◌≤◌, ◌-◌, List, length, take, drop, ap, arith}
-use Rattle.jsonpath_nodes.specs.declared.compare.atom.Atom.{Atom}
+use Rattle.jsonpath_nodes.specs.compare.Atoms.{DecimalAtom}
 use Rattle.jsonpath_select.proofs.comparison.SideLemmas.{compare_next}
 use Rattle.jsonpath_select.proofs.comparison.comparer.Comparer.compare_each_candidate.Goals as goal
 
@@ -24,7 +24,7 @@ loop-tag-preserved c =
           (take (c.candidate_end_in_side-right_end.result - c.loop-tag.right_from) (drop c.loop-tag.right_from c.as_slice-right_atoms.result.now))
           c.loop-tag.tags.items c.push_tag_if.new.tags.items _ ha hb held.4 held.5 c.loop-tag-test.true c.candidate_end_in_side-left_end.ensures.run c.candidate_end_in_side-right_end.ensures.run
           c.next_candidate_start_in_side-left_from.ensures.goes c.next_candidate_start_in_side-right_from.ensures.goes
-          (ap (λ (xs : List Atom). take (c.candidate_end_in_side-left_end.result - c.loop-tag.left_from) (drop c.loop-tag.left_from xs)) held.2)
-          (ap (λ (xs : List Atom). take (c.candidate_end_in_side-right_end.result - c.loop-tag.right_from) (drop c.loop-tag.right_from xs)) held.3)
+          (ap (λ (xs : List DecimalAtom). take (c.candidate_end_in_side-left_end.result - c.loop-tag.left_from) (drop c.loop-tag.left_from xs)) held.2)
+          (ap (λ (xs : List DecimalAtom). take (c.candidate_end_in_side-right_end.result - c.loop-tag.right_from) (drop c.loop-tag.right_from xs)) held.3)
           c.in_ok-holds.ensures c.in_ok-push_tag_if.ensures (held.6 doc a b ha hb),
     )

@@ -1,7 +1,7 @@
 use Rattle.std.proofs.Common.{◌++◌, ap₂, arith, ◌≡◌, ◌≤◌, ◌-◌, ◌+◌, ◌==◌, ℕ, List, take, drop, ap, map, ◌∙◌, subst, length}
 use Rattle.std.specs.List.{list_any, prefix_len}
 use Rattle.jsonpath_nodes.specs.compare.Atoms.{seen_by}
-use Rattle.jsonpath_nodes.specs.declared.compare.atom.Atom.{Atom}
+use Rattle.jsonpath_nodes.specs.compare.Atoms.{DecimalAtom}
 use Rattle.jsonpath_select.specs.plan.Deciders.{some_right}
 use Rattle.jsonpath_select.specs.plan.Machine.{Operand, compared}
 use Rattle.jsonpath_select.specs.Parts.{has_pair}
@@ -13,7 +13,7 @@ loop-tag-init c =
     let all : c.args.self.now.count - 0 ≡ c.args.self.now.count = omega arith in (
       omega arith,
       c.as_slice-atoms.ensures.value,
-      λ x. c.in_ok-decider.ensures x ∙ ap (λ (ys : List Atom). some_right c.args.self.now.op x (map seen_by ys)) c.as_slice.ensures.value,
+      λ x. c.in_ok-decider.ensures x ∙ ap (λ (ys : List DecimalAtom). some_right c.args.self.now.op x (map seen_by ys)) c.as_slice.ensures.value,
       λ doc a b ha hb. ap₂ (λ (out : List ℕ) (o : Operand). out ++ compared doc c.args.self.now.op 0 (c.args.self.now.count - 0) o b) c.in_ok-tags.ensures.items (past_none a) ∙ ap (λ k. compared doc c.args.self.now.op 0 k a b) all,
     )
 
@@ -32,5 +32,5 @@ loop-tag-preserved c =
       held.1,
       held.2,
       λ doc a b ha hb. compare_to_next doc c.args.self.now.op a b c.args.left.now c.args.right.now c.args.self.now.count c.loop-tag.tag from end c.has_pair-holds.result xs c.loop-tag.tags.items c.push_tag_if.new.tags.items _ ha hb
-          c.requires.left c.requires.right c.loop-tag-test.true ends (ap (λ (ys : List Atom). take (end - from) (drop from ys)) held.1) holds c.in_ok-push_tag_if.ensures (held.3 doc a b ha hb),
+          c.requires.left c.requires.right c.loop-tag-test.true ends (ap (λ (ys : List DecimalAtom). take (end - from) (drop from ys)) held.1) holds c.in_ok-push_tag_if.ensures (held.3 doc a b ha hb),
     )
