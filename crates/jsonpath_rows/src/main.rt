@@ -1,9 +1,8 @@
 //! Replays the rows of the files on its command line through `run`, those that select also through `JsonSelector`,
-//! `Selector` (its values and its nodes) and `select_tokens`, and prints which of them pass. In a file `.md`, a page,
-//! the rows are in its tables; any other file has a row as JSON on each line.
+//! `Selector` (its values and its nodes) and `select_tokens`, and prints which of them pass. A file has a row as JSON on
+//! each line.
 #![tactic(auto)]
 
-mod page;
 mod row;
 mod selected;
 
@@ -27,11 +26,7 @@ fn main(rt: HostRuntime) -> Result<ExitCode> {
 // Replays the rows of a file by each way. Answers whether all hold.
 fn replay(rt: &HostRuntime, file: &str) -> Result<bool> {
     let text = fs::read_to_string(rt, file).context("reading the rows")?;
-    let rows = if file.ends_with(".md") {
-        page::rows_of(rt.alloc(), text.as_str())?
-    } else {
-        rows_of_lines(rt.alloc(), text.as_str())?
-    };
+    let rows = rows_of_lines(rt.alloc(), text.as_str())?;
     let mut holds = replay_run(rt, file, rows.as_slice())?;
     for way in [
         Method::JsonSelector,
