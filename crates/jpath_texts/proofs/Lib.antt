@@ -1,3 +1,5 @@
 pub mod LineLemmas
+pub mod MemberSearchLemmas
 pub mod OnceLemmas
+pub mod OrderedTreeLemmas
 pub mod StreamLemmas

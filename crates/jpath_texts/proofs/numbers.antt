@@ -3,6 +3,7 @@ pub mod KeyLemmas
 pub mod KeyLawLemmas
 pub mod KeyOrderLemmas
 pub mod KeyRankLemmas
+pub mod FractionLemmas
 pub mod PlaceLemmas
 pub mod CopyLemmas
 pub mod LiteralLemmas

@@ -4,6 +4,7 @@ pub mod Lines
 pub mod NamesOnce
 pub mod NumberKey
 pub mod NumberPlaces
+pub mod OrderedTree
 pub mod Rows
 pub mod Stream
 pub mod Unplaced

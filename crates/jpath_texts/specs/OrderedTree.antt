@@ -1,0 +1,77 @@
+-- The document that a text's tree is, and trees whose members stand in the order of their names.
+use Rattle.std.specs.Prelude.{ℕ, ◌*◌, ◌^◌, ℤ, List, Bool, true, ◌&&◌}
+use Rattle.std.specs.Float.Numeral.{scan_numeral, numeral_digits, tens_up, tens_down}
+use Rattle.std.specs.Cmp.Lexicographic.{slice_cmp}
+use Rattle.std.specs.Ordering.{nat_cmp, is_lt, match_ordering}
+use Rattle.json.specs.Json as json
+use Rattle.jsonpath_paths.specs.Numbers.{is_negative, without_minus, signed}
+use Rattle.jsonpath_nodes.specs.document.Document.{written, Document, null, boolean, number, string, array, object, Items, no_items, item, Members, no_members, member}
+
+-- the name is below that of the first of these members, if there are any
+abbrev pub is_before : List ℕ → json.Members → Bool
+is_before k json.no_members = true
+is_before k (json.member l j ms) = is_lt (slice_cmp nat_cmp k l)
+
+-- in each object, at every level, each name is below the next one, by their bytes
+abbrev mutual
+  pub is_ordered : json.Json → Bool
+  is_ordered json.null = true
+  is_ordered (json.boolean b) = true
+  is_ordered (json.number s) = true
+  is_ordered (json.string s) = true
+  is_ordered (json.array js) = are_items_ordered js
+  is_ordered (json.object ms) = are_members_ordered ms
+
+  pub are_items_ordered : json.Items → Bool
+  are_items_ordered json.no_items = true
+  are_items_ordered (json.item j js) = is_ordered j && are_items_ordered js
+
+  pub are_members_ordered : json.Members → Bool
+  are_members_ordered json.no_members = true
+  are_members_ordered (json.member k j ms) = is_before k ms && (is_ordered j && are_members_ordered ms)
+
+-- the tree as it stands, each number as it is written
+abbrev mutual
+  pub document_of_tree : json.Json → Document
+  document_of_tree json.null = null
+  document_of_tree (json.boolean b) = boolean b
+  document_of_tree (json.number s) = number (written s)
+  document_of_tree (json.string s) = string s
+  document_of_tree (json.array js) = array (items_of_tree js)
+  document_of_tree (json.object ms) = object (members_of_tree ms)
+
+  pub items_of_tree : json.Items → Items
+  items_of_tree json.no_items = no_items
+  items_of_tree (json.item j js) = item (document_of_tree j) (items_of_tree js)
+
+  pub members_of_tree : json.Members → Members
+  members_of_tree json.no_members = no_members
+  members_of_tree (json.member k j ms) = member k (document_of_tree j) (members_of_tree ms)
+
+-- the members, with d at k
+abbrev pub put : List ℕ → Document → Members → Members
+put k d no_members = member k d no_members
+put k d (member l e ms) = match_ordering (slice_cmp nat_cmp k l) (member k d (member l e ms)) (member l d ms) (member l e (put k d ms))
+
+-- what the tree means, whatever the order of its members: they go by their names; of a name that comes again the last
+-- value stays
+abbrev mutual
+  pub exact_document : json.Json → Document
+  exact_document json.null = null
+  exact_document (json.boolean b) = boolean b
+  exact_document (json.number s) = number (written s)
+  exact_document (json.string s) = string s
+  exact_document (json.array js) = array (exact_items js)
+  exact_document (json.object ms) = object (exact_members ms no_members)
+
+  pub exact_items : json.Items → Items
+  exact_items json.no_items = no_items
+  exact_items (json.item j js) = item (exact_document j) (exact_items js)
+
+  pub exact_members : json.Members → Members → Members
+  exact_members json.no_members found = found
+  exact_members (json.member k j ms) found = exact_members ms (put k (exact_document j) found)
+
+-- the number that a text writes: a whole number, and the power of ten below it
+abbrev pub text_fraction : List ℕ → ℤ × ℕ
+text_fraction s = let p = scan_numeral (without_minus s) in (signed (is_negative s) (numeral_digits p * 10 ^ tens_up p), tens_down p)

@@ -1,0 +1,4 @@
+//! The exact tree of a text with its members in the order of their names, as a document.
+
+pub(crate) mod handle;
+pub(crate) mod in_order;

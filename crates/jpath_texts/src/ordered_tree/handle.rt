@@ -1,0 +1,224 @@
+//! Handles that lead to the values of an exact tree whose names are in order.
+
+ghost use Rattle.std.specs.Prelude.{◌≡◌, true, is_some, IfSome};
+ghost use Rattle.std.specs.Slice.Iter.{iter_rest};
+ghost use Rattle.json.specs.Value.{value_view, items_view, members_view};
+ghost use Rattle.jpath_texts.specs.NumberKey.{IsKeyOf};
+ghost use Rattle.jpath_texts.specs.OrderedTree.{is_ordered, are_items_ordered, are_members_ordered, document_of_tree, items_of_tree, members_of_tree, text_fraction};
+
+use crate::numbers::number_key::{NumberKey, read_key_or_refuse};
+use crate::ordered_tree::in_order::is_tree_ordered;
+use crate::refusal::DocumentRefusal;
+use json::Value as Exact;
+use jsonpath_nodes::{Atom, Tree};
+use std::alloc::Global;
+use std::cmp::Ordering;
+
+/// A number of a text, beside the key by which it compares.
+#[derive(Drop)]
+pub struct ExactNumber<'a> {
+    text: &'a str,
+    key: NumberKey,
+    ghost keyed: { ∥ IsKeyOf text.now key ∥₁ },
+}
+
+/// A value of an exact tree in whose objects the names are in the order of their bytes, each once.
+#[derive(Clone, Copy, Drop)]
+pub struct OrderedValue<'t, 'a> {
+    value: &'t Exact<'a>,
+    alloc: Global,
+    ghost ordered: { is_ordered (value_view value.now) ≡ true },
+}
+
+/// An array of such a tree.
+#[derive(Clone, Copy, Drop)]
+pub struct OrderedItems<'t, 'a> {
+    items: &'t Vec<Exact<'a>>,
+    alloc: Global,
+    ghost ordered: { are_items_ordered (items_view items.now.items) ≡ true },
+}
+
+/// An object of such a tree.
+#[derive(Clone, Copy, Drop)]
+pub struct OrderedMembers<'t, 'a> {
+    members: &'t Vec<(&'a str, Exact<'a>)>,
+    alloc: Global,
+    ghost ordered: { are_members_ordered (members_view members.now.items) ≡ true },
+}
+
+/// The items of an array that are still to come.
+#[derive(Drop)]
+pub struct OrderedItemsLeft<'t, 'a> {
+    items: std::slice::Iter<'t, Exact<'a>>,
+    alloc: Global,
+    ghost ordered: { are_items_ordered (items_view (iter_rest items)) ≡ true },
+}
+
+/// The members of an object that are still to come.
+#[derive(Drop)]
+pub struct OrderedMembersLeft<'t, 'a> {
+    members: std::slice::Iter<'t, (&'a str, Exact<'a>)>,
+    alloc: Global,
+    ghost ordered: { are_members_ordered (members_view (iter_rest members)) ≡ true },
+}
+
+impl<'t, 'a> OrderedValue<'t, 'a> {
+    /// The value, if the names of each object in it are in the order of their bytes, each once.
+    pub fn of(alloc: Global, value: &'t Exact<'a>) -> Option<OrderedValue<'t, 'a>>
+        ensures some { is_some result ≡ is_ordered (value_view value.now) }
+        ensures value { IfSome result (λ v. v.value.now ≡ value.now) }
+    {
+        if is_tree_ordered(value) {
+            Some(OrderedValue { value, alloc })
+        } else {
+            None
+        }
+    }
+}
+
+impl<'t, 'a> Tree for OrderedValue<'t, 'a> {
+    type Name = &'a str;
+
+    type Array = OrderedItems<'t, 'a>;
+
+    type Object = OrderedMembers<'t, 'a>;
+
+    type ItemsLeft = OrderedItemsLeft<'t, 'a>;
+
+    type MembersLeft = OrderedMembersLeft<'t, 'a>;
+
+    type Number = ExactNumber<'a>;
+
+    type Error = DocumentRefusal;
+
+    ghost content = { λ v. document_of_tree (value_view v.value.now) };
+
+    ghost items = { λ a. items_of_tree (items_view a.items.now.items) };
+
+    ghost members = { λ o. members_of_tree (members_view o.members.now.items) };
+
+    ghost name_bytes = { λ k. k.now };
+
+    ghost items_left = { λ left. items_of_tree (items_view (iter_rest left.items)) };
+
+    ghost members_left = { λ left. members_of_tree (members_view (iter_rest left.members)) };
+
+    ghost fraction_of = { λ n. text_fraction n.text.now };
+
+    fn atom(&self) -> Result<Atom<'_, ExactNumber<'a>>, DocumentRefusal> {
+        match self.value {
+            Exact::Null => Ok(Atom::Null),
+            Exact::Bool(truth) => Ok(Atom::Bool(*truth)),
+            Exact::Number(text) => {
+                let key = read_key_or_refuse(self.alloc, text)?;
+                Ok(Atom::Number(ExactNumber { text: *text, key }))
+            }
+            Exact::String(text) => Ok(Atom::Text(*text)),
+            Exact::Array(_) => Ok(Atom::List),
+            Exact::Object(_) => Ok(Atom::Object),
+        }
+    }
+
+    fn compare_numbers(left: &ExactNumber<'a>, right: &ExactNumber<'a>) -> Ordering {
+        left.key.compare(&right.key)
+    }
+
+    fn as_array(self) -> Option<OrderedItems<'t, 'a>> {
+        match self.value {
+            Exact::Array(items) => Some(OrderedItems {
+                items,
+                alloc: self.alloc,
+            }),
+            _ => None,
+        }
+    }
+
+    fn as_object(self) -> Option<OrderedMembers<'t, 'a>> {
+        match self.value {
+            Exact::Object(members) => Some(OrderedMembers {
+                members,
+                alloc: self.alloc,
+            }),
+            _ => None,
+        }
+    }
+
+    fn len(array: OrderedItems<'t, 'a>) -> usize {
+        array.items.len()
+    }
+
+    fn item_at(array: OrderedItems<'t, 'a>, index: usize) -> Option<OrderedValue<'t, 'a>> {
+        if index < array.items.len() {
+            Some(OrderedValue {
+                value: &array.items[index],
+                alloc: array.alloc,
+            })
+        } else {
+            None
+        }
+    }
+
+    // The names are in order: half of the members that are left is passed over at a time.
+    fn member_named(
+        object: OrderedMembers<'t, 'a>,
+        name: &str,
+    ) -> Option<(&'a str, OrderedValue<'t, 'a>)> {
+        let mut low = 0;
+        let mut high = object.members.len();
+        while low < high {
+            let middle = low + (high - low) / 2;
+            let member = &object.members[middle];
+            match name.cmp(member.0) {
+                Ordering::Less => high = middle,
+                Ordering::Equal => {
+                    let value = OrderedValue {
+                        value: &member.1,
+                        alloc: object.alloc,
+                    };
+                    return Some((member.0, value));
+                }
+                Ordering::Greater => low = middle + 1,
+            }
+        }
+        None
+    }
+
+    fn each_item(array: OrderedItems<'t, 'a>) -> OrderedItemsLeft<'t, 'a> {
+        OrderedItemsLeft {
+            items: array.items.iter(),
+            alloc: array.alloc,
+        }
+    }
+
+    fn next_item(left: &mut OrderedItemsLeft<'t, 'a>) -> Option<OrderedValue<'t, 'a>> {
+        match left.items.next() {
+            Some(value) => Some(OrderedValue {
+                value,
+                alloc: left.alloc,
+            }),
+            None => None,
+        }
+    }
+
+    fn each_member(object: OrderedMembers<'t, 'a>) -> OrderedMembersLeft<'t, 'a> {
+        OrderedMembersLeft {
+            members: object.members.iter(),
+            alloc: object.alloc,
+        }
+    }
+
+    fn next_member(
+        left: &mut OrderedMembersLeft<'t, 'a>,
+    ) -> Option<(&'a str, OrderedValue<'t, 'a>)> {
+        match left.members.next() {
+            Some(member) => {
+                let value = OrderedValue {
+                    value: &member.1,
+                    alloc: left.alloc,
+                };
+                Some((member.0, value))
+            }
+            None => None,
+        }
+    }
+}
