@@ -31,13 +31,21 @@ fn members_go_by_their_names(rt: HostRuntime) {
     becomes(&rt, "{\"a\":1,\"b\":2}", "{\"a\":1,\"b\":2}");
     becomes(&rt, "{\"b\":1,\"a\":2}", "{\"a\":2,\"b\":1}");
     becomes(&rt, "{\"B\":1,\"a\":2,\"\":3}", "{\"\":3,\"B\":1,\"a\":2}");
-    becomes(&rt, "[{\"c\":{\"b\":1.50,\"a\":[]}}]", "[{\"c\":{\"a\":[],\"b\":1.50}}]");
+    becomes(
+        &rt,
+        "[{\"c\":{\"b\":1.50,\"a\":[]}}]",
+        "[{\"c\":{\"a\":[],\"b\":1.50}}]",
+    );
 }
 
 #[test]
 fn last_value_of_a_name_stays(rt: HostRuntime) {
     becomes(&rt, "{\"a\":1,\"a\":2}", "{\"a\":2}");
-    becomes(&rt, "{\"b\":1,\"a\":2,\"b\":{\"d\":3,\"c\":4}}", "{\"a\":2,\"b\":{\"c\":4,\"d\":3}}");
+    becomes(
+        &rt,
+        "{\"b\":1,\"a\":2,\"b\":{\"d\":3,\"c\":4}}",
+        "{\"a\":2,\"b\":{\"c\":4,\"d\":3}}",
+    );
 }
 
 // Whether the values of two texts satisfy a comparison.
@@ -65,7 +73,12 @@ fn numbers_compare_exactly(rt: HostRuntime) {
         ("1.5", FilterToken::Equal, "1", false),
         ("1.5", FilterToken::Greater, "1", true),
         ("-0", FilterToken::Equal, "0.0e7", true),
-        ("9007199254740993", FilterToken::Greater, "9007199254740992", true),
+        (
+            "9007199254740993",
+            FilterToken::Greater,
+            "9007199254740992",
+            true,
+        ),
         ("1e400", FilterToken::Equal, "10e399", true),
         ("1e400", FilterToken::Little, "1e401", true),
         ("-1e400", FilterToken::Little, "-1e399", true),
@@ -87,4 +100,34 @@ fn huge_exponent_is_refused(rt: HostRuntime) {
     check!(rt; found == Err(DocumentRefusal::HugeExponent));
     let within = "{\"a\":1e9999999999999999999999999999999999999999999999}";
     check!(rt; compares(&rt, FilterToken::Equal, within, "1") == Ok(false));
+}
+
+// Whether a value is there, and whether it is a number.
+fn is_number<'a>(value: Option<(&'a str, OrderedValue<'_, 'a>)>) -> Option<bool> {
+    match Tree::atom(&value?.1) {
+        Ok(Atom::Number(_)) => Some(true),
+        _ => Some(false),
+    }
+}
+
+#[test]
+fn members_are_found_by_their_names(rt: HostRuntime) {
+    let mut scratch = Scratch::new(rt.alloc());
+    let text = "{\"a\":1,\"ab\":2,\"b\":\"c\",\"d\":4,\"é\":5}";
+    let tree = Exact::parse(rt.alloc(), text, &mut scratch).expect(&rt, "a tree");
+    let value = OrderedValue::of(rt.alloc(), &tree).expect(&rt, "a tree in order");
+    let object = value.as_object().expect(&rt, "an object");
+    for name in ["a", "ab", "d", "é"] {
+        check!(rt; is_number(OrderedValue::member_named(object, name)) == Some(true), name);
+    }
+    check!(rt; is_number(OrderedValue::member_named(object, "b")) == Some(false));
+    for name in ["", "aa", "abc", "c", "e", "ê"] {
+        check!(rt; is_number(OrderedValue::member_named(object, name)) == None, name);
+    }
+    let mut left = OrderedValue::each_member(object);
+    for name in ["a", "ab", "b", "d", "é"] {
+        let (next, _value) = OrderedValue::next_member(&mut left).expect(&rt, "a member");
+        check!(rt; next == name, name);
+    }
+    check!(rt; OrderedValue::next_member(&mut left).is_none());
 }
