@@ -11,7 +11,9 @@ mod tree;
 mod update;
 
 pub use compare::atom::{Atom, to_num};
-pub use compare::cmp::{Cmp, CmpEq, CmpGe, CmpGt, CmpLe, CmpLt, CmpNe, holds, holds_atoms, holds_by_tree};
+pub use compare::cmp::{
+    Cmp, CmpEq, CmpGe, CmpGt, CmpLe, CmpLt, CmpNe, holds, holds_atoms, holds_by_tree,
+};
 pub use memory::NoMemory;
 pub use place::document_order::{in_document_order, indexes_standing_among, topmost_spots};
 pub use place::location::{LocStep, Location};
