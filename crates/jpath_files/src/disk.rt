@@ -17,7 +17,8 @@ pub enum Call<'a> {
     SetLen(u64),
     SyncFile,
     OpenFolder,
-    /// Removes whatever file is at the path of the new file, which is beside the edited file.
+    /// Removes the file, if any, at the path that is chosen for the new file, beside the edited file; whether it is the
+    /// new file or another one.
     Remove,
     /// Creates the new file beside the edited file and opens it; fails if there is one. Its owner alone may read and
     /// write it.

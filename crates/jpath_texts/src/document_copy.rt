@@ -90,8 +90,8 @@ fn copy_members_if_numbers_fit(
 }
 
 /// Copies an exact tree, which keeps each number as written, to a `serde_json` value, with each number replaced as
-/// `numbers` says. `numbers` must be `Ranked` or `Alike`: `Scaled` is not allowed, since a number may not fit, and
-/// `AsRead`, which is not meant for copies, would make each number 0.
+/// `numbers` says. `numbers` must be `Ranked` or `Alike`: `Scaled` is not allowed, since a scaled number may not fit in
+/// 64 bits; and `AsRead`, with which no copy is made, would make each number 0.
 pub fn copy_with_numbers(
     alloc: Global,
     exact: &Exact<'_>,

@@ -5,8 +5,8 @@ ghost use Rattle.jpath_texts.specs.NumberKey.{OneKey};
 ghost use Rattle.jpath_texts.specs.NumberPlaces.{KeepsTextOrder, is_alike};
 ghost use Rattle.jpath_texts.specs.declared.numbers.numbers_in_copy.Numbers.{Numbers};
 
-/// Lemma: a number has one `NumberKey`, with whatever zeros, point and exponent it is written. So equal numbers have
-/// equal keys.
+/// Lemma: a number has one `NumberKey`, however it is written (zeros, point, exponent). So equal numbers have equal
+/// keys.
 pub fn one_number_one_key()
     ensures { OneKey }
 {}

@@ -242,8 +242,8 @@ pub fn find_end(state: &mut State, piece: &[u8]) -> Found
     Found::GoesOn
 }
 
-/// The number of bytes of the first document of a text, with the blanks before it; the length of the whole text if it
-/// has no such document.
+/// The number of bytes of the first document of a text, with the blanks before it; the length of the whole text if no
+/// whole document is at its front.
 pub fn first_document_len(text: &[u8]) -> usize
     ensures { result ≡ end_or (length text.now) (found_in text.now) }
 {

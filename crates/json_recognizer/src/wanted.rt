@@ -44,7 +44,7 @@ pub enum Wanted {
     NotANumber,
 }
 
-/// Prints why the byte is wrong as a sentence of an error message.
+/// Prints, as a sentence of an error message, why the byte is wrong.
 impl Display for Wanted {
     ghost output = { λ wanted. Some (wanted_words wanted) };
 

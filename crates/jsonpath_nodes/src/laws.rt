@@ -24,9 +24,9 @@ ghost use Rattle.jsonpath_nodes.specs.step.Separate.{ApartHasNoRepeatFlat, OneIs
 
 use serde_json::{Map, Value};
 
-/// Lemma: values with different content have different documents. Contracts describe a `Value` by its document (its
-/// content, with each number as `serde_json` read it), so a contract that determines the document determines the
-/// content, too.
+/// Lemma: contracts describe a `Value` by what they call its document: its content, with each number as `serde_json`
+/// read it. Values with different content have different documents, so a contract that determines the document
+/// determines the content, too.
 ///
 /// ```text
 /// laws::documents_keep_data_apart();
@@ -74,8 +74,8 @@ pub fn equal_locations_are_same()
     ensures { (l m : Location) → location_cmp l m ≡ Equal → l ≡ m }
 {}
 
-/// Lemma: if each node of a list is at the location with the same index in a second list, then the locations that are
-/// stored in the nodes are that second list.
+/// Lemma: for a list of nodes and a list of locations, with the i-th node at the i-th location for each i, the
+/// locations that are stored in the nodes are the second list.
 ///
 /// ```text
 /// laws::spots_show_their_locations();
@@ -193,11 +193,11 @@ pub fn candidates_of_disjoint_in_descents()
 {}
 
 /// Lemma: locations are disjoint if no two are equal and none is below another. Distinct locations of equal depth are
-/// disjoint. No location is at or below two disjoint ones. Disjoint locations are apart: no two are equal, and none can
-/// be reached from another by indexes alone. From disjoint locations, a step that selects no child of a value twice
-/// leads to disjoint ones, and so does `*` if the names of each object to which it is applied ascend, so that none
-/// comes twice. A filter's candidates from disjoint locations are disjoint, and so are those of them that meet its
-/// condition.
+/// disjoint. No location is at or below two disjoint ones. Disjoint locations are also apart, a weaker property: no two
+/// are equal, and none can be reached from another by indexes alone. From disjoint locations, a step that selects no
+/// child of a value twice leads to disjoint ones, and so does `*` if the names of each object to which it is applied
+/// ascend, so that none comes twice. A filter's candidates from disjoint locations are disjoint, and so are those of
+/// them that meet its condition.
 ///
 /// ```text
 /// laws::steps_keep_locations_disjoint();
@@ -212,8 +212,9 @@ pub fn steps_keep_locations_disjoint()
 {}
 
 /// Lemma: let locations be called apart if no two are equal and none can be reached from another by indexes alone; a
-/// single location is. A filter's candidates are found by flattening nested arrays: from locations that are apart, none
-/// is found twice, and the candidates that are found from any locations are apart if each is listed once.
+/// single location counts as apart. A filter's candidates are found by flattening nested arrays: from locations that
+/// are apart, no candidate is found twice; and the candidates found from any locations, each listed once, are at
+/// locations that are apart.
 ///
 /// ```text
 /// laws::apart_locations_meet_candidates_once();
@@ -226,9 +227,9 @@ pub fn apart_locations_meet_candidates_once()
 {}
 
 /// Lemma: locations are apart if no two are equal and none can be reached from another by indexes alone. These steps
-/// lead to locations that are apart: from any distinct locations, a name or a list of different names; from a single
-/// location, `..` before a name; from locations that are apart, an index, a slice, or a list of different indexes none
-/// of which is negative. If locations are apart, those of them that meet a filter's condition are, too.
+/// lead to locations that are apart: a name or a list of different names, from any distinct locations; `..` before a
+/// name, from a single location; an index, a slice, or a list of different indexes none of which is negative, from
+/// locations that are apart. If locations are apart, those of them that meet a filter's condition are, too.
 ///
 /// ```text
 /// laws::steps_keep_locations_apart();
@@ -243,9 +244,10 @@ pub fn steps_keep_locations_apart()
     ensures kept { KeptStandApart }
 {}
 
-/// Lemma: all locations at or below one location of a document are distinct. From distinct locations, a step that
-/// selects no child of a value twice leads to distinct ones, and so does `*` if the names of each object to which it is
-/// applied ascend, so that none comes twice. If locations are distinct, those that meet a filter's condition are, too.
+/// Lemma: the list of all locations at or below a location of a document has no repeats. From distinct locations, a
+/// step that selects no child of a value twice leads to distinct ones, and so does `*` if the names of each object to
+/// which it is applied ascend, so that none comes twice. If locations are distinct, those that meet a filter's
+/// condition are, too.
 ///
 /// ```text
 /// laws::steps_lead_without_repeats();

@@ -157,8 +157,8 @@ pub fn stride_from_each<'a, M: Mark<'a>>(
 }
 
 /// The non-array values left after flattening the nested arrays of each node, node by node; a value that is found from
-/// two nodes is listed twice. If none is found twice, these are the candidates of a filter whose `@` is followed by a
-/// segment.
+/// two nodes is listed twice. If no value is listed twice, the list is the candidates (the values tested) of a filter
+/// that uses `@` with a segment, such as `[?(@.a)]`.
 ///
 /// ```text
 /// let found = steps_on_marks::flattened_from_each(alloc, &[&document])?;
@@ -175,8 +175,8 @@ pub fn flattened_from_each<'a, M: Mark<'a>>(alloc: Global, marks: &[M]) -> Resul
     Ok(found)
 }
 
-/// The candidates, from one node, of a filter that uses a relative query with at least one segment: the node itself if
-/// it is no array, else the non-array values left after flattening nested arrays.
+/// The values that a filter tests when it is applied to one node, if it has a relative query with at least one segment,
+/// such as `@.a`: the node itself if it is no array, else the non-array values left after flattening nested arrays.
 ///
 /// ```text
 /// let found = steps_on_marks::flattened_from_mark(alloc, &&document)?;
@@ -191,8 +191,9 @@ pub fn flattened_from_mark<'a, M: Mark<'a>>(alloc: Global, mark: &M) -> Result<V
     Ok(found)
 }
 
-/// The candidates, from one node, of a filter that comes after `..` and uses a relative query with at least one
-/// segment: the node's descendants that are not arrays, each once.
+/// The values that a filter after `..` tests when it is applied to one node, if it has a relative query with at least
+/// one segment, such as `@.a`: the node's descendants that are not arrays, each once, in the order in which `..*` finds
+/// them with arrays flattened.
 ///
 /// ```text
 /// let found = steps_on_marks::candidates_below_mark(alloc, &&document)?;

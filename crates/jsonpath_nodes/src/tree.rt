@@ -14,8 +14,8 @@ pub(crate) mod of_value;
 use crate::compare::atom::Atom;
 use std::cmp::Ordering;
 
-/// A value of a document, as a small copy that leads to it: a reference, for `&Value`. Steps and comparisons are generic
-/// over it.
+/// A small handle to a value of a document, which can be copied; `&Value`, for example, is one. Steps and comparisons
+/// are generic over it.
 ///
 /// ```text
 /// let value = Value::Bool(true);
@@ -28,9 +28,9 @@ pub trait Tree: Copy + Drop {
     type Array: Copy;
     /// An object.
     type Object: Copy;
-    /// The items of an array that are still to come.
+    /// The state of an iteration over an array's items: those not yet returned.
     type ItemsLeft: Drop;
-    /// The members of an object that are still to come.
+    /// The state of an iteration over an object's members: those not yet returned.
     type MembersLeft: Drop;
     /// A number, as it is compared.
     type Number: Drop;
@@ -78,7 +78,8 @@ pub trait Tree: Copy + Drop {
     fn item_at(array: Self::Array, index: usize) -> Option<Self>
         ensures { option_map (λ v. content v) result ≡ get_item index (items array) };
 
-    /// The member of this name, with the name as the object has it; the last one, where the name comes again.
+    /// The member of this name, beside its name as the object stores it; if the object has the name several times, the
+    /// last of these members.
     fn member_named(object: Self::Object, name: &str) -> Option<(Self::Name, Self)>
         ensures key { IfSome result (λ p. name_bytes p.0 ≡ name.now) }
         ensures value { option_map (λ p. content p.1) result ≡ get_member name.now (members object) };

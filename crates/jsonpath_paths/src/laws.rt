@@ -63,8 +63,8 @@ pub fn one_tree_per_token_list()
     ensures { (p q : Path) → IsPath p → IsPath q → path_tokens p ≡ path_tokens q → p ≡ q }
 {}
 
-/// Lemma: a text parses to a syntax tree exactly if `tree_of_text` computes this tree from it. For a literal text, the
-/// proof that it has its tree is thus the computation itself (`refl`).
+/// Lemma: a text parses to a syntax tree exactly if `tree_of_text` computes this tree from it. So a proof can show by
+/// computing alone which tree a constant text such as `$.a` has.
 ///
 /// ```text
 /// laws::spelled_tree();
@@ -75,7 +75,7 @@ pub fn spelled_tree()
 {}
 
 /// Lemma: a text has a syntax error at a position exactly if `place_of_text` computes this position, so at one position
-/// at most. For a literal text, the proof of its error's position is thus the computation itself (`refl`).
+/// at most. So a proof can show by computing alone where a constant text has its error.
 ///
 /// ```text
 /// laws::error_position();

@@ -91,8 +91,8 @@ impl JsonPathError {
     }
 
     /// Shows a syntax error in this path text. Returns the text, a line end, and a `^` for each byte of the text up to
-    /// the end of the wrong token, or for all its bytes if it ends too early. The message of an error of `Parser` is
-    /// this already, and is returned. `None` if this error is no syntax error.
+    /// the end of the wrong token, or for all its bytes if it ends too early. An error of `Parser` already has this
+    /// text as its message, which is then returned. `None` if this error is no syntax error.
     ///
     /// ```text
     /// let refused = compile_path(alloc, "$.a[b]")

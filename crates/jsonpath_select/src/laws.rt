@@ -48,10 +48,10 @@ pub fn swapped_sides_select_alike()
 {}
 
 /// Lemma: for two condition texts `a` and `b`, the paths `$[?((a) && (b))]` and `$[?((b) && (a))]` select the same
-/// list, and so do those with `||`. The lemma assumes that these paths are in the grammar, and `$[?(a)]` and `$[?(b)]`
-/// too; so `a` can't be a text like `@.x) || (@.y`, whose parentheses close and open again. The inner parentheses are
-/// needed, since here `&&` and `||` have the same precedence and group to the right: without them, if `a` is `@.x &&
-/// @.y`, `a || b` means `@.x && (@.y || b)`.
+/// list, and so do those with `||`, if these paths and also `$[?(a)]` and `$[?(b)]` are in the grammar. This rules out
+/// a text such as `@.x) || (@.y` for `a`: in this grammar one pair of parentheses encloses the whole condition of a
+/// filter, so `$[?(@.x) || (@.y)]` is no path. The inner parentheses are needed, since `&&` and `||` have the same
+/// precedence and group to the right: without them, if `a` is `@.x && @.y`, `a || b` means `@.x && (@.y || b)`.
 ///
 /// ```text
 /// laws::swapped_condition_texts_select_alike();
@@ -65,7 +65,8 @@ pub fn swapped_condition_texts_select_alike()
 }
 
 /// Lemma: the text of a location, as `{}` prints it, is a path of the grammar. In a document that has the location, the
-/// path selects it alone, else nothing. The lemma assumes that each name is UTF-8 text and each index is below 2^63.
+/// path selects it alone; in any other document, it selects nothing. The lemma assumes that each name is UTF-8 text and
+/// each index is below 2^63.
 ///
 /// ```text
 /// laws::location_text_selects_itself();
@@ -101,7 +102,8 @@ pub fn one_location_answers_one_value()
     one_tree_per_text();
 }
 
-/// Lemma: what a path text selects can be computed from any syntax tree of that text, since a text has only one.
+/// Lemma: a path text has only one syntax tree; so if a tree is a syntax tree of the text, what the text selects can be
+/// computed from that tree.
 ///
 /// ```text
 /// laws::selects_by_any_tree();
@@ -184,9 +186,8 @@ pub fn what_leads_on_suffices()
     equal_locations_are_same();
 }
 
-/// Lemma: if a list of nodes is split in two, the first node that some steps select from the list, in the order in
-/// which the steps find them, is the first that they select from its first part or, if they select none from it, from
-/// its second part.
+/// Lemma: let a list of nodes be split in two parts. The first node that some steps find from the whole list is the
+/// first that they find from the first part or, if they find none there, from the second part.
 ///
 /// ```text
 /// laws::first_is_of_first_piece();

@@ -13,8 +13,9 @@ use std::alloc::{AllocError, Global};
 use std::cmp::Ordering;
 
 /// A key by which numbers compare: keys are ordered as their numbers are, and equal if these are equal. The number is
-/// 0.DIGITS times ten to the exponent; the digits neither begin nor end with 0. For a negative number, the exponent is
-/// negated, each digit is subtracted from 9, and a digit that is greater than 9 is appended.
+/// 0.DIGITS times ten to the exponent; the digits neither begin nor end with 0. For a negative number, the stored
+/// exponent and digits are turned round, so that keys sort as numbers do: the exponent is negated, each digit `d`
+/// becomes `9 - d`, and a last digit above 9 is appended.
 #[derive(Debug, Drop, PartialEq, Eq, PartialOrd, Ord)]
 pub struct NumberKey {
     side: i8,

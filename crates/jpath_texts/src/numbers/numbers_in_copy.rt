@@ -25,14 +25,14 @@ use std::alloc::Global;
 /// How the copy of a document on which paths are run represents the document's numbers.
 #[derive(Drop)]
 pub enum Numbers {
-    /// The copy of the document has its numbers unchanged, as `serde_json` read them.
+    /// Paths are run on the document as `serde_json` read it, with its numbers unchanged.
     AsRead,
     /// The copy of the document has each number times ten to this power, which makes each an integer.
     Scaled(u32),
     /// The copy of the document has, in place of each number, the index of its key in this list of keys, which ascend.
     Ranked(Vec<NumberKey>),
-    /// All numbers of the document are one and the same number in its copy, on which only paths whose filters compare
-    /// no numbers are run.
+    /// The copy of the document has the same number in place of every number. Only paths whose filters compare no
+    /// numbers are run on it.
     Alike,
 }
 
@@ -87,9 +87,9 @@ impl Numbers {
         }
     }
 
-    /// The token list of a path, with each number that a filter compares replaced in the way that `self` says for the
-    /// numbers of a document: `Scaled` multiplies it by the power of ten, `Ranked` replaces it by the index of its key
-    /// in the list of keys, each other variant keeps it.
+    /// The token list of a path, with the numbers that filters compare changed as `self` changes a document's numbers:
+    /// `Scaled` multiplies each by the power of ten that it stores, `Ranked` replaces each by the index of its
+    /// `NumberKey` in the list that it stores, the other variants keep them.
     pub fn tokens_with_literals_placed(
         &self,
         alloc: Global,

@@ -14,7 +14,7 @@ use jsonpath_nodes::{Atom, Tree};
 use std::alloc::Global;
 use std::cmp::Ordering;
 
-/// A number of a text, beside the key by which it compares.
+/// A number as a JSON text writes it, together with the key by which it is compared.
 #[derive(Drop)]
 pub struct ExactNumber<'a> {
     text: &'a str,
@@ -22,7 +22,8 @@ pub struct ExactNumber<'a> {
     ghost keyed: { ∥ IsKeyOf text.now key ∥₁ },
 }
 
-/// A value of an exact tree in whose objects the names are in the order of their bytes, each once.
+/// A value of an exact tree (the tree of a JSON text, with numbers as written) in which each object has its names in
+/// the order of their bytes, each once.
 #[derive(Clone, Copy, Drop)]
 pub struct OrderedValue<'t, 'a> {
     value: &'t Exact<'a>,
@@ -46,7 +47,7 @@ pub struct OrderedMembers<'t, 'a> {
     ghost ordered: { are_members_ordered (members_view members.now.items) ≡ true },
 }
 
-/// The items of an array that are still to come.
+/// The state of an iteration over an array's items: those not yet returned.
 #[derive(Drop)]
 pub struct OrderedItemsLeft<'t, 'a> {
     items: std::slice::Iter<'t, Exact<'a>>,
@@ -54,7 +55,7 @@ pub struct OrderedItemsLeft<'t, 'a> {
     ghost ordered: { are_items_ordered (items_view (iter_rest items)) ≡ true },
 }
 
-/// The members of an object that are still to come.
+/// The state of an iteration over an object's members, by their names: those not yet returned.
 #[derive(Drop)]
 pub struct OrderedMembersLeft<'t, 'a> {
     members: std::slice::Iter<'t, (&'a str, Exact<'a>)>,

@@ -22,7 +22,8 @@ pub enum Shown {
 /// both, in which layout.
 #[derive(Clone, Copy, Debug, Drop)]
 pub struct Line<'n> {
-    /// How the selected value is written: whether texts are raw, whether it is indented over lines, and in colours.
+    /// How the selected value is written: a string with or without its quotes and escapes, indented over several lines
+    /// or not, in colours or not.
     pub look: Look,
     /// Whether the line shows the selected value, its location, or both.
     pub shown: Shown,

@@ -11,6 +11,7 @@ pub struct Piece<'p> {
     pub place: LineColumn,
     /// What the piece is: a document, wrong bytes in place of one, or blanks.
     pub kind: Kind,
-    /// Whether this is the first piece of the stream and a byte order mark, which is not in `bytes`, comes before it.
+    /// Whether a byte order mark comes before this piece, which is then the stream's first. The byte order mark is not
+    /// in `bytes`.
     pub is_marked: bool,
 }

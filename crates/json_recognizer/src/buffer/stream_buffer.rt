@@ -81,7 +81,8 @@ impl StreamBuffer {
     }
 
     /// For a current piece that is no document: the line and column in the stream of its first wrong byte. If the
-    /// stream ends within the piece: those of the last byte, or column 0 of the next line if that is a line end.
+    /// stream ends within the piece, those of the piece's last byte or, if this byte is a line end, column 0 of the
+    /// next line.
     pub fn place_of_refusal(&self) -> LineColumn
         requires { IsSound self.now }
         ensures { (passed stream : List ℕ) → StandsBehind self.now passed → (wrong_in self.now ≡ Found.GoesOn → piece_of self.now ≡ stream) → ((more : List ℕ) × (stream ≡ left self.now ++ more)) → result ≡ place_of (wrong_in self.now) passed stream }

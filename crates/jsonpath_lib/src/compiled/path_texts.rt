@@ -27,7 +27,7 @@ pub struct PathsFault {
     pub fault: JsonPathError,
 }
 
-/// Prints `path`, the index, a colon and the text of the error; without an index the error's text alone.
+/// Prints the word `path`, the index, a colon and the error's text; if there is no index, the error's text alone.
 impl fmt::Display for PathsFault {
     ghost output = { λ fault. Some (paths_fault_text fault.index fault.fault) };
 

@@ -41,7 +41,7 @@ pub struct MaskFault {
     pub value: Value,
 }
 
-/// Prints `path`, the index, a colon and the text of the error; without an index the error's text alone.
+/// Prints the word `path`, the index, a colon and the error's text; if there is no index, the error's text alone.
 impl fmt::Display for MaskFault {
     ghost output = { λ fault. Some (paths_fault_text fault.index fault.fault) };
 

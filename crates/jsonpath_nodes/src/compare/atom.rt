@@ -22,7 +22,8 @@ pub enum Atom<'a, N = Decimal> {
     Null,
     /// The boolean `true` or `false`.
     Bool(bool),
-    /// A number. As a `Decimal`, one that is an `i64`, a `u64` or a literal of a path, exact to 18 decimal places.
+    /// A number. If `N` is `Decimal`, it is an `i64`, a `u64`, or a number literal of a path, which is exact to 18
+    /// decimal places.
     Number(N),
     /// The content of a text, without its quotes and with its escapes resolved.
     Text(&'a str),

@@ -187,8 +187,9 @@ fn is_satisfied_by_order(op: FilterToken, order: Ordering) -> bool
     }
 }
 
-/// Whether two atoms of a tree's values satisfy a comparison, as `holds_atoms` says of atoms whose numbers are decimals.
-/// `op` must be one of the six comparisons, so neither `And` nor `Or`.
+/// Whether two atoms (each what a comparison uses of a value) satisfy a comparison, by the rules of `holds_atoms`;
+/// numbers are those of the tree `T`, in place of decimals. `op` must be one of the six comparisons, so neither `And`
+/// nor `Or`.
 ///
 /// ```text
 /// let (seven, eight) = (Atom::Number(Decimal::of_u64(7)), Atom::Number(Decimal::of_u64(8)));

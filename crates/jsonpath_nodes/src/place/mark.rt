@@ -70,14 +70,14 @@ pub trait Mark<'a>: Drop + Sized {
     ) -> Result<(), NoMemory>
         ensures { OnOk result (MarksGain located stand content (deep (plain_step_of plain.now)) (stand self.now) (content self.now) out.old.items out.new.items) };
 
-    /// Appends to `out` the non-array values left after flattening this node's arrays: the node itself, if it is no
-    /// array.
+    /// If this node is an array, appends to `out` the non-array values left after flattening it and the arrays nested
+    /// in it; else the node itself.
     fn add_flattened(&self, alloc: Global, out: &mut Vec<Self>) -> Result<(), NoMemory>
         ensures { OnOk result (MarksGain located stand content flat (stand self.now) (content self.now) out.old.items out.new.items) };
 
-    /// Appends to `out` the candidates, from this node, of a filter that comes after `..` and uses a relative query
-    /// with at least one segment: the node's descendants that are not arrays, each once. The contract also ensures that
-    /// in each object at or below this node the names ascend, as in every `Value`.
+    /// For a filter after `..` that has a relative query with at least one segment, such as `@.a`, appends to `out` the
+    /// values that it tests when it is applied to this node: the node's descendants that are not arrays, each once. The
+    /// contract also ensures that in each object at or below this node the names ascend, as in every `Value`.
     fn add_candidates_below(&self, alloc: Global, out: &mut Vec<Self>) -> Result<(), NoMemory>
         ensures gains { OnOk result (MarksGain located stand content candidates_below (stand self.now) (content self.now) out.old.items out.new.items) }
         ensures document { OnOk result (IsOrderedDocument (content self.now)) };

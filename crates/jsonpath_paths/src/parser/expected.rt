@@ -1,4 +1,4 @@
-//! What could have been where a path text has a syntax error.
+//! What would have been allowed at the position of a path text's syntax error.
 
 ghost use Rattle.std.specs.Prelude.{◌≡◌, List, Some, IfOk, IfSome, IfNone, is_some, length, option_map};
 ghost use Rattle.jsonpath_paths.specs.Expectations.{AreExpected, IsLongestFront};
@@ -33,7 +33,8 @@ pub enum Expected {
     Fraction,
 }
 
-/// What could have been where a path text has a syntax error: the tokens, and whether the path could have ended there.
+/// What would have been allowed at the position of a path text's syntax error: which tokens, and whether the path could
+/// have ended there.
 ///
 /// ```text
 /// let expected = expected_tokens(alloc, "$.a b")?;
@@ -171,8 +172,8 @@ fn longest_front(alloc: Global, text: &str) -> Result<Option<Vec<Lexeme>>, Alloc
     Ok(Some(found))
 }
 
-/// What could have been where a path text has a syntax error: each token that can follow, in some path, the tokens
-/// before the error. `None` for a text that is a path. The only error is that memory runs out.
+/// What would have been allowed at the position of a path text's syntax error: each token that can follow, in some
+/// path, the tokens before the error. `None` for a text that is a path. The only error is that memory runs out.
 ///
 /// ```text
 /// let expected = expected_tokens(alloc, "$.a[?(@.b) x]")?;

@@ -7,7 +7,8 @@ use crate::token::tokens::ParseToken;
 use crate::tree::parser_node::{Condition, Inner, ParserNode, ParserStep, Term, node_of_steps};
 use std::alloc::{AllocError, Global};
 
-/// A copy of a token is equal to it. Copying a list allocates memory; the only error is `OutOfMemory`.
+/// A copy of a token is equal to it. Copying a token that has a list, of names or of indexes, allocates memory; the
+/// only error is `OutOfMemory`.
 impl Clone for ParseToken {
     ghost is_clone = { λ token copy. copy ≡ token };
 

@@ -6,7 +6,8 @@ ghost use Rattle.jsonpath_paths.specs.tree.Tree.{path};
 
 use crate::token::tokens::{FilterToken, ParseToken};
 
-/// The syntax tree of a path. The path begins at the document's root, or, in a filter, at the candidate.
+/// The syntax tree of a path. The path begins at the document's root (`$`) or, in a filter, at the value that the
+/// filter tests (`@`).
 ///
 /// ```text
 /// let path = PathParser::compile(alloc, "$.a[0]")?;

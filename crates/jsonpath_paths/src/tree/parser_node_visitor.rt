@@ -23,7 +23,7 @@ use crate::tree::token_list::root_token;
 pub trait ParserNodeVisitor {
     /// Passes the token list of the syntax tree `node` to `handler`, in order, even after `handler` has failed. With
     /// each token it passes `reader`, which turns a span of the path text into a `V`, mostly a `&str`. What `reader`
-    /// returns has to satisfy the handler's `takes`.
+    /// returns for a span has to satisfy the handler's `takes`, a predicate for proofs.
     fn visit<V, H: ParserTokenHandler<V>, R: Fn(&StrRange) -> V>(
         &self,
         node: &ParserNode,

@@ -42,12 +42,13 @@ pub trait ParserTokenHandler<V> {
     /// For proofs: whether this receiver has failed; from then on its `tokens` mean nothing.
     ghost has_failed: { Self → Bool };
 
-    /// For proofs: which results of a `reader` this receiver accepts for a span of the path text. By default all.
+    /// For proofs: the values that the function `reader`, called with a span of the path text, may return to this
+    /// receiver; by default, any.
     ghost takes: { Self → StrRange → V → Type 0 } = { λ _ _ _. Unit {0} };
 
     /// Receives the next token of a path, or fails, for example when memory runs out; `failed` then returns true. It
     /// may call `reader` on the spans of the token; what the reader returns for a span has to satisfy this receiver's
-    /// `takes` for that span.
+    /// `takes`, a predicate for proofs, for that span.
     fn handle<R: Fn(&StrRange) -> V>(&mut self, token: &ParseToken, reader: &R)
         requires may { MayRead (R.pre reader.now) token.now }
         requires reads { (s : Bor StrRange) (v : V) → R.post reader.now s v → takes self.old s.now v }

@@ -96,8 +96,9 @@ impl<'p, V: HeldValue> HeldPair<Rc<PathParser<'p>>, V> {
         }
     }
 
-    /// Replaces the selector's path, as `reset_parser` does, but returns no `&mut Self`, so that a caller's proof also
-    /// knows what the selector has after an error. The only error is `OutOfMemory`; nothing has changed then.
+    /// Replaces the selector's path, as `reset_parser` does, but returns no `&mut Self`: so its contract can say, for a
+    /// caller's proof, which path and value the selector has after an error, too. The only error is `OutOfMemory`;
+    /// nothing has changed then.
     ///
     /// ```text
     /// let mut held = JsonSelectorMut::new(alloc, compile_path(alloc, "$[1:]")?)?;

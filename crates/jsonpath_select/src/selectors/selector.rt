@@ -65,9 +65,9 @@ impl<P: OfNode + Drop, V: HeldValue> HeldPair<P, V> {
         }
     }
 
-    /// Compiles a path text and replaces the selector's path, as `str_path` does, but returns no `&mut Self`, so that a
-    /// caller's proof also knows what the selector has after an error. Errors: `Path` exactly if the text is outside
-    /// the grammar, or `OutOfMemory`; nothing has changed then.
+    /// Compiles a path text and replaces the selector's path, as `str_path` does, but returns no `&mut Self`: so its
+    /// contract can say, for a caller's proof, which path and value the selector has after an error, too. Errors:
+    /// `Path` exactly if the text is outside the grammar, or `OutOfMemory`; nothing has changed then.
     ///
     /// ```text
     /// let mut held = SelectorMut::new();
