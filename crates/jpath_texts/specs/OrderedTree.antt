@@ -1,4 +1,4 @@
--- The document that a text's tree is, and trees whose members stand in the order of their names.
+-- The document that a text's tree is, and trees whose members stand in the order of their names, each name once.
 use Rattle.std.specs.Prelude.{ℕ, ◌*◌, ◌^◌, ℤ, List, Bool, true, ◌&&◌}
 use Rattle.std.specs.Float.Numeral.{scan_numeral, numeral_digits, tens_up, tens_down}
 use Rattle.std.specs.Cmp.Lexicographic.{slice_cmp}
@@ -30,7 +30,7 @@ abbrev mutual
   are_members_ordered json.no_members = true
   are_members_ordered (json.member k j ms) = is_before k ms && (is_ordered j && are_members_ordered ms)
 
--- the tree as it stands, each number as it is written
+-- an ordered tree's document: as it stands, each number as it is written; there it is also the exact document below
 abbrev mutual
   pub document_of_tree : json.Json → Document
   document_of_tree json.null = null

@@ -78,8 +78,7 @@ pub trait Tree: Copy + Drop {
     fn item_at(array: Self::Array, index: usize) -> Option<Self>
         ensures { option_map (λ v. content v) result ≡ get_item index (items array) };
 
-    /// The member of this name, beside its name as the object stores it; if the object has the name several times, the
-    /// last of these members.
+    /// The member of this name, beside its name as the object stores it.
     fn member_named(object: Self::Object, name: &str) -> Option<(Self::Name, Self)>
         ensures key { IfSome result (λ p. name_bytes p.0 ≡ name.now) }
         ensures value { option_map (λ p. content p.1) result ≡ get_member name.now (members object) };

@@ -4,7 +4,7 @@ use Rattle.std.specs.Ordering.{nat_cmp, match_ordering}
 use Rattle.std.specs.Cmp.Lexicographic.{slice_cmp}
 use Rattle.jsonpath_nodes.specs.document.Document.{Document, null, boolean, number, string, array, object, Items, no_items, item, Members, no_members, member}
 
--- the value of a name; the last one, where the name comes again
+-- the value of a name; in an ordered document each object has a name once
 abbrev pub get_member : List ℕ → Members → Option Document
 get_member k no_members = None
 get_member k (member l e ms) = match_ordering (slice_cmp nat_cmp k l) (get_member k ms) (Some e) (get_member k ms)

@@ -1,4 +1,4 @@
--- The document of what `serde_json` has read: the same, each number as it was read.
+-- The document of `serde_json`'s data: the same, constructor by constructor, each number as `serde_json` keeps it.
 use Rattle.std.specs.Prelude.{◌≡◌, List, String}
 use Rattle.std.specs.declared.alloc.Global.{Global}
 use Rattle.serde_json.specs.Data as kept
