@@ -38,8 +38,10 @@ usage_of_jpath='usage: ./run --unproved jpath [OPTIONS] PATH [FILE..] | [OPTIONS
 
 are_words_of_run() {
     case ${1-} in
-        select | delete | remove | check) [ "$#" = 2 ] ;;
-        mask) [ "$#" -gt 1 ] ;;
+        select | delete | remove | check | mask)
+            case ${2-} in -h | --help) print_help ;; esac
+            [ "$#" = 2 ] || { [ "$1" = mask ] && [ "$#" -gt 2 ]; }
+            ;;
         *) return 1 ;;
     esac
 }
