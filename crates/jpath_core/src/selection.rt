@@ -25,8 +25,8 @@ pub fn select_in_document<'v>(
     select_in_image(alloc, &document.image, &document.numbers, query)
 }
 
-/// The nodes that a path selects in `image`. This is the copy of a document on which paths are run, or a value in that
-/// copy, which is then the path's `$`. `numbers` says how the copy represents the numbers of the document.
+/// Returns the nodes that `query` selects, with `image` as the path's `$`. `image` is the copy of a document on which
+/// paths are run, or a value within that copy; `numbers` says how the copy represents the numbers of the document.
 pub fn select_in_image<'v>(
     alloc: Global,
     image: &'v Value,

@@ -22,25 +22,25 @@ pub enum Wanted {
     Colon,
     CommaOrBracket,
     CommaOrBrace,
-    /// The byte comes after the end of the document, where only blanks may follow.
+    /// The wrong byte comes after the end of the document, where only blanks are allowed.
     End,
     Digit,
     DigitOrSign,
-    /// In the byte's place the rest of `true`, `false` or `null` was expected, as at the second letter of `nan`.
+    /// In place of the wrong byte the rest of `true`, `false` or `null` was expected, as at the second letter of `nan`.
     Word,
     HexDigit,
     Escape,
-    /// The byte is wrong because the escape of half a surrogate pair comes without the other half.
+    /// The wrong byte follows an escape of half a surrogate pair, and is not the other half.
     LoneSurrogate,
-    /// The byte is a control character, which a quoted text can have only as an escape.
+    /// The wrong byte is a control character, which a quoted text can have only as an escape.
     Control,
     NotUtf8,
-    /// The byte opens an array or object within 127 others, which is too deep.
+    /// The wrong byte opens an array or object within 127 others, which is too deep.
     TooDeep,
-    /// The byte is a closing bracket or brace, and a comma comes before it.
+    /// The wrong byte is a closing bracket or brace that follows a comma.
     CommaBefore,
     Comment,
-    /// The byte begins `NaN` or `Infinity`, which are no JSON.
+    /// The wrong byte begins `NaN` or `Infinity`, which are no JSON.
     NotANumber,
 }
 

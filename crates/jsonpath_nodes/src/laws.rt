@@ -36,7 +36,8 @@ pub fn documents_keep_data_apart()
     ensures { DocumentsKeepDataApart }
 {}
 
-/// Lemma: the locations at or below the root of a document are exactly those at which it has a value.
+/// Lemma: the list of the root and all its descendants has every location at which the document has a value, and no
+/// other.
 ///
 /// ```text
 /// laws::all_locations_stand_below_root();

@@ -187,9 +187,8 @@ fn is_satisfied_by_order(op: FilterToken, order: Ordering) -> bool
     }
 }
 
-/// Whether two atoms (each what a comparison uses of a value) satisfy a comparison, by the rules of `holds_atoms`;
-/// numbers are those of the tree `T`, in place of decimals. `op` must be one of the six comparisons, so neither `And`
-/// nor `Or`.
+/// Whether `left op right` holds, for two atoms of values of the tree `T`, by the rules of `holds_atoms`; numbers are
+/// those of the tree, in place of decimals. `op` must be one of the six comparisons, so neither `And` nor `Or`.
 ///
 /// ```text
 /// let (seven, eight) = (Atom::Number(Decimal::of_u64(7)), Atom::Number(Decimal::of_u64(8)));
@@ -213,11 +212,12 @@ pub fn holds_by_tree<T: Tree>(
     }
 }
 
-/// Whether two atoms (each what a comparison uses of a value) satisfy a comparison. `op` must be one of the six
-/// comparisons, so neither `And` nor `Or`.
+/// Whether `left op right` holds, for two atoms: an `Atom` is the part of a value that a comparison uses. `op` must be
+/// one of the six comparisons, so neither `And` nor `Or`.
 ///
-/// Booleans, numbers and texts compare within their kind: false before true, numbers exactly, texts by their bytes. Two
-/// nulls satisfy `==` alone, and every other pair satisfies `!=` alone.
+/// Booleans, numbers and texts compare within their kind: false before true, numbers exactly, texts by their bytes. For
+/// two nulls `==` alone is true (`<=` and `>=` are false, unlike in RFC 9535); for every other pair, such as two arrays
+/// or a number and a text, `!=` alone is true.
 ///
 /// ```text
 /// assert!(rt; holds_atoms(FilterToken::Equal, &Atom::Null, &Atom::Null));
