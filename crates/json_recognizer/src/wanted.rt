@@ -30,7 +30,7 @@ pub enum Wanted {
     Word,
     HexDigit,
     Escape,
-    /// The wrong byte follows an escape of half a surrogate pair, and is not the other half.
+    /// At the wrong byte, half of a surrogate pair is written as an escape, such as `\udc00`, without the other half.
     LoneSurrogate,
     /// The wrong byte is a control character, which a quoted text can have only as an escape.
     Control,
