@@ -20,8 +20,8 @@ pub enum Call<'a> {
     /// Removes the file, if any, at the path that is chosen for the new file, beside the edited file; whether it is the
     /// new file or another one.
     Remove,
-    /// Creates the new file beside the edited file and opens it; fails if there is one. Its owner alone may read and
-    /// write it.
+    /// Creates the new file beside the edited file and opens it; fails if a file already exists at its path. Its owner
+    /// alone may read and write it.
     Create,
     /// Changes the owner and the group of the new file to this user id and this group id.
     Give(u32, u32),

@@ -20,7 +20,7 @@ pub struct FileFacts {
     pub size: u64,
     /// When the file's bytes changed last: seconds since 1970, and nanoseconds.
     pub modified: (i64, i64),
-    /// When the file's bytes, owner, rights or number of names changed last: seconds since 1970, and nanoseconds.
+    /// When the file's bytes, owner, rights or number of hard links changed last: seconds since 1970, and nanoseconds.
     pub changed: (i64, i64),
     /// The permission bits of the file's mode: who may read, write and run it.
     pub rights: u32,

@@ -23,7 +23,8 @@ pub struct Query<'a> {
 /// What the filters of some paths compare: whether they compare numbers, and which literal numbers they compare.
 #[derive(Drop)]
 pub struct Compared {
-    /// Whether some filter may compare numbers: it has a comparison with no literal text or boolean as a side.
+    /// Whether some filter may compare numbers: it has a comparison of which neither side is a text literal or a
+    /// boolean literal.
     pub is_any: bool,
     /// The literal numbers that the filters of the paths compare.
     pub literals: Vec<Decimal>,

@@ -14,8 +14,9 @@ pub fn accepts_documents()
     ensures refused { (front : List ℕ) → after_all Value [] max_depth (map class_of front) ≡ refused → Begins front → ⊥ }
 {}
 
-/// Lemma: what the recognizer finds, a text's first document or its first wrong byte, is right by the grammar of JSON.
-/// If it finds neither, the text is the beginning of a document.
+/// Lemma: what the recognizer finds, a text's first document or its first wrong byte, is what the grammar of JSON
+/// determines: the bytes found are a document, or no document can continue with the byte found. If it finds neither,
+/// the text is the beginning of a document.
 pub fn found_by_grammar()
     ensures { (text : List ℕ) → IsFound text (found_in text) }
 {}

@@ -4,8 +4,8 @@ use jsonpath_lib::read_document;
 use serde_json::Value;
 use std::alloc::Global;
 
-/// A document for measuring: a store with `count` books and one bicycle. The second book and every other one after it
-/// has an isbn; prices run from 100 to 1900 in steps of 300, again and again.
+/// A document for measuring: a store with `count` books and one bicycle. The second, fourth, sixth book and so on has
+/// an isbn; prices run from 100 to 1900 in steps of 300, again and again.
 pub fn books_document(alloc: Global, count: u64) -> Result<Value> {
     let mut text = String::new(alloc);
     text.push_str("{\"store\":{\"bicycle\":{\"color\":\"red\",\"price\":1995},\"book\":[")?;

@@ -214,8 +214,8 @@ pub fn steps_keep_locations_disjoint()
 
 /// Lemma: let locations be called apart if no two are equal and none can be reached from another by indexes alone; a
 /// single location counts as apart. A filter's candidates are found by flattening nested arrays: from locations that
-/// are apart, no candidate is found twice; and the candidates found from any locations, each listed once, are at
-/// locations that are apart.
+/// are apart, no candidate is found twice; and the candidates found from any locations are, once repeats of candidates
+/// are dropped, at locations that are apart.
 ///
 /// ```text
 /// laws::apart_locations_meet_candidates_once();
@@ -227,10 +227,11 @@ pub fn apart_locations_meet_candidates_once()
     ensures no_repeat { ApartHasNoRepeat }
 {}
 
-/// Lemma: locations are apart if no two are equal and none can be reached from another by indexes alone. These steps
-/// lead to locations that are apart: a name or a list of different names, from any distinct locations; `..` before a
-/// name, from a single location; an index, a slice, or a list of different indexes none of which is negative, from
-/// locations that are apart. If locations are apart, those of them that meet a filter's condition are, too.
+/// Lemma: locations are apart if no two are equal and none can be reached from another by indexes alone. Each of these
+/// steps leads to locations that are apart: a name or a list of different names, if it starts from any distinct
+/// locations; `..` before a name, if it starts from a single location; an index, a slice, or a list of different
+/// indexes none of which is negative, if it starts from locations that are apart. If locations are apart, those of them
+/// that meet a filter's condition are, too.
 ///
 /// ```text
 /// laws::steps_keep_locations_apart();

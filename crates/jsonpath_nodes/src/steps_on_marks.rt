@@ -192,8 +192,8 @@ pub fn flattened_from_mark<'a, M: Mark<'a>>(alloc: Global, mark: &M) -> Result<V
 }
 
 /// The values that a filter after `..` tests when it is applied to one node, if it has a relative query with at least
-/// one segment, such as `@.a`: the node's descendants that are not arrays, each once, in the order in which `..*` finds
-/// them with arrays flattened.
+/// one segment, such as `@.a`: the node's descendants that are not arrays, each once, in the order of `..*`, except
+/// that in place of each array come its items, nested arrays flattened, too.
 ///
 /// ```text
 /// let found = steps_on_marks::candidates_below_mark(alloc, &&document)?;

@@ -32,7 +32,7 @@ pub trait Tree: Copy + Drop {
     type ItemsLeft: Drop;
     /// The state of an iteration over an object's members: those not yet returned.
     type MembersLeft: Drop;
-    /// A number, as it is compared.
+    /// The form of a number that comparisons use.
     type Number: Drop;
     /// Why a value can't be compared.
     type Error: Drop;

@@ -20,8 +20,9 @@ ghost use Rattle.jsonpath_paths.specs.declared.token.tokens.Kind.{Kind};
 ghost use Rattle.jsonpath_paths.specs.declared.token.tokens.Token.{Token};
 ghost use Rattle.jsonpath_paths.specs.declared.token.tokens.TokenError.{TokenError};
 
-/// Lemma: the first token of a text is the longest prefix of the text that is a token, and it has one kind alone. If
-/// there is none, no prefix is a token. A text has at most one first token, and this ends at one position alone.
+/// Lemma: the first token of a text is the longest prefix of the text that is a token, and it has one kind alone. If a
+/// text has no first token, none of its prefixes is a token. A text has at most one first token, and that token has
+/// only one possible end.
 ///
 /// ```text
 /// laws::longest_front();
@@ -63,8 +64,8 @@ pub fn one_tree_per_token_list()
     ensures { (p q : Path) → IsPath p → IsPath q → path_tokens p ≡ path_tokens q → p ≡ q }
 {}
 
-/// Lemma: a text parses to a syntax tree exactly if `tree_of_text` computes this tree from it. So a proof can show by
-/// computing alone which tree a constant text such as `$.a` has.
+/// Lemma: a text parses to a syntax tree exactly if `tree_of_text` computes this tree from it. So a proof can show just
+/// by evaluating `tree_of_text` which tree a constant text such as `$.a` has.
 ///
 /// ```text
 /// laws::spelled_tree();
@@ -75,7 +76,7 @@ pub fn spelled_tree()
 {}
 
 /// Lemma: a text has a syntax error at a position exactly if `place_of_text` computes this position, so at one position
-/// at most. So a proof can show by computing alone where a constant text has its error.
+/// at most. So a proof can show just by evaluating `place_of_text` where a constant text has its error.
 ///
 /// ```text
 /// laws::error_position();

@@ -8,7 +8,8 @@ use jsonpath_select::{
 use serde_json::Value;
 use std::alloc::Global;
 
-/// A way to select by a path in a document: by a selector, or by the token list. All have to give the same answer.
+/// A way to select by a path in a document: by a selector, or by the token list of the compiled path. All have to give
+/// the same answer.
 #[derive(Clone, Copy)]
 pub enum Method {
     /// Selects values by a `JsonSelector`.

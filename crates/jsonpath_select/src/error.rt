@@ -72,8 +72,8 @@ impl Error for JsonPathError {}
 
 impl JsonPathError {
     /// The byte position just after the wrong token or character of a syntax error; `None` for any other error. If the
-    /// path text ends too early, it is `None` too, except for an error of `Parser`, whose message shows the position by
-    /// a row of `^`: then it is the text's length.
+    /// path text ends too early, the result is `None` too, unless the error comes from `Parser`, whose message shows
+    /// the position by a row of `^`: for such an error the result is the text's length.
     ///
     /// ```text
     /// match compile_path(alloc, "$.a[b]") {
@@ -91,8 +91,8 @@ impl JsonPathError {
     }
 
     /// Shows a syntax error in this path text. Returns the text, a line end, and a `^` for each byte of the text up to
-    /// the end of the wrong token, or for all its bytes if it ends too early. An error of `Parser` already has this
-    /// text as its message, which is then returned. `None` if this error is no syntax error.
+    /// the end of the wrong token, or for all its bytes if it ends too early. If the error comes from `Parser`, its
+    /// message is that text with its `^` already, and is returned as it is. `None` if this error is no syntax error.
     ///
     /// ```text
     /// let refused = compile_path(alloc, "$.a[b]")

@@ -50,8 +50,9 @@ pub fn swapped_sides_select_alike()
 /// Lemma: for two condition texts `a` and `b`, the paths `$[?((a) && (b))]` and `$[?((b) && (a))]` select the same
 /// list, and so do those with `||`, if these paths and also `$[?(a)]` and `$[?(b)]` are in the grammar. This rules out
 /// a text such as `@.x) || (@.y` for `a`: in this grammar one pair of parentheses encloses the whole condition of a
-/// filter, so `$[?(@.x) || (@.y)]` is no path. The inner parentheses are needed, since `&&` and `||` have the same
-/// precedence and group to the right: without them, if `a` is `@.x && @.y`, `a || b` means `@.x && (@.y || b)`.
+/// filter, so `$[?(a)]`, which would be `$[?(@.x) || (@.y)]`, is no path. The inner parentheses are needed, since `&&`
+/// and `||` have the same precedence and group to the right: without them, if `a` is `@.x && @.y`, `a || b` means `@.x
+/// && (@.y || b)`.
 ///
 /// ```text
 /// laws::swapped_condition_texts_select_alike();
@@ -91,7 +92,8 @@ pub fn dotted_names_select_one_location()
     longest_front();
 }
 
-/// Lemma: a path that selects one location alone selects the value at that location, or none if it doesn't exist.
+/// Lemma: if a path selects at most one location, always the same, it selects the value there, or nothing if the
+/// document has no such location.
 ///
 /// ```text
 /// laws::one_location_answers_one_value();
@@ -135,7 +137,8 @@ pub fn each_location_has_a_value()
 
 /// Lemma: in a filter, a path from the root (`$`) does not depend on the candidate, which is the value that the filter
 /// tests. So if a side of a comparison is such a path, it has the same values at every candidate, and a condition whose
-/// paths all begin at the root holds at all candidates or at none. Both need to be computed only once.
+/// paths all begin at the root holds at all candidates or at none. So the values of such a side, and whether such a
+/// condition holds, need to be computed only once.
 ///
 /// ```text
 /// laws::rooted_is_same_for_all_candidates();
@@ -158,9 +161,9 @@ pub fn extremes_and_sets_decide_pairs()
 {}
 
 /// Lemma: a path selects the same set of nodes, and each condition holds at the same candidates, if duplicates are
-/// dropped after each step, also inside conditions, and if before each `..` those nodes are dropped that have an
-/// ancestor in the list. Whether a condition holds depends on the location and the document alone, so it can be decided
-/// once for each location.
+/// dropped after each step, also inside conditions, and if, from each list of nodes to which a step with `..` is
+/// applied, the nodes are first dropped that have an ancestor in that list. Whether a condition holds depends on the
+/// location and the document alone, so it can be decided once for each location.
 ///
 /// ```text
 /// laws::dropping_repeats_keeps_the_set();

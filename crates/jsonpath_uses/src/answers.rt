@@ -55,8 +55,8 @@ pub fn column_text(alloc: Global, json: &Value, path: &str) -> Result<String, Js
     list_to_text(alloc, found.as_slice())
 }
 
-/// Compiles `$.a[b]`, where the name in brackets lacks its quotes: always an error: out of memory, or else a syntax
-/// error at position 5, the number of bytes up to the end of `b`.
+/// Compiles `$.a[b]`, where the name in brackets lacks its quotes. The result is always an error: out of memory, or
+/// else a syntax error at position 5, the number of bytes up to the end of `b`.
 pub fn compile_bare_name(alloc: Global) -> Result<PathParser<'static>, TokenError>
     ensures refused { IsErr result }
     ensures position { IfErr result (λ error. error ≢ OutOfMemory → error ≡ Position 5) }

@@ -15,7 +15,8 @@ use std::str;
 
 /// Appends to `out` the output for one document, as the command line asks for it: lines, an array, a table or the
 /// edited text. Returns how many matches the document has or, for edits, how many locations below the root their paths
-/// select in it. `name` is the file's name. After an error `out` may end with a part of the output, or be empty.
+/// select in it. `name` is the file's name. After an error `out` may end with a part of the output, or have lost all
+/// its content.
 pub fn add_output_for_document(
     rt: &(impl Eprint + Alloc<A = Global>),
     wanted: &Wanted<'_>,

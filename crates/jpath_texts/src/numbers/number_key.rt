@@ -14,8 +14,8 @@ use std::cmp::Ordering;
 
 /// A key by which numbers compare: keys are ordered as their numbers are, and equal if these are equal. The number is
 /// 0.DIGITS times ten to the exponent; the digits neither begin nor end with 0. For a negative number, the stored
-/// exponent and digits are turned round, so that keys sort as numbers do: the exponent is negated, each digit `d`
-/// becomes `9 - d`, and a last digit above 9 is appended.
+/// exponent and digits are inverted, so that keys sort as numbers do: the exponent is negated, each digit `d` becomes
+/// `9 - d`, and an end sign that is greater than 9 is appended.
 #[derive(Debug, Drop, PartialEq, Eq, PartialOrd, Ord)]
 pub struct NumberKey {
     side: i8,
@@ -24,8 +24,8 @@ pub struct NumberKey {
 }
 
 impl NumberKey {
-    /// Makes the key of a number, given as it is written in JSON; `None` if its exponent doesn't fit in 128 bits. The
-    /// only error is out of memory.
+    /// Makes the `NumberKey` of a number, by which it is compared with others; the number is given as it is written in
+    /// JSON; `None` if its exponent doesn't fit in 128 bits. The only error is out of memory.
     pub fn read(alloc: Global, text: &str) -> Result<Option<NumberKey>, AllocError>
         ensures { IfOk result (λ o. IfSome o (IsKeyOf text.now)) }
     {

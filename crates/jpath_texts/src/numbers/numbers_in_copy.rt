@@ -29,7 +29,8 @@ pub enum Numbers {
     AsRead,
     /// The copy of the document has each number times ten to this power, which makes each an integer.
     Scaled(u32),
-    /// The copy of the document has, in place of each number, the index of its key in this list of keys, which ascend.
+    /// In the copy of the document on which paths are run, each number is replaced by the index of its `NumberKey` in
+    /// this ascending list.
     Ranked(Vec<NumberKey>),
     /// The copy of the document has the same number in place of every number. Only paths whose filters compare no
     /// numbers are run on it.

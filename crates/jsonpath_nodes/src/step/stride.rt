@@ -36,7 +36,8 @@ pub enum Selection<'t> {
     Range(Option<i64>, Option<i64>, Option<u64>),
 }
 
-/// A path's step that has no condition, with or without `..` before the step. It can own the names that it selects.
+/// A path's step that has no condition, with or without `..` before the step. The names of the members that it selects
+/// are owned or borrowed.
 ///
 /// ```text
 /// let every = Stride {

@@ -35,7 +35,7 @@ pub fn replace_at<F: FnMut(Value) -> Option<Value>>(
 }
 
 /// Puts null at each location of a list. The root is skipped, and so are locations that don't exist or that are below
-/// another one of the list (other than the root). The locations may come in any order and repeat.
+/// another location of the list that is not the root. The locations may come in any order and repeat.
 ///
 /// ```text
 /// let mut document = read_document(alloc, b"[1, [2, 3]]")?;

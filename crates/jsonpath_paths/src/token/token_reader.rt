@@ -76,8 +76,8 @@ impl<'a> TokenReader<'a> {
     }
 
     /// Takes the next token. If no token begins at the reader's position, the position stays, and this and each later
-    /// call return the same error: `Eof` at the end of the text, at a quoted text that is not closed, or if a single
-    /// character is left; else `Position` with the reader's position.
+    /// call return the same error: `Eof` at the end of the text, at a quoted text that is not closed, or if the
+    /// character at the reader's position is the last of the text; else `Position` with the reader's position.
     ///
     /// ```text
     /// let mut reader = TokenReader::new("@ ");

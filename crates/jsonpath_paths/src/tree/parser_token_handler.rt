@@ -39,7 +39,7 @@ pub trait ParserTokenHandler<V> {
     /// For proofs: the tokens that this receiver has received, in their order.
     ghost tokens: { Self → List ParseToken };
 
-    /// For proofs: whether this receiver has failed; from then on its `tokens` mean nothing.
+    /// For proofs: whether this receiver has failed. Once it has, its `tokens` mean nothing.
     ghost has_failed: { Self → Bool };
 
     /// For proofs: the values that the function `reader`, called with a span of the path text, may return to this
@@ -47,8 +47,8 @@ pub trait ParserTokenHandler<V> {
     ghost takes: { Self → StrRange → V → Type 0 } = { λ _ _ _. Unit {0} };
 
     /// Receives the next token of a path, or fails, for example when memory runs out; `failed` then returns true. It
-    /// may call `reader` on the spans of the token; what the reader returns for a span has to satisfy this receiver's
-    /// `takes`, a predicate for proofs, for that span.
+    /// may call `reader` on the spans of the token; for each span, the receiver's predicate `takes`, which proofs alone
+    /// use, has to hold for the span and what `reader` returns for it.
     fn handle<R: Fn(&StrRange) -> V>(&mut self, token: &ParseToken, reader: &R)
         requires may { MayRead (R.pre reader.now) token.now }
         requires reads { (s : Bor StrRange) (v : V) → R.post reader.now s v → takes self.old s.now v }

@@ -32,7 +32,7 @@ use jsonpath_paths::{Condition, Inner, ParseToken, ParserNode, ParserStep, Term}
 /// }
 /// ```
 ///
-/// `visit` runs it over a path's `Node`:
+/// `visit` passes to it the tokens of a `Node`, which is a compiled path:
 ///
 /// ```text
 /// let mut plain = Tokens {
@@ -50,7 +50,7 @@ pub trait NodeVisitor {
     /// For proofs: the tokens that this receiver has received, in their order.
     ghost tokens: { Self → List ParseToken };
 
-    /// For proofs: whether this receiver has failed; from then on its `tokens` mean nothing.
+    /// For proofs: whether this receiver has failed. Once it has, its `tokens` mean nothing.
     ghost has_failed: { Self → Bool };
 
     /// Receives the next token of a compiled path, or fails, as when memory runs out.

@@ -96,8 +96,8 @@ impl<'p, V: HeldValue> HeldPair<Rc<PathParser<'p>>, V> {
         }
     }
 
-    /// Replaces the selector's path, as `reset_parser` does, but returns no `&mut Self`: so its contract can say, for a
-    /// caller's proof, which path and value the selector has after an error, too. The only error is `OutOfMemory`;
+    /// Replaces the selector's path, as `reset_parser` does, but returns no `&mut Self`, so that its contract can state
+    /// the selector's path and value not only after success but also after an error. The only error is `OutOfMemory`;
     /// nothing has changed then.
     ///
     /// ```text
