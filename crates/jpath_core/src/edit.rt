@@ -32,11 +32,11 @@ pub struct Edited {
     pub selects_root: bool,
 }
 
-/// The text of a document after an edit by one path, which makes `change`, all at once, at each selected value except
-/// the root and values inside another changed value. `text` is the text from which the document was read. To replace a
-/// value, its own text is replaced. To remove it, the whole member or item is removed: the blanks before it, its name
-/// and colon, and the comma after it (or before it, if nothing is left after it). If an object has the name several
-/// times, each of these members is removed. Every other byte of the text stays.
+/// The text of a document after `change` is made at each value that one path selects in the document as it was. The
+/// root is not changed, nor is a value inside another changed value. `text` is the text from which the document was
+/// read. To replace a value, its own text is replaced. To remove it, the whole member or item is removed: the blanks
+/// before it, its name and colon, and the comma after it (or before it, if nothing is left after it). If an object has
+/// the name several times, each of these members is removed. Every other byte of the text stays.
 ///
 /// The edited text is read again before it is returned. Errors: `EditNests` if it nests too deep to be read;
 /// `EditDiffers` if what is read is not the changed document, which would be a fault of this library; or `OutOfMemory`.

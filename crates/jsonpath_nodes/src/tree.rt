@@ -22,19 +22,19 @@ use std::cmp::Ordering;
 /// assert!(rt; matches!(Tree::atom(&&value)?, Atom::Bool(true)));
 /// ```
 pub trait Tree: Copy + Drop {
-    /// The name of a member, as the document has it.
+    /// The name of a member of an object, as the document stores it.
     type Name: Copy;
-    /// An array.
+    /// A handle to an array of the document.
     type Array: Copy;
-    /// An object.
+    /// A handle to an object of the document.
     type Object: Copy;
     /// The state of an iteration over an array's items: those not yet returned.
     type ItemsLeft: Drop;
     /// The state of an iteration over an object's members: those not yet returned.
     type MembersLeft: Drop;
-    /// The form of a number that comparisons use.
+    /// The type of the numbers that comparisons use.
     type Number: Drop;
-    /// Why a value can't be compared.
+    /// The error of a value that can't be compared.
     type Error: Drop;
 
     ghost content: { Self → Document };
@@ -56,47 +56,47 @@ pub trait Tree: Copy + Drop {
     fn atom(&self) -> Result<Atom<'_, Self::Number>, Self::Error>
         ensures { IfOk result (λ atom. seen_with fraction_of atom ≡ seen (content self.now)) };
 
-    /// The order of two numbers, exactly.
+    /// Compares two numbers exactly.
     fn compare_numbers(left: &Self::Number, right: &Self::Number) -> Ordering
         ensures { result ≡ fraction_order (fraction_of left.now) (fraction_of right.now) };
 
-    /// The array, if the value is one.
+    /// A handle to the array that the value is; `None` if it is none.
     fn as_array(self) -> Option<Self::Array>
         ensures some { IfSome result (λ a. content self ≡ array (items a)) }
         ensures none { IfNone result (as_array (content self) ≡ None) };
 
-    /// The object, if the value is one.
+    /// A handle to the object that the value is; `None` if it is none.
     fn as_object(self) -> Option<Self::Object>
         ensures some { IfSome result (λ o. content self ≡ object (members o)) }
         ensures none { IfNone result (as_object (content self) ≡ None) };
 
-    /// The number of items.
+    /// The number of items of an array.
     fn len(array: Self::Array) -> usize
         ensures { result ≡ items_len (items array) };
 
-    /// The item at an index from the front.
+    /// The item of an array at an index from 0; `None` if the array is shorter.
     fn item_at(array: Self::Array, index: usize) -> Option<Self>
         ensures { option_map (λ v. content v) result ≡ get_item index (items array) };
 
-    /// The member of this name, beside its name as the object stores it.
+    /// The member with this name: its name as the object stores it, and its value; `None` if the object has none.
     fn member_named(object: Self::Object, name: &str) -> Option<(Self::Name, Self)>
         ensures key { IfSome result (λ p. name_bytes p.0 ≡ name.now) }
         ensures value { option_map (λ p. content p.1) result ≡ get_member name.now (members object) };
 
-    /// The items in their order.
+    /// Begins to go over the items of an array, in their order.
     fn each_item(array: Self::Array) -> Self::ItemsLeft
         ensures { items_left result ≡ items array };
 
-    /// The next item.
+    /// Takes the next item from `left`; `None` if none is left.
     fn next_item(left: &mut Self::ItemsLeft) -> Option<Self>
         ensures { MatchOption result (items_left left.old ≡ no_items) (λ v. items_left left.old ≡ item (content v) (items_left left.new)) };
 
-    /// The members in the order of their names' bytes, each name once.
+    /// Begins to go over the members of an object, in the order of their names' bytes, each name once.
     fn each_member(object: Self::Object) -> Self::MembersLeft
         ensures all { members_left result ≡ members object }
         ensures ordered { NamesAscend (members object) };
 
-    /// The next member.
+    /// Takes the next member from `left`, its name and its value; `None` if none is left.
     fn next_member(left: &mut Self::MembersLeft) -> Option<(Self::Name, Self)>
         ensures { MatchOption result (members_left left.old ≡ no_members) (λ p. members_left left.old ≡ member (name_bytes p.0) (content p.1) (members_left left.new)) };
 }

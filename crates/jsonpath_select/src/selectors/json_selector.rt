@@ -96,9 +96,9 @@ impl<'p, V: HeldValue> HeldPair<Rc<PathParser<'p>>, V> {
         }
     }
 
-    /// Replaces the selector's path, as `reset_parser` does, but returns no `&mut Self`, so that its contract can state
-    /// the selector's path and value not only after success but also after an error. The only error is `OutOfMemory`;
-    /// nothing has changed then.
+    /// Replaces the selector's path, as `reset_parser` does, but returns no `&mut Self`, so that its contract (its
+    /// proved specification) also says what the selector has after an error. The only error is `OutOfMemory`; nothing
+    /// has changed then.
     ///
     /// ```text
     /// let mut held = JsonSelectorMut::new(alloc, compile_path(alloc, "$[1:]")?)?;

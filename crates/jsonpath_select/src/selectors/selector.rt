@@ -66,8 +66,8 @@ impl<P: OfNode + Drop, V: HeldValue> HeldPair<P, V> {
     }
 
     /// Compiles a path text and replaces the selector's path, as `str_path` does, but returns no `&mut Self`, so that
-    /// its contract can state the selector's path and value not only after success but also after an error. Errors:
-    /// `Path` exactly if the text is outside the grammar, or `OutOfMemory`; nothing has changed then.
+    /// its contract (its proved specification) also says what the selector has after an error. Errors: `Path` exactly
+    /// if the text is outside the grammar, or `OutOfMemory`; nothing has changed then.
     ///
     /// ```text
     /// let mut held = SelectorMut::new();
