@@ -92,7 +92,7 @@ pub enum Refused {
     Told,
     /// Memory ran out.
     OutOfMemory,
-    /// With `--check` only the paths were to be checked, and they are well formed.
+    /// The option `--check` asked for nothing but a check of the paths, and they are well formed.
     Checked,
 }
 

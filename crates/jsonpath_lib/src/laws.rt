@@ -31,9 +31,9 @@ pub use jsonpath_select::laws::{
 };
 use serde_json::Value;
 
-/// Lemma: let there be one fixed location that a path selects in each document that has it, and let the path select
-/// nothing in any other document. Then deleting by the path does the same as putting null at this one location, and
-/// removing by the path the same as removing the value at it. If the location is the root, all four change nothing.
+/// Lemma: let a path select one fixed location, and no other, in each document that has this location, and nothing in
+/// any other document. Then deleting by the path does the same as putting null at this one location, and removing by
+/// the path the same as removing the value at it. If the location is the root, all four change nothing.
 /// `putting_at_one_location` says what an update of one location leaves.
 ///
 /// ```text
@@ -51,10 +51,10 @@ pub fn deletes_and_removes_selected_location()
     putting_at_one_location();
 }
 
-/// Lemma: let there be one fixed location that a path selects in each document that has it, let the path select nothing
-/// in any other document, and let a closure always return the same result. Then replacing by the path and the closure
-/// does the same as updating this one location: `Some` replaces the value, `None` removes it. At the root nothing
-/// changes. The lemma's call does not call `closure`.
+/// Lemma: let a path select one fixed location, and no other, in each document that has this location, and nothing in
+/// any other document; and let a closure always return the same result. Then replacing by the path and the closure does
+/// the same as updating this one location: `Some` replaces the value, `None` removes it. At the root nothing changes.
+/// The lemma's call does not call `closure`.
 ///
 /// ```text
 /// laws::replaces_selected_location(on);

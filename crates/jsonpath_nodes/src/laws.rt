@@ -24,9 +24,8 @@ ghost use Rattle.jsonpath_nodes.specs.step.Separate.{ApartHasNoRepeatFlat, OneIs
 
 use serde_json::{Map, Value};
 
-/// Lemma: contracts describe a `Value` by what they call its document: its content, with each number as `serde_json`
-/// read it. Values with different content have different documents, so a contract that determines the document
-/// determines the content, too.
+/// Lemma: the document of a `Value`, as contracts call their description of its content (with each number as
+/// `serde_json` read it), leaves nothing of the content out: values with different content have different documents.
 ///
 /// ```text
 /// laws::documents_keep_data_apart();
@@ -197,8 +196,8 @@ pub fn candidates_of_disjoint_in_descents()
 /// disjoint. No location is at or below two disjoint ones. Disjoint locations are also apart, a weaker property: no two
 /// are equal, and none can be reached from another by indexes alone. From disjoint locations, a step that selects no
 /// child of a value twice leads to disjoint ones, and so does `*` if the names of each object to which it is applied
-/// ascend, so that none comes twice. A filter's candidates from disjoint locations are disjoint, and so are those of
-/// them that meet its condition.
+/// ascend, so that none comes twice. The values that a filter tests, when it is applied at disjoint locations, are at
+/// disjoint locations, and so are those of them that meet its condition.
 ///
 /// ```text
 /// laws::steps_keep_locations_disjoint();
@@ -213,9 +212,9 @@ pub fn steps_keep_locations_disjoint()
 {}
 
 /// Lemma: let locations be called apart if no two are equal and none can be reached from another by indexes alone; a
-/// single location counts as apart. A filter's candidates are found by flattening nested arrays: from locations that
-/// are apart, no candidate is found twice; and the candidates found from any locations are, once repeats of candidates
-/// are dropped, at locations that are apart.
+/// single location counts as apart. A filter's candidates are what is left after nested arrays are flattened. If the
+/// filter starts from locations that are apart, no candidate is found twice. From whatever locations it starts, the
+/// locations of its candidates are apart once repeats are dropped.
 ///
 /// ```text
 /// laws::apart_locations_meet_candidates_once();

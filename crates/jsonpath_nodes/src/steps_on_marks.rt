@@ -157,8 +157,8 @@ pub fn stride_from_each<'a, M: Mark<'a>>(
 }
 
 /// The non-array values left after flattening the nested arrays of each node, node by node; a value that is found from
-/// two nodes is listed twice. If no value is listed twice, the list is the candidates (the values tested) of a filter
-/// that uses `@` with a segment, such as `[?(@.a)]`.
+/// two nodes is listed twice. A filter that uses `@` with a segment, such as `[?(@.a)]`, has exactly this list as its
+/// candidates (the values that it tests), provided that no value is in the list twice.
 ///
 /// ```text
 /// let found = steps_on_marks::flattened_from_each(alloc, &[&document])?;
@@ -192,8 +192,8 @@ pub fn flattened_from_mark<'a, M: Mark<'a>>(alloc: Global, mark: &M) -> Result<V
 }
 
 /// The values that a filter after `..` tests when it is applied to one node, if it has a relative query with at least
-/// one segment, such as `@.a`: the node's descendants that are not arrays, each once, in the order of `..*`, except
-/// that in place of each array come its items, nested arrays flattened, too.
+/// one segment, such as `@.a`: the node's descendants that are not arrays, each once, at its first occurrence in the
+/// list that `..*` selects, after each array in that list is replaced by its items, with nested arrays flattened.
 ///
 /// ```text
 /// let found = steps_on_marks::candidates_below_mark(alloc, &&document)?;

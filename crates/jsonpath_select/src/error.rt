@@ -92,7 +92,8 @@ impl JsonPathError {
 
     /// Shows a syntax error in this path text. Returns the text, a line end, and a `^` for each byte of the text up to
     /// the end of the wrong token, or for all its bytes if it ends too early. If the error comes from `Parser`, its
-    /// message is that text with its `^` already, and is returned as it is. `None` if this error is no syntax error.
+    /// message already is the path text with the `^` below it, and is returned as it is. `None` if this error is no
+    /// syntax error.
     ///
     /// ```text
     /// let refused = compile_path(alloc, "$.a[b]")

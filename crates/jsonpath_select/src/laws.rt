@@ -161,9 +161,9 @@ pub fn extremes_and_sets_decide_pairs()
 {}
 
 /// Lemma: a path selects the same set of nodes, and each condition holds at the same candidates, if duplicates are
-/// dropped after each step, also inside conditions, and if, from each list of nodes to which a step with `..` is
-/// applied, the nodes are first dropped that have an ancestor in that list. Whether a condition holds depends on the
-/// location and the document alone, so it can be decided once for each location.
+/// dropped after each step, also inside conditions, and if, before each step with `..`, every node that has an ancestor
+/// in the same list is dropped from the list. Whether a condition holds depends on the location and the document alone,
+/// so it can be decided once for each location.
 ///
 /// ```text
 /// laws::dropping_repeats_keeps_the_set();

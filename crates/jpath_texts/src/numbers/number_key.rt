@@ -15,7 +15,7 @@ use std::cmp::Ordering;
 /// A key by which numbers compare: keys are ordered as their numbers are, and equal if these are equal. The number is
 /// 0.DIGITS times ten to the exponent; the digits neither begin nor end with 0. For a negative number, the stored
 /// exponent and digits are inverted, so that keys sort as numbers do: the exponent is negated, each digit `d` becomes
-/// `9 - d`, and an end sign that is greater than 9 is appended.
+/// `9 - d`, and a value greater than 9 is appended as the end.
 #[derive(Debug, Drop, PartialEq, Eq, PartialOrd, Ord)]
 pub struct NumberKey {
     side: i8,

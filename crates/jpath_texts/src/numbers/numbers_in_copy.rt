@@ -27,13 +27,14 @@ use std::alloc::Global;
 pub enum Numbers {
     /// Paths are run on the document as `serde_json` read it, with its numbers unchanged.
     AsRead,
-    /// The copy of the document has each number times ten to this power, which makes each an integer.
+    /// In the copy of the document on which paths are run, each number is multiplied by ten to this power, which makes
+    /// it an integer.
     Scaled(u32),
     /// In the copy of the document on which paths are run, each number is replaced by the index of its `NumberKey` in
     /// this ascending list.
     Ranked(Vec<NumberKey>),
-    /// The copy of the document has the same number in place of every number. Only paths whose filters compare no
-    /// numbers are run on it.
+    /// In the copy of the document on which paths are run, the same number is in place of every number. Only paths
+    /// whose filters compare no numbers are run on it.
     Alike,
 }
 
@@ -88,9 +89,9 @@ impl Numbers {
         }
     }
 
-    /// The token list of a path, with the numbers that filters compare changed as `self` changes a document's numbers:
-    /// `Scaled` multiplies each by the power of ten that it stores, `Ranked` replaces each by the index of its
-    /// `NumberKey` in the list that it stores, the other variants keep them.
+    /// The token list of a path, in which each number that a filter compares is changed in the way in which `self`
+    /// changes a document's numbers: `Scaled` multiplies each by the power of ten that it stores, `Ranked` replaces
+    /// each by the index of its `NumberKey` in the list that it stores, the other variants keep them.
     pub fn tokens_with_literals_placed(
         &self,
         alloc: Global,

@@ -31,7 +31,8 @@ pub struct OrderedValue<'t, 'a> {
     ghost ordered: { is_ordered (value_view value.now) ≡ true },
 }
 
-/// An array of such a tree.
+/// An array in an exact tree (numbers as written) in which each object has its names in the order of their bytes, each
+/// once.
 #[derive(Clone, Copy, Drop)]
 pub struct OrderedItems<'t, 'a> {
     items: &'t Vec<Exact<'a>>,
@@ -39,7 +40,8 @@ pub struct OrderedItems<'t, 'a> {
     ghost ordered: { are_items_ordered (items_view items.now.items) ≡ true },
 }
 
-/// An object of such a tree.
+/// An object in an exact tree (numbers as written) in which each object has its names in the order of their bytes, each
+/// once.
 #[derive(Clone, Copy, Drop)]
 pub struct OrderedMembers<'t, 'a> {
     members: &'t Vec<(&'a str, Exact<'a>)>,
@@ -55,7 +57,7 @@ pub struct OrderedItemsLeft<'t, 'a> {
     ghost ordered: { are_items_ordered (items_view (iter_rest items)) ≡ true },
 }
 
-/// The state of an iteration over an object's members, by their names: those not yet returned.
+/// The state of an iteration over an object's members, in the order of their names: those not yet returned.
 #[derive(Drop)]
 pub struct OrderedMembersLeft<'t, 'a> {
     members: std::slice::Iter<'t, (&'a str, Exact<'a>)>,

@@ -12,7 +12,7 @@ use std::alloc::Global;
 /// What a visitor of documents reports after each document: how many matches the document has, and whether to stop.
 #[derive(Clone, Copy, Debug, Drop)]
 pub struct Taken {
-    /// How many matches the visited document has.
+    /// How many matches (by default, selected values) the visited document has.
     pub count: usize,
     /// Whether the visits should stop, since the visitor needs no more documents of the stream.
     pub is_enough: bool,

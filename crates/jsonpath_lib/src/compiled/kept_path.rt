@@ -81,7 +81,7 @@ impl<P: AnyPath> KeptPath<P> {
 
     /// Calls the closure once for each selected location below the root, in document order, with the value that the
     /// earlier updates left there, and returns the document with the results: `Some` replaces the value, `None` removes
-    /// it. The locations are found beforehand and stay fixed: where an item was removed, the next item has its
+    /// it. The locations are found beforehand and stay fixed: after an item was removed, the next item is at its
     /// location; a location that no longer exists is skipped. The only error is `OutOfMemory`; the closure is then not
     /// called.
     ///

@@ -27,7 +27,8 @@ pub struct PathsFault {
     pub fault: JsonPathError,
 }
 
-/// Prints the word `path`, the index, a colon and the error's text; if there is no index, the error's text alone.
+/// Prints the word `path`, the index of the wrong text in the list of path texts, a colon and the error's text; if the
+/// error has no index, the error's text alone.
 impl fmt::Display for PathsFault {
     ghost output = { λ fault. Some (paths_fault_text fault.index fault.fault) };
 

@@ -41,7 +41,8 @@ pub struct MaskFault {
     pub value: Value,
 }
 
-/// Prints the word `path`, the index, a colon and the error's text; if there is no index, the error's text alone.
+/// Prints the word `path`, the index of the wrong text in the list of path texts, a colon and the error's text; if the
+/// error has no index, the error's text alone.
 impl fmt::Display for MaskFault {
     ghost output = { λ fault. Some (paths_fault_text fault.index fault.fault) };
 

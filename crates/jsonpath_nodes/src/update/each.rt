@@ -34,8 +34,8 @@ pub fn replace_at<F: FnMut(Value) -> Option<Value>>(
     }
 }
 
-/// Puts null at each location of a list. The root is skipped, and so are locations that don't exist or that are below
-/// another location of the list that is not the root. The locations may come in any order and repeat.
+/// Puts null at each location of a list. The root is skipped, and so is each location that doesn't exist, or that is
+/// below another listed location (the root does not count as one). The locations may come in any order and repeat.
 ///
 /// ```text
 /// let mut document = read_document(alloc, b"[1, [2, 3]]")?;

@@ -39,16 +39,17 @@ pub trait ParserTokenHandler<V> {
     /// For proofs: the tokens that this receiver has received, in their order.
     ghost tokens: { Self → List ParseToken };
 
-    /// For proofs: whether this receiver has failed. Once it has, its `tokens` mean nothing.
+    /// For proofs: whether this receiver has failed. Once it has, its `tokens` (for proofs, the tokens that it has
+    /// received) mean nothing.
     ghost has_failed: { Self → Bool };
 
-    /// For proofs: the values that the function `reader`, called with a span of the path text, may return to this
-    /// receiver; by default, any.
+    /// For proofs: the values that this receiver allows `reader`, the function that it is given with each token, to
+    /// return for a span of the path text; by default, any.
     ghost takes: { Self → StrRange → V → Type 0 } = { λ _ _ _. Unit {0} };
 
     /// Receives the next token of a path, or fails, for example when memory runs out; `failed` then returns true. It
-    /// may call `reader` on the spans of the token; for each span, the receiver's predicate `takes`, which proofs alone
-    /// use, has to hold for the span and what `reader` returns for it.
+    /// may call `reader` on the spans of the token; the caller has to ensure for each span of the token that the
+    /// receiver's predicate `takes`, which proofs alone use, holds for the span and what `reader` returns for it.
     fn handle<R: Fn(&StrRange) -> V>(&mut self, token: &ParseToken, reader: &R)
         requires may { MayRead (R.pre reader.now) token.now }
         requires reads { (s : Bor StrRange) (v : V) → R.post reader.now s v → takes self.old s.now v }

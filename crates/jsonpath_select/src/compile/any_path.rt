@@ -268,7 +268,7 @@ pub trait AnyPath {
 
     /// Calls the closure once for each selected location, in document order, with the value that the earlier updates
     /// left there: `Some` replaces the value, `None` removes it. The locations are found beforehand and stay fixed:
-    /// where an item was removed, the next item has its location; a location that no longer exists is skipped, and so
+    /// after an item was removed, the next item is at its location; a location that no longer exists is skipped, and so
     /// is the root. The only error is `OutOfMemory`; then the document is unchanged and the closure was not called.
     ///
     /// ```text
@@ -297,7 +297,7 @@ pub trait AnyPath {
 
     /// Calls the closure once for each selected location, in document order, with a reference to the value that the
     /// earlier updates left there: `Some` replaces the value, `None` removes it. The locations are found beforehand and
-    /// stay fixed: where an item was removed, the next item has its location; a location that no longer exists is
+    /// stay fixed: after an item was removed, the next item is at its location; a location that no longer exists is
     /// skipped, and so is the root. The closure's first error ends the updates, as `Refused`; the updates before it
     /// remain. The only other error is `Unasked` with `OutOfMemory`, before the closure is called.
     ///

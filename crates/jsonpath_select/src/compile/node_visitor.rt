@@ -50,7 +50,8 @@ pub trait NodeVisitor {
     /// For proofs: the tokens that this receiver has received, in their order.
     ghost tokens: { Self → List ParseToken };
 
-    /// For proofs: whether this receiver has failed. Once it has, its `tokens` mean nothing.
+    /// For proofs: whether this receiver has failed. Once it has, its `tokens` (for proofs, the tokens that it has
+    /// received) mean nothing.
     ghost has_failed: { Self → Bool };
 
     /// Receives the next token of a compiled path, or fails, as when memory runs out.

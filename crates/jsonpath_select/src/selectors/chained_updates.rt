@@ -88,7 +88,7 @@ impl<P: AnyPath> HeldPair<P, Value> {
 
     /// Calls the closure once for each selected location below the root, in document order, with the value that earlier
     /// updates left there: `Some` replaces the value, `None` removes it. The locations are found beforehand and stay
-    /// fixed: where an item was removed, the next item has its location; a location that no longer exists is skipped.
+    /// fixed: after an item was removed, the next item is at its location; a location that no longer exists is skipped.
     /// Errors, before the closure is called: `EmptyPath` without a path, else `EmptyValue` without a document, else
     /// `OutOfMemory`.
     ///

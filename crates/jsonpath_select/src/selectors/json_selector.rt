@@ -10,8 +10,8 @@ use serde_json::Value;
 use std::alloc::Global;
 use std::rc::Rc;
 
-/// A selector with a compiled path and a borrowed value to search. Both are optional; each is the one that was set
-/// last. A select call changes neither, whether it succeeds or not, and stores no answer.
+/// A selector with a compiled path and a borrowed value to search. Both are optional, and either can be set again,
+/// which replaces the earlier one. A select call changes neither, whether it succeeds or not, and stores no answer.
 ///
 /// ```text
 /// let document = read_document(alloc, b"[1, 2, 3]")?;

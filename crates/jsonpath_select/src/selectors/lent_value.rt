@@ -48,7 +48,7 @@ impl<'a, P: AnyPath> HeldPair<P, &'a Value> {
 
     /// The values that the selector's path selects, in the order in which the path's steps find them, with duplicates.
     /// They borrow only the searched value. Errors: `EmptyPath` exactly if there is no path, `EmptyValue` exactly if
-    /// there is a path and no value, else `OutOfMemory` alone.
+    /// there is a path and no value, else only `OutOfMemory`.
     ///
     /// ```text
     /// let document = read_document(alloc, b"[1, 2, 3]")?;

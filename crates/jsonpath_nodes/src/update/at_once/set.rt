@@ -16,9 +16,9 @@ use crate::update::single::update_at_steps;
 use serde_json::Value;
 use std::alloc::Global;
 
-/// Replaces the value at each location of a list by a copy of `new`, all at once. The root is skipped, and so are
-/// locations that don't exist or that are below another location of the list that is not the root. The list must be in
-/// document order, each location once, as `compute_paths` returns it.
+/// Replaces the value at each location of a list by a copy of `new`, all at once. The root is skipped, and so is each
+/// location that doesn't exist, or that is below another listed location (the root does not count as one). The list
+/// must be in document order, each location once, as `compute_paths` returns it.
 ///
 /// The only error is `NoMemory`, and then the value is unchanged.
 ///
