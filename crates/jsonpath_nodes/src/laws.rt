@@ -212,9 +212,10 @@ pub fn steps_keep_locations_disjoint()
 {}
 
 /// Lemma: let locations be called apart if no two are equal and none can be reached from another by indexes alone; a
-/// single location counts as apart. A filter's candidates are what is left after nested arrays are flattened. If the
-/// filter starts from locations that are apart, no candidate is found twice. From whatever locations it starts, the
-/// locations of its candidates are apart once repeats are dropped.
+/// single location counts as apart. A filter's candidates are the values at the locations where it starts, each array
+/// replaced by its items, and these again if they are arrays, until no array is left. If the filter starts from
+/// locations that are apart, no candidate is found twice. From whatever locations it starts, the locations of its
+/// candidates are apart once repeats are dropped.
 ///
 /// ```text
 /// laws::apart_locations_meet_candidates_once();
