@@ -194,10 +194,10 @@ pub fn candidates_of_disjoint_in_descents()
 
 /// Lemma: locations are disjoint if no two are equal and none is below another. Distinct locations of equal depth are
 /// disjoint. No location is at or below two disjoint ones. Disjoint locations are also apart, a weaker property: no two
-/// are equal, and none can be reached from another by indexes alone. From disjoint locations, a step that selects no
-/// child of a value twice leads to disjoint ones, and so does `*` if the names of each object to which it is applied
-/// ascend, so that none comes twice. The values that a filter tests, when it is applied at disjoint locations, are at
-/// disjoint locations, and so are those of them that meet its condition.
+/// are equal, and none can be reached from another by indexes alone. A step that is applied at disjoint locations and
+/// selects no child of a value twice leads to disjoint locations. So does `*`, if no object to which it is applied has
+/// a name twice: the lemma assumes that its names ascend. The values that a filter tests, when it is applied at
+/// disjoint locations, are at disjoint locations, and so are those of them that meet its condition.
 ///
 /// ```text
 /// laws::steps_keep_locations_disjoint();
@@ -246,10 +246,10 @@ pub fn steps_keep_locations_apart()
     ensures kept { KeptStandApart }
 {}
 
-/// Lemma: the list of all locations at or below a location of a document has no repeats. From distinct locations, a
-/// step that selects no child of a value twice leads to distinct ones, and so does `*` if the names of each object to
-/// which it is applied ascend, so that none comes twice. If locations are distinct, those that meet a filter's
-/// condition are, too.
+/// Lemma: the list of all locations at or below a location of a document has no repeats. A step that is applied at
+/// distinct locations and selects no child of a value twice leads to distinct locations. So does `*`, if no object to
+/// which it is applied has a name twice: the lemma assumes that its names ascend. If locations are distinct, those that
+/// meet a filter's condition are, too.
 ///
 /// ```text
 /// laws::steps_lead_without_repeats();

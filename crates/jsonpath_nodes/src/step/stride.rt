@@ -36,8 +36,8 @@ pub enum Selection<'t> {
     Range(Option<i64>, Option<i64>, Option<u64>),
 }
 
-/// A path's step that has no condition, with or without `..` before the step. The names of the members that it selects
-/// are owned or borrowed.
+/// A path's step that has no condition, with or without `..` before the step. The member names that are written in the
+/// step are owned by it or borrowed from the path's text.
 ///
 /// ```text
 /// let every = Stride {
