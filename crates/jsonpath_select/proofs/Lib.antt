@@ -1,1 +1,2 @@
 mod LawRows
+mod MannerLemmas
