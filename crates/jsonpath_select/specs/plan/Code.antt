@@ -23,6 +23,13 @@ pub data Instruction : Type 0 where
   compares : FilterToken → Instruction
   -- a connective between the two conditions before it
   joins : FilterToken → Instruction
+  -- in the manner of sets: the locations on top are lessened to those that a descent begins at, or put in order, each once
+  topmost : Instruction
+  in_order : Instruction
+  -- a filter's candidates are put aside, and each location of them is to be decided once
+  distinct : Instruction
+  -- those put aside go on whose location has passed
+  put_back : Instruction
 
 -- ---- the instructions of a tree
 
@@ -47,6 +54,27 @@ abbrev mutual
   term_code (tree.at_path p) = path_code p
   term_code (tree.literal token) = constant token ∷ []
 
+-- ---- the instructions in the manner of sets, or as they are
+
+-- behind `..` only the topmost are led on
+abbrev pub before_step : Bool → List Instruction
+before_step true = topmost ∷ []
+before_step false = []
+
+abbrev pub by_sets : Instruction → List Instruction
+by_sets (plain_step leaves token) = before_step leaves ++ plain_step leaves token ∷ in_order ∷ []
+by_sets (enter leaves deep) = before_step leaves ++ enter leaves deep ∷ distinct ∷ []
+by_sets leave = leave ∷ put_back ∷ in_order ∷ []
+by_sets i = i ∷ []
+
+abbrev pub all_by_sets : List Instruction → List Instruction
+all_by_sets [] = []
+all_by_sets (i ∷ is) = by_sets i ++ all_by_sets is
+
+-- a condition with its filter's end, decided by sets for the candidates of a list with repeats
+abbrev pub decided_by_sets : List Instruction → List Instruction
+decided_by_sets condition = distinct ∷ all_by_sets condition ++ leave ∷ put_back ∷ []
+
 -- ---- the scan: what is known of the tokens behind a place
 
 pub record Scan : Type 0 where
@@ -57,13 +85,9 @@ pub record Scan : Type 0 where
 
 abbrev pub starts_with_step : List Instruction → Bool
 starts_with_step [] = false
-starts_with_step (start absolute ∷ is) = false
 starts_with_step (plain_step leaves token ∷ is) = true
 starts_with_step (enter leaves deep ∷ is) = true
-starts_with_step (leave ∷ is) = false
-starts_with_step (constant token ∷ is) = false
-starts_with_step (compares op ∷ is) = false
-starts_with_step (joins op ∷ is) = false
+starts_with_step (i ∷ is) = false
 
 -- notes for the innermost bracket that its own `@` has a step
 abbrev pub note_own_step : Bool → List Bool → List Bool
@@ -81,13 +105,10 @@ outer (o ∷ os) = os
 -- the step at the front has one dot before it, or two
 abbrev pub with_dots : Bool → List Instruction → List Instruction
 with_dots leaves [] = []
-with_dots leaves (start absolute ∷ is) = start absolute ∷ is
 with_dots leaves (plain_step b token ∷ is) = plain_step leaves token ∷ is
 with_dots leaves (enter b deep ∷ is) = enter leaves deep ∷ is
-with_dots leaves (leave ∷ is) = leave ∷ is
 with_dots leaves (constant token ∷ is) = plain_step leaves token ∷ is
-with_dots leaves (compares op ∷ is) = compares op ∷ is
-with_dots leaves (joins op ∷ is) = joins op ∷ is
+with_dots leaves (i ∷ is) = i ∷ is
 
 abbrev pub lone_word : Bool → ParseToken → List Instruction → List Instruction
 lone_word deep token [] = enter false deep ∷ constant token ∷ []

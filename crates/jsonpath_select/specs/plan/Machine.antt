@@ -5,12 +5,16 @@ use Rattle.std.specs.Prelude.{ℕ, zero, suc, ◌==◌, Bool, true, false, ◌&&
 use Rattle.jsonpath_nodes.specs.document.Document.{Document}
 use Rattle.jsonpath_paths.specs.declared.token.tokens.FilterToken.{FilterToken}
 use Rattle.jsonpath_paths.specs.declared.token.tokens.ParseToken.{ParseToken}
-use Rattle.jsonpath_nodes.specs.place.Location.{Location}
+use Rattle.std.specs.List.{list_any}
+use Rattle.jsonpath_nodes.specs.place.Location.{Location, is_same}
+use Rattle.jsonpath_nodes.specs.place.NumbersWhere.{numbers_where}
+use Rattle.jsonpath_nodes.specs.place.Order.{once_in_order}
+use Rattle.jsonpath_nodes.specs.step.SameMembers as same_members
 use Rattle.jsonpath_nodes.specs.step.Steps.{every, step, all_below, flattened}
 use Rattle.jsonpath_nodes.specs.compare.Comparisons.{Seen}
 use Rattle.jsonpath_select.specs.Meaning.{is_some_location, values_at}
 use Rattle.jsonpath_select.specs.Parts.{plain_of, literals, has_pair, joined}
-use Rattle.jsonpath_select.specs.plan.Code.{Instruction, start, plain_step, enter, leave, constant, compares, joins}
+use Rattle.jsonpath_select.specs.plan.Code.{Instruction, start, plain_step, enter, leave, constant, compares, joins, topmost, in_order, distinct, put_back}
 
 abbrev pub Tagged : Type 0
 Tagged = ℕ × Location
@@ -172,10 +176,22 @@ start_of_path absolute cs = record { shared = absolute; pairs = spread itself 0 
 abbrev pub number_of : Found → ℕ
 number_of cand = length (places cand.pairs)
 
+-- where f leads each list of the locations on top
+abbrev pub top_led : (List Location → List Location) → Found → List Operand → Option (List Operand)
+top_led f cand (of_path g ∷ os) = Some (of_path (record g { pairs = each_tag f 0 (list_count_for_candidates g.shared (number_of cand)) g.pairs }) ∷ os)
+top_led f cand _ = None
+
+-- those of the pairs whose location is among some others
+abbrev pub kept_among : List Location → List Tagged → List Tagged
+kept_among others ps = kept_by_number 0 (numbers_where (λ l. list_any (is_same l) (once_in_order others)) 0 (places ps)) ps
+
 -- one instruction, at the innermost candidates and the operands
 abbrev pub on_operands : List ℕ → Document → Instruction → Found → List Operand → Option (List Operand)
 on_operands text doc (start absolute) cand os = Some (of_path (start_of_path absolute (places cand.pairs)) ∷ os)
-on_operands text doc (plain_step leaves token) cand (of_path f ∷ os) = Some (of_path (record f { pairs = each_tag (stepped text doc leaves token) 0 (list_count_for_candidates f.shared (number_of cand)) f.pairs }) ∷ os)
+on_operands text doc (plain_step leaves token) cand os = top_led (stepped text doc leaves token) cand os
+on_operands text doc topmost cand os = top_led same_members.topmost cand os
+on_operands text doc in_order cand os = top_led once_in_order cand os
+on_operands text doc put_back cand (of_path passed ∷ of_path f ∷ os) = Some (of_path (record f { pairs = kept_among (places passed.pairs) f.pairs }) ∷ os)
 on_operands text doc (constant token) cand os = Some (literal (literals text token) ∷ os)
 on_operands text doc (compares op) cand (b ∷ a ∷ os) =
     if is_side a && is_side b then Some (tags (compared doc op 0 (number_of cand) a b) ∷ os) else None
@@ -194,6 +210,11 @@ abbrev pub filter_closed : List Found → List Operand → Option State
 filter_closed (cand ∷ fs) (o ∷ os) = option_map (λ ts. record { frames = fs; operands = of_path (record cand { pairs = kept_by_number 0 ts cand.pairs }) ∷ os }) (as_tags (number_of cand) o)
 filter_closed _ _ = None
 
+-- the innermost candidates are put aside, and each location of them is there once
+abbrev pub put_aside : List Found → List Operand → Option State
+put_aside [] os = None
+put_aside (cand ∷ fs) os = Some (record { frames = record { shared = true; pairs = tagged 0 (once_in_order (places cand.pairs)) } ∷ fs; operands = of_path cand ∷ os })
+
 abbrev pub inside : List ℕ → Document → Instruction → List Found → List Operand → Option State
 inside text doc i [] os = None
 inside text doc i (cand ∷ fs) os = option_map (λ more. record { frames = cand ∷ fs; operands = more }) (on_operands text doc i cand os)
@@ -202,6 +223,7 @@ inside text doc i (cand ∷ fs) os = option_map (λ more. record { frames = cand
 abbrev pub one : List ℕ → Document → Instruction → State → Option State
 one text doc (enter leaves deep) s = opened doc leaves deep s.frames s.operands
 one text doc leave s = filter_closed s.frames s.operands
+one text doc distinct s = put_aside s.frames s.operands
 one text doc i s = inside text doc i s.frames s.operands
 
 abbrev pub run_all : List ℕ → Document → List Instruction → State → Option State

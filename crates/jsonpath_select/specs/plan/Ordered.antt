@@ -2,7 +2,7 @@
 use Rattle.std.specs.Prelude.{Bool, List, map, reverse}
 use Rattle.jsonpath_select.specs.plan.Code as code
 use Rattle.jsonpath_select.specs.declared.machine.instruction.Instruction.{Instruction}
-use Rattle.jsonpath_select.specs.declared.machine.instruction.Instruction.TheVariants.{Start, Step, Enter, Leave, Constant, Compares, Joins}
+use Rattle.jsonpath_select.specs.declared.machine.instruction.Instruction.TheVariants.{Start, Step, Enter, Leave, Constant, Compares, Joins, Topmost, InOrder, Distinct, PutBack}
 
 abbrev pub instruction_of : Instruction → code.Instruction
 instruction_of (Start absolute) = code.start absolute
@@ -12,6 +12,10 @@ instruction_of Leave = code.leave
 instruction_of (Constant token) = code.constant token.now
 instruction_of (Compares op) = code.compares op
 instruction_of (Joins op) = code.joins op
+instruction_of Topmost = code.topmost
+instruction_of InOrder = code.in_order
+instruction_of Distinct = code.distinct
+instruction_of PutBack = code.put_back
 
 abbrev pub front_of : List Instruction → List code.Instruction
 front_of is = map instruction_of (reverse is)

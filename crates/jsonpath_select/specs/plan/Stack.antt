@@ -7,7 +7,7 @@ use Rattle.jsonpath_paths.specs.declared.token.tokens.ParseToken.{ParseToken}
 use Rattle.jsonpath_paths.specs.declared.token.tokens.ParseToken.TheVariants.{Key}
 use Rattle.jsonpath_nodes.specs.place.Location.{Location}
 use Rattle.jsonpath_select.specs.plan.Code as code
-use Rattle.jsonpath_select.specs.plan.Machine.{State, one, run_all}
+use Rattle.jsonpath_select.specs.plan.Machine.{State, one, run_all, top_led}
 use Rattle.jsonpath_select.specs.plan.Machine as machine
 use Rattle.jsonpath_select.specs.Parts.{literals, quoted_text}
 use Rattle.jsonpath_select.specs.plan.Ordered.{instruction_of}
@@ -79,6 +79,16 @@ CanExecute b stand content text i stacks = (doc : Document) × (s : State) × (t
 -- what is shown afterwards is the answer to the instruction
 abbrev pub Executes : {M : Type 0} → Bool → (M → Location) → (M → Document) → List ℕ → Document → code.Instruction → Stacks M → Stacks M → Type 0
 Executes b stand content text doc i stacks stacks' = (s t : State) → ShowsStacks b stand content text doc s stacks → one text doc i s ≡ Some t → ShowsStacks b stand content text doc t stacks'
+
+-- f can lead the locations on top
+abbrev pub CanLeadTop : {M : Type 0} → Bool → (M → Location) → (M → Document) → List ℕ → Stacks M → Type 0
+CanLeadTop b stand content text stacks = (doc : Document) × (f : List Location → List Location) × (cand : machine.Found) × (fs : List machine.Found) × (os more : List machine.Operand)
+    × ShowsStacks b stand content text doc (record { frames = cand ∷ fs; operands = os }) stacks × (top_led f cand os ≡ Some more)
+
+-- what is shown afterwards is where f leads the locations on top
+abbrev pub LeadsTop : {M : Type 0} → Bool → (M → Location) → (M → Document) → List ℕ → Document → (List Location → List Location) → Stacks M → Stacks M → Type 0
+LeadsTop b stand content text doc f stacks stacks' = (cand : machine.Found) (fs : List machine.Found) (os more : List machine.Operand)
+    → ShowsStacks b stand content text doc (record { frames = cand ∷ fs; operands = os }) stacks → top_led f cand os ≡ Some more → ShowsStacks b stand content text doc (record { frames = cand ∷ fs; operands = more }) stacks'
 
 -- the instructions that are left lead from what is shown to some state
 abbrev pub CanGoOn : {M : Type 0} → Bool → (M → Location) → (M → Document) → List ℕ → Document → List Instruction → Stacks M → Type 0

@@ -1,14 +1,13 @@
 //! How the machine executes one instruction, for all candidates at once. As in `Instruction`, `leaves` means that
 //! `..` comes before a step or a filter, and `deep` that a filter uses a relative query with at least one segment.
 
-ghost use Rattle.std.specs.Prelude.{IfOk, OnOk};
+ghost use Rattle.std.specs.Prelude.{OnOk};
 ghost use Rattle.jsonpath_nodes.specs.document.Document.{Document};
 ghost use Rattle.serde_json.specs.View.{view};
 ghost use Rattle.jsonpath_nodes.specs.document.OfData.{document_of};
 ghost use Rattle.jsonpath_select.specs.plan.Code as code;
-ghost use Rattle.jsonpath_select.specs.plan.Machine.{each_tag, stepped};
-ghost use Rattle.jsonpath_select.specs.plan.Shown.{LeadsPairs};
-ghost use Rattle.jsonpath_select.specs.plan.Stack.{EndsInOne, CanExecute, Executes, Reaches};
+ghost use Rattle.jsonpath_select.specs.plan.Shown.{led};
+ghost use Rattle.jsonpath_select.specs.plan.Stack.{EndsInOne, CanExecute, CanLeadTop, Executes, LeadsTop, Reaches};
 ghost use Rattle.jsonpath_select.specs.plan.Ordered.{instruction_of};
 
 use crate::comparison::comparer::Comparer;
@@ -19,10 +18,10 @@ use crate::step::carried_mark::Carried;
 use crate::step::names::name_at;
 use crate::tagged::conditions::{condition_tags, join_tags};
 use crate::tagged::kept_marks::keep_marks_at_indexes;
-use crate::tagged::marks::{Found, TaggedMarks};
+use crate::tagged::marks::Found;
 use crate::tagged::moves::{Move, candidates_of_filter, lead_marks_of_candidates};
 use crate::tagged::operand::Operand;
-use crate::tagged::shared_lists::list_count_for_candidates;
+use crate::tagged::shared_lists::{list_count_for_candidates, marks_shared_by_candidates};
 use crate::tagged::start_of_paths::{members_named, start_of_path};
 use jsonpath_nodes::NoMemory;
 use jsonpath_paths::{FilterToken, ParseToken, StrRange};
@@ -40,6 +39,10 @@ impl<'a, 't> Machine<'a, 't> {
         match instruction {
             Instruction::Start { absolute } => Ok(self.start_path(absolute, stacks)?),
             Instruction::Step { leaves, token } => self.take_plain_step(leaves, token, stacks),
+            Instruction::Topmost => self.lead_top(Move::Topmost, stacks),
+            Instruction::InOrder => self.lead_top(Move::InOrder, stacks),
+            Instruction::Distinct => self.put_candidates_aside(stacks),
+            Instruction::PutBack => self.put_back(stacks),
             Instruction::Enter { leaves, deep } => self.begin_filter(leaves, deep, stacks),
             Instruction::Leave => Ok(self.end_filter(stacks)?),
             Instruction::Constant(token) => Ok(push_top(
@@ -91,7 +94,8 @@ impl<'a, 't> Machine<'a, 't> {
         Ok(())
     }
 
-    // Leads the path on top of the operands one plain step on.
+    // Leads the path on top of the operands one plain step on. The name of a step by one name that no `..` stands before
+    // is read once for all candidates.
     fn take_plain_step<M: Carried<'a>>(
         &self,
         leaves: bool,
@@ -101,34 +105,10 @@ impl<'a, 't> Machine<'a, 't> {
         requires { CanExecute M.located M.stand M.content self.now.text.now (code.plain_step leaves token.now) stacks.old }
         ensures { OnOk result ((doc : Document) → Executes M.located M.stand M.content self.now.text.now doc (code.plain_step leaves token.now) stacks.old stacks.new) }
     {
-        let Found { is_shared, pairs } = pop_marks(&mut stacks.operands);
-        let lists = list_count_for_candidates(is_shared, stacks.candidate_count());
-        let pairs = self.tagged_marks_after_plain_step(leaves, token, lists, pairs)?;
-        let found = Operand::Marks(Found { is_shared, pairs });
-        Ok(push_top(&mut stacks.operands, found)?)
-    }
-
-    // Where a plain step, behind `..` where `leaves` is set, leads the marks of each of `count` candidates. The name of
-    // a step by one name that no `..` stands before is read once for all of them.
-    fn tagged_marks_after_plain_step<M: Carried<'a>>(
-        &self,
-        leaves: bool,
-        token: &ParseToken,
-        count: usize,
-        pairs: TaggedMarks<M>,
-    ) -> Result<TaggedMarks<M>, M::Stop>
-        ensures { IfOk result (λ found. LeadsPairs M.located M.stand M.content (λ doc ps. each_tag (stepped self.now.text.now doc leaves token.now) 0 count ps) pairs found) }
-    {
         match (leaves, token) {
             (false, ParseToken::Key(span)) => {
                 let key = name_at(self.alloc, self.text, *span)?;
-                let found = lead_marks_of_candidates(
-                    self.alloc,
-                    Move::Member(key.as_str()),
-                    count,
-                    pairs,
-                )?;
-                Ok(found)
+                self.lead_top(Move::Member(key.as_str()), stacks)
             }
             _ => {
                 let by = Move::Step {
@@ -136,9 +116,54 @@ impl<'a, 't> Machine<'a, 't> {
                     token,
                     text: self.text,
                 };
-                lead_marks_of_candidates(self.alloc, by, count, pairs)
+                self.lead_top(by, stacks)
             }
         }
+    }
+
+    // Moves what the path on top of the operands has found, for each candidate by itself.
+    fn lead_top<M: Carried<'a>>(
+        &self,
+        by: Move<'_>,
+        stacks: &mut Stacks<'_, M>,
+    ) -> Result<(), M::Stop>
+        requires { CanLeadTop M.located M.stand M.content self.now.text.now stacks.old }
+        ensures { OnOk result ((doc : Document) → LeadsTop M.located M.stand M.content self.now.text.now doc (led doc by.entry) stacks.old stacks.new) }
+    {
+        let Found { is_shared, pairs } = pop_marks(&mut stacks.operands);
+        let lists = list_count_for_candidates(is_shared, stacks.candidate_count());
+        let pairs = lead_marks_of_candidates(self.alloc, by, lists, pairs)?;
+        let found = Operand::Marks(Found { is_shared, pairs });
+        Ok(push_top(&mut stacks.operands, found)?)
+    }
+
+    // Puts the candidates of the innermost filter on the operands, and in their place each location of them once.
+    fn put_candidates_aside<M: Carried<'a>>(
+        &self,
+        stacks: &mut Stacks<'_, M>,
+    ) -> Result<(), M::Stop>
+        requires { CanExecute M.located M.stand M.content self.now.text.now code.distinct stacks.old }
+        ensures { OnOk result ((doc : Document) → Executes M.located M.stand M.content self.now.text.now doc code.distinct stacks.old stacks.new) }
+    {
+        let candidates = pop_top(&mut stacks.frames);
+        let marks = M::marks_in_document_order(self.alloc, candidates.pairs.marks.as_slice())?;
+        let distinct = marks_shared_by_candidates(self.alloc, marks)?;
+        push_top(&mut stacks.frames, distinct)?;
+        Ok(push_top(&mut stacks.operands, Operand::Marks(candidates))?)
+    }
+
+    // Puts on the operands, in place of the two on top, those of the candidates put aside whose location has passed.
+    fn put_back<M: Carried<'a>>(&self, stacks: &mut Stacks<'_, M>) -> Result<(), M::Stop>
+        requires { CanExecute M.located M.stand M.content self.now.text.now code.put_back stacks.old }
+        ensures { OnOk result ((doc : Document) → Executes M.located M.stand M.content self.now.text.now doc code.put_back stacks.old stacks.new) }
+    {
+        let passed = pop_marks(&mut stacks.operands);
+        let Found { is_shared, pairs } = pop_marks(&mut stacks.operands);
+        let marks = pairs.marks.as_slice();
+        let indexes = M::indexes_among(self.alloc, marks, passed.pairs.marks.as_slice())?;
+        let pairs = keep_marks_at_indexes(self.alloc, pairs, indexes.as_slice())?;
+        let found = Operand::Marks(Found { is_shared, pairs });
+        Ok(push_top(&mut stacks.operands, found)?)
     }
 
     // Opens a filter: its candidates, found from the marks on top of the operands, are put on the frames.

@@ -27,6 +27,14 @@ pub enum Instruction<'t> {
     Compares(FilterToken),
     // `&&` or `||` between the two conditions before it.
     Joins(FilterToken),
+    // By sets: of what a path has found, a descent begins only at what is below nothing else found.
+    Topmost,
+    // By sets: what a path has found is put in document order, each location once.
+    InOrder,
+    // By sets: the candidates of the filter that begins are put aside, and each location of them is decided once.
+    Distinct,
+    // By sets: those put aside whose location has passed are taken.
+    PutBack,
 }
 
 // The instructions of a token list, in their order.
