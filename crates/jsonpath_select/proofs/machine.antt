@@ -8,3 +8,5 @@ pub mod OrderedLemmas
 pub mod UnfilteredLemmas
 pub mod StandingLemmas
 pub mod TopLemmas
+pub mod LeadTopLemmas
+pub mod BySetsLemmas

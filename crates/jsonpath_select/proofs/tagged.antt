@@ -3,3 +3,4 @@ pub mod TagLemmas
 pub mod GroupLemmas
 pub mod ConditionLemmas
 pub mod KeptLemmas
+pub mod DistinctLemmas

@@ -2,5 +2,6 @@
 //! first node alone (`first_place`).
 
 pub(crate) mod first_place;
+pub(crate) mod leading_on;
 pub(crate) mod next_filter;
 pub(crate) mod select_list;

@@ -5,6 +5,7 @@ pub(crate) mod by_sets;
 pub(crate) mod execute_instruction;
 pub(crate) mod instruction;
 pub(crate) mod machine;
+pub(crate) mod manner;
 pub(crate) mod plain_steps;
 pub(crate) mod stacks;
 pub(crate) mod standing;

@@ -8,7 +8,7 @@ use Rattle.jsonpath_paths.specs.declared.token.tokens.ParseToken.{ParseToken}
 use Rattle.jsonpath_paths.specs.Listed.{IsListOf}
 use Rattle.jsonpath_select.specs.Meaning.{sel, follow}
 use Rattle.jsonpath_select.specs.plan.Code.{path_code, scan}
-use Rattle.jsonpath_select.specs.plan.NextFilter.{CodesSteps}
+use Rattle.jsonpath_select.specs.plan.NextFilter.{CodesPath, CodesSteps}
 use Rattle.jsonpath_select.specs.plan.Ordered.{instruction_of}
 use Rattle.jsonpath_select.specs.declared.machine.instruction.Instruction.{Instruction}
 use Rattle.jsonpath_select.proofs.machine.ScanLemmas.{scan_whole}
@@ -17,11 +17,11 @@ use Rattle.jsonpath_select.proofs.machine.ScanLemmas.{scan_whole}
 abbrev pub BeginsAtRoot : List ℕ → Document → Path → List Instruction → Type 0
 BeginsAtRoot text doc p is = (ss : PathSteps) × CodesSteps (take (length is - 1) (drop 1 is)) ss × (follow text doc ss ([] ∷ []) ≡ sel text doc p) × (1 ≤ length is)
 
-begins : (text : List ℕ) (doc : Document) (p : Path) (is : List Instruction) → IsPath p → map instruction_of is ≡ path_code p → BeginsAtRoot text doc p is
-begins text doc (path true ss) [] h e = cc
-begins text doc (path true ss) (i ∷ is) h e = let later : CodesSteps is ss = cc in (ss, subst (λ (js : List Instruction). CodesSteps js ss) (sym (take_rest (i ∷ is) 1)) later, refl, omega arith)
-begins text doc (path false ss) is h e = let never : false ≡ true = h.0 in cc
+pub begins : (text : List ℕ) (doc : Document) (p : Path) (is : List Instruction) → CodesPath is p → BeginsAtRoot text doc p is
+begins text doc (path true ss) [] h = cc
+begins text doc (path true ss) (i ∷ is) h = let later : CodesSteps is ss = cc in (ss, subst (λ (js : List Instruction). CodesSteps js ss) (sym (take_rest (i ∷ is) 1)) later, refl, omega arith)
+begins text doc (path false ss) is h = let never : false ≡ true = h.0.0 in cc
 
-pub list_begins : (text : List ℕ) (doc : Document) (p : Path) (tokens : List ParseToken) (held found : List Instruction) → IsListOf text p tokens → held ≡ found → map instruction_of found ≡ (scan tokens).code → BeginsAtRoot text doc p held
-list_begins text doc p tokens held found h same is =
-    begins text doc p held h.path (ap (λ (js : List Instruction). map instruction_of js) same ∙ is ∙ ap (λ (ts : List ParseToken). (scan ts).code) (sym h.list) ∙ scan_whole p h.path)
+pub list_codes : (text : List ℕ) (p : Path) (tokens : List ParseToken) (held found : List Instruction) → IsListOf text p tokens → held ≡ found → map instruction_of found ≡ (scan tokens).code → CodesPath held p
+list_codes text p tokens held found h same is =
+    (h.path, ap (λ (js : List Instruction). map instruction_of js) same ∙ is ∙ ap (λ (ts : List ParseToken). (scan ts).code) (sym h.list) ∙ scan_whole p h.path)

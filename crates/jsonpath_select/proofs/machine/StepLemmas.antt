@@ -11,7 +11,7 @@ use Rattle.jsonpath_nodes.specs.place.Location.{Location}
 use Rattle.jsonpath_nodes.specs.step.Steps.{Plain, named, step}
 use Rattle.jsonpath_select.specs.Parts.{plain_of}
 use Rattle.jsonpath_select.specs.plan.Code.{Instruction, start, plain_step, compares, joins}
-use Rattle.jsonpath_select.specs.plan.Machine.{Tagged, places, spread, itself, start_of_path, list_count_for_candidates, State, of_path, tags, literal, stepped, each_tag, entered, kept_by_number, compared, joined_tags, as_tags, is_side, one, inside, opened, filter_closed}
+use Rattle.jsonpath_select.specs.plan.Machine.{Tagged, places, spread, itself, start_of_path, list_count_for_candidates, State, of_path, tags, literal, stepped, each_tag, entered, kept_by_number, compared, joined_tags, as_tags, is_side, one, inside, opened, filter_closed, top_led}
 use Rattle.jsonpath_select.specs.plan.Machine as machine
 use Rattle.jsonpath_select.specs.plan.Shown.{Shows, LeadsPairs}
 use Rattle.jsonpath_select.specs.plan.Stack.{found_on, EndsInMarks, EndsInOne, IsOfCondition, IsOfTerm, ShowsFound, ShowsOperand, ShowsOperands, ShowsFrames, ShowsState}
@@ -25,7 +25,7 @@ use Rattle.jsonpath_select.proofs.walk.MarkLemmas.{length-marks}
 use Rattle.jsonpath_select.proofs.tagged.TagLemmas.{each_tag-spread}
 
 -- what an answer is made of
-mapped : {A B : Type 0} (f : A → B) (o : Option A) (y : B) → option_map f o ≡ Some y → (x : A) × (o ≡ Some x) × (f x ≡ y)
+pub mapped : {A B : Type 0} (f : A → B) (o : Option A) (y : B) → option_map f o ≡ Some y → (x : A) × (o ≡ Some x) × (f x ≡ y)
 mapped f None y e = cc
 mapped f (Some x) y e = (x, refl, cc)
 
@@ -69,7 +69,7 @@ module _ {M : Type 0} (located : Bool) (stand_of : M → Location) (content_of :
         let both = same_from_push h.0 below h.1 x (sym h.2 ∙ e) in
         (subst (ShowsOperand located stand_of content_of text doc o) both.1 h.3, subst (ShowsOperands located stand_of content_of text doc os) both.0 h.4)
 
-    push_operand : (o : machine.Operand) (os : List machine.Operand) (old new : List (Operand M)) (top : Operand M) → ShowsOperands located stand_of content_of text doc os old → ShowsOperand located stand_of content_of text doc o top → new ≡ old ++ top ∷ [] → ShowsOperands located stand_of content_of text doc (o ∷ os) new
+    pub push_operand : (o : machine.Operand) (os : List machine.Operand) (old new : List (Operand M)) (top : Operand M) → ShowsOperands located stand_of content_of text doc os old → ShowsOperand located stand_of content_of text doc o top → new ≡ old ++ top ∷ [] → ShowsOperands located stand_of content_of text doc (o ∷ os) new
     push_operand o os old new top h s e = (old, top, e, s, h)
 
     one_there : (o : machine.Operand) (os : List machine.Operand) (old : List (Operand M)) → ShowsOperands located stand_of content_of text doc (o ∷ os) old → EndsInOne old
@@ -93,14 +93,13 @@ module _ {M : Type 0} (located : Bool) (stand_of : M → Location) (content_of :
     inside_frames i [] os t frames h e = cc
     inside_frames i (cand ∷ fs) os t frames h e = (h.0, h.1, h.2)
 
-    of_path_end : (g : machine.Found) (os : List machine.Operand) (old below : List (Operand M)) (top : Operand M) → old ≡ below ++ top ∷ [] → ShowsOperand located stand_of content_of text doc (of_path g) top → EndsInMarks old
+    pub of_path_end : (g : machine.Found) (os : List machine.Operand) (old below : List (Operand M)) (top : Operand M) → old ≡ below ++ top ∷ [] → ShowsOperand located stand_of content_of text doc (of_path g) top → EndsInMarks old
     of_path_end g os old below (operand.Marks n) e h = (below, n, e)
     of_path_end g os old below _ e h = absurd h
 
-    pub plain_step_operands : (leaves : Bool) (token : ParseToken) (fs : List machine.Found) (os : List machine.Operand) (t : State) (old : List (Operand M)) → ShowsOperands located stand_of content_of text doc os old
-        → inside text doc (plain_step leaves token) fs os ≡ Some t → EndsInMarks old
-    plain_step_operands leaves token (cand ∷ fs) (of_path g ∷ os) t old h e = of_path_end g os old h.0 h.1 h.2 h.3
-    plain_step_operands leaves token _ _ t old h e = cc
+    pub lead_top_operands : (f : List Location → List Location) (cand : machine.Found) (os more : List machine.Operand) (old : List (Operand M)) → ShowsOperands located stand_of content_of text doc os old → top_led f cand os ≡ Some more → EndsInMarks old
+    lead_top_operands f cand (of_path g ∷ os) more old h e = of_path_end g os old h.0 h.1 h.2 h.3
+    lead_top_operands f cand _ more old h e = cc
 
     pub enter_frames : (leaves deep : Bool) (fs : List machine.Found) (os : List machine.Operand) (t : State) (frames : List (Found M)) → ShowsFrames located stand_of content_of doc fs frames → opened doc leaves deep fs os ≡ Some t → EndsInOne frames
     enter_frames leaves deep [] os t frames h e = cc
@@ -217,21 +216,18 @@ module _ {M : Type 0} (located : Bool) (stand_of : M → Location) (content_of :
         → count ≡ length frame.pairs.marks.items → is_shared ≡ g.shared → lists ≡ list_count_for_candidates is_shared count → lists ≡ list_count_for_candidates g.shared (length (places cand.pairs))
     turned cand fs frames below frame g is_shared count lists hf is many same so = so ∙ ap₂ list_count_for_candidates same (number doc cand fs frames below frame count hf is many)
 
-    pub plain_step_done : (leaves : Bool) (token : denote.Ref.Bor ParseToken) (fs : List machine.Found) (os : List machine.Operand) (t : State) (frames below : List (Found M)) (frame n : Found M) (found : TaggedMarks M) (old mid new : List (Operand M)) (count lists : ℕ)
-        → ShowsFrames located stand_of content_of doc fs frames → ShowsOperands located stand_of content_of text doc os old → inside text doc (plain_step leaves token.now) fs os ≡ Some t → frames ≡ below ++ frame ∷ [] → count ≡ length frame.pairs.marks.items → old ≡ mid ++ found_on n ∷ []
-        → lists ≡ list_count_for_candidates n.is_shared count → LeadsPairs located stand_of content_of (λ d ps. each_tag (stepped text d leaves token.now) 0 lists ps) n.pairs found → new ≡ mid ++ found_on (record n { pairs = found }) ∷ [] → ShowsState located stand_of content_of text doc t frames new
-    plain_step_done leaves token (cand ∷ fs) (of_path g ∷ os) t frames below frame n found old mid new count lists hf ho e is many was so leads more =
-        let f = stepped text doc leaves token.now in
-        let to : machine.Found = record g { pairs = each_tag f 0 (list_count_for_candidates g.shared (length (places cand.pairs))) g.pairs } in
-        let after : record { frames = cand ∷ fs; operands = of_path to ∷ os } ≡ t = cc in
+    pub lead_top_done : (f : Document → List Location → List Location) (cand : machine.Found) (fs : List machine.Found) (os led : List machine.Operand) (frames below : List (Found M)) (frame n : Found M) (found : TaggedMarks M) (old mid new : List (Operand M)) (count lists : ℕ)
+        → ShowsFrames located stand_of content_of doc (cand ∷ fs) frames → ShowsOperands located stand_of content_of text doc os old → top_led (f doc) cand os ≡ Some led → frames ≡ below ++ frame ∷ [] → count ≡ length frame.pairs.marks.items → old ≡ mid ++ found_on n ∷ []
+        → lists ≡ list_count_for_candidates n.is_shared count → LeadsPairs located stand_of content_of (λ d ps. each_tag (f d) 0 lists ps) n.pairs found → new ≡ mid ++ found_on (record n { pairs = found }) ∷ [] → ShowsOperands located stand_of content_of text doc led new
+    lead_top_done f cand fs (of_path g ∷ os) led frames below frame n found old mid new count lists hf ho e is many was so leads more =
+        let to : machine.Found = record g { pairs = each_tag (f doc) 0 (list_count_for_candidates g.shared (length (places cand.pairs))) g.pairs } in
+        let after : of_path to ∷ os ≡ led = cc in
         let top = top_operand (of_path g) os old mid (found_on n) ho was in
         let lists_are = turned cand fs frames below frame g n.is_shared count lists hf is many top.0.0 so in
-        subst (λ (s : State). ShowsState located stand_of content_of text doc s frames new) after (
-          hf,
-          push_operand (of_path to) os mid new (found_on (record n { pairs = found })) top.1
-              (top.0.0, subst (λ k. Shows located stand_of content_of doc (each_tag f 0 k g.pairs) found) lists_are (leads doc g.pairs top.0.1)) more,
-        )
-    plain_step_done leaves token _ _ t frames below frame n found old mid new count lists hf ho e is many was so leads more = cc
+        subst (λ (xs : List machine.Operand). ShowsOperands located stand_of content_of text doc xs new) after
+        (push_operand (of_path to) os mid new (found_on (record n { pairs = found })) top.1
+        (top.0.0, subst (λ k. Shows located stand_of content_of doc (each_tag (f doc) 0 k g.pairs) found) lists_are (leads doc g.pairs top.0.1)) more)
+    lead_top_done f cand fs _ led frames below frame n found old mid new count lists hf ho e is many was so leads more = cc
 
     pub enter_done : (leaves deep : Bool) (fs : List machine.Found) (os : List machine.Operand) (t : State) (frames below frames' : List (Found M)) (frame n : Found M) (found : TaggedMarks M) (old mid : List (Operand M)) (count lists : ℕ)
         → ShowsFrames located stand_of content_of doc fs frames → ShowsOperands located stand_of content_of text doc os old → opened doc leaves deep fs os ≡ Some t → frames ≡ below ++ frame ∷ [] → count ≡ length frame.pairs.marks.items → old ≡ mid ++ found_on n ∷ []

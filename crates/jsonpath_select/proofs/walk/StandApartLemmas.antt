@@ -16,7 +16,7 @@ use Rattle.jsonpath_select.specs.plan.Unfiltered.{is_plain_step}
 use Rattle.jsonpath_select.specs.declared.tagged.marks.Found.{Found as FoundOf}
 use Rattle.jsonpath_select.specs.declared.tagged.operand.Operand.{Operand as OperandOf}
 use Rattle.jsonpath_select.specs.declared.machine.instruction.Instruction.{Instruction}
-use Rattle.jsonpath_select.specs.declared.machine.instruction.Instruction.TheVariants.{Start, Step, Enter, Leave, Constant, Compares, Joins}
+use Rattle.jsonpath_select.specs.declared.machine.instruction.Instruction.TheVariants.{Start, Step, Enter}
 use Rattle.jsonpath_select.proofs.machine.UnfilteredLemmas.{own_front, led_once}
 
 -- ---- steps one after the other
@@ -24,12 +24,7 @@ use Rattle.jsonpath_select.proofs.machine.UnfilteredLemmas.{own_front, led_once}
 along_joined : (text : List ℕ) (doc : Document) (is js : List Instruction) (ls : List Location) → along text doc (is ++ js) ls ≡ along text doc js (along text doc is ls)
 along_joined text doc [] js ls = refl
 along_joined text doc (Step leaves token ∷ is) js ls = along_joined text doc is js (stepped text doc leaves token.now ls)
-along_joined text doc (Start b ∷ is) js ls = along_joined text doc is js ls
-along_joined text doc (Enter b e ∷ is) js ls = along_joined text doc is js ls
-along_joined text doc (Leave ∷ is) js ls = along_joined text doc is js ls
-along_joined text doc (Constant t ∷ is) js ls = along_joined text doc is js ls
-along_joined text doc (Compares o ∷ is) js ls = along_joined text doc is js ls
-along_joined text doc (Joins o ∷ is) js ls = along_joined text doc is js ls
+along_joined text doc (_ ∷ is) js ls = along_joined text doc is js ls
 
 -- one more of the steps
 taken : (steps : List Instruction) (k : ℕ) (i : Instruction) (leaves : Bool) (token : Bor ParseToken) → k < length steps → i ≡ get_or steps k i → i ≡ Step leaves token → take (k + 1) steps ≡ take k steps ++ Step leaves token ∷ []

@@ -1,11 +1,15 @@
 -- The next filter of a path, and the candidates with which it begins.
-use Rattle.std.specs.Prelude.{◌≡◌, ℕ, suc, ◌-◌, ◌==◌, true, List, [], ◌∷◌, ◌++◌, map, if◌then◌else◌}
+use Rattle.std.specs.Prelude.{◌≡◌, ℕ, suc, ◌-◌, ◌==◌, Bool, true, List, [], ◌∷◌, ◌++◌, map, take, drop, Some, if◌then◌else◌}
 use Rattle.std.specs.List.{list_all}
-use Rattle.jsonpath_paths.specs.tree.Tree.{PathSteps, Condition}
+use Rattle.jsonpath_nodes.specs.document.Document.{Document}
+use Rattle.jsonpath_nodes.specs.place.Mark.{MarksStandAt}
+use Rattle.jsonpath_nodes.specs.place.Order.{once_in_order}
+use Rattle.jsonpath_paths.specs.tree.Tree.{Path, PathSteps, no_steps, step_then, Inner, Condition}
+use Rattle.jsonpath_paths.specs.tree.WellFormed.{IsPath}
 use Rattle.jsonpath_nodes.specs.place.Location.{Location}
 use Rattle.jsonpath_select.specs.plan.Code as code
-use Rattle.jsonpath_select.specs.plan.Code.{condition_code, steps_code, leave}
-use Rattle.jsonpath_select.specs.plan.Machine.{State, root_shared_by_candidates}
+use Rattle.jsonpath_select.specs.plan.Code.{condition_code, path_code, steps_code, leave}
+use Rattle.jsonpath_select.specs.plan.Machine.{State, answering, root_shared_by_candidates, run_all}
 use Rattle.jsonpath_select.specs.plan.Ordered.{instruction_of}
 use Rattle.jsonpath_select.specs.plan.Standing.{for_all}
 use Rattle.jsonpath_select.specs.plan.Unfiltered.{is_plain_step}
@@ -31,13 +35,30 @@ AreBegun left c ss = map instruction_of left ≡ condition_code c ++ leave ∷ s
 abbrev pub ComesNext : List Instruction → FilterApproach → List Instruction → Type 0
 ComesNext left way rest = (left ≡ way.steps.now ++ Enter way.leaves way.deep ∷ rest) × (list_all is_plain_step way.steps.now ≡ true)
 
+-- the first of the steps ends at a place
+abbrev pub FirstStepEnds : List Instruction → ℕ → Type 0
+FirstStepEnds left end = (ss : PathSteps) → CodesSteps left ss → (leaves : Bool) × (bracket : Bool) × (inner : Inner) × (later : PathSteps)
+    × (ss ≡ step_then leaves bracket inner later) × CodesSteps (take end left) (step_then leaves bracket inner no_steps) × CodesSteps (drop end left) later
+
+-- a filter of the path itself has begun, with these candidates
+abbrev pub begun : List Location → State
+begun cs = record { frames = for_all cs ∷ root_shared_by_candidates ∷ []; operands = [] }
+
+-- these are the instructions of a whole path from the root
+abbrev pub CodesPath : List Instruction → Path → Type 0
+CodesPath is p = IsPath p × (map instruction_of is ≡ path_code p)
+
+-- the instructions lead from some candidates to those that pass
+abbrev pub Decides : List ℕ → Document → List Instruction → List Location → List Location → Type 0
+Decides text doc is cs ks = run_all text doc (map instruction_of is) (begun cs) ≡ Some (answering ks)
+
+-- the marks stand at some locations that are, each once and in order, those of a list
+abbrev pub AreASetAt : {M : Type 0} → Bool → (M → Location) → (M → Document) → Document → List Location → List M → Type 0
+AreASetAt b stand content doc ls marks = (ms : List Location) × MarksStandAt b stand content doc ms marks × (once_in_order ms ≡ once_in_order ls)
+
 -- what stands behind the end of a filter, where so many more are open in it
 abbrev pub behind_leave : ℕ → List code.Instruction → List code.Instruction
 behind_leave d [] = []
 behind_leave d (code.enter leaves deep ∷ is) = behind_leave (suc d) is
 behind_leave d (leave ∷ is) = if d == 0 then is else behind_leave (d - 1) is
 behind_leave d (i ∷ is) = behind_leave d is
-
--- a filter of the path itself has begun, with these candidates
-abbrev pub begun : List Location → State
-begun cs = record { frames = for_all cs ∷ root_shared_by_candidates ∷ []; operands = [] }

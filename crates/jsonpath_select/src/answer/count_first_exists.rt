@@ -76,6 +76,7 @@ fn first_by_tokens<'a>(
         alloc,
         root: json,
         text,
+        by_sets: false,
     };
     match machine.first_by_tokens::<&Value>(tokens) {
         Ok(found) => Ok(found.first().copied()),

@@ -71,6 +71,7 @@ pub fn select_tokens<'a>(
         alloc,
         root: json,
         text,
+        by_sets: false,
     };
     Ok(machine.select_by_tokens(tokens)?)
 }
@@ -220,6 +221,7 @@ pub(crate) fn values_by_tokens<'a>(
         alloc,
         root: json,
         text,
+        by_sets: false,
     };
     match machine.select_by_tokens::<&Value>(tokens) {
         Ok(found) => Ok(found),

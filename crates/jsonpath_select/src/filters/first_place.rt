@@ -20,6 +20,7 @@ use crate::filters::select_list::instruction_count_after_last_filter_with_own_st
 use crate::laws::first_is_of_first_piece;
 use crate::machine::instruction::{Instruction, instructions_of_token_list};
 use crate::machine::machine::Machine;
+use crate::machine::manner::manner_of;
 use crate::machine::standing::{Standing, StandingMarks};
 use crate::step::carried_mark::Carried;
 use crate::tagged::shared_lists::copied_marks;
@@ -37,7 +38,12 @@ impl<'a, 't> Machine<'a, 't> {
         ensures { IfOk result (λ found. (p : Path) → IsListOf self.now.text.now p tokens.now → BeginAs M.located M.stand M.content (document_of (view self.now.root.now)) (sel self.now.text.now (document_of (view self.now.root.now)) p) found.items) }
     {
         let code = instructions_of_token_list(self.alloc, tokens)?;
-        self.first_by_instructions(&code.as_slice()[1..])
+        let manner = manner_of(self.alloc, self.text, code.as_slice())?;
+        let machine = Machine {
+            by_sets: manner.decides_by_sets,
+            ..*self
+        };
+        machine.first_by_instructions(&code.as_slice()[1..])
     }
 
     // Marks that begin as where these instructions, which follow the path's `$`, lead from the root.

@@ -14,7 +14,7 @@ ghost use Rattle.jsonpath_nodes.specs.step.Candidates.{candidates_below};
 ghost use Rattle.jsonpath_paths.specs.Listed.{IsListOf, IsSomePath};
 ghost use Rattle.jsonpath_select.specs.Meaning.{follow, holds, sel};
 ghost use Rattle.jsonpath_select.specs.plan.Machine.{gathered};
-ghost use Rattle.jsonpath_select.specs.plan.NextFilter.{CodesCondition, CodesSteps};
+ghost use Rattle.jsonpath_select.specs.plan.NextFilter.{AreASetAt, CodesCondition, CodesPath, CodesSteps};
 ghost use Rattle.jsonpath_select.specs.plan.Standing.{along, AreStanding, IsStanding};
 ghost use Rattle.jsonpath_select.specs.plan.Unfiltered.{is_plain_step};
 
@@ -23,6 +23,7 @@ use crate::filters::next_filter::{
 };
 use crate::machine::instruction::{Instruction, instructions_of_token_list};
 use crate::machine::machine::Machine;
+use crate::machine::manner::{Manner, manner_of};
 use crate::machine::standing::{Standing, StandingMarks};
 use crate::step::carried_mark::Carried;
 use crate::tagged::shared_lists::marks_shared_by_candidates;
@@ -44,8 +45,42 @@ impl<'a, 't> Machine<'a, 't> {
         ensures { IfOk result (λ found. (p : Path) → IsListOf self.now.text.now p tokens.now → MarksStandAt M.located M.stand M.content (document_of (view self.now.root.now)) (sel self.now.text.now (document_of (view self.now.root.now)) p) found.items) }
     {
         let code = instructions_of_token_list(self.alloc, tokens)?;
-        let root = self.root_marks()?;
-        self.lead_to_end(&code.as_slice()[1..], root)
+        let manner = manner_of(self.alloc, self.text, code.as_slice())?;
+        self.select_list(manner, code.as_slice())
+    }
+
+    // Marks at what the path with this token list selects, where their order and repeats don't matter: by sets, where
+    // the path is better evaluated so.
+    pub(crate) fn select_set_by_tokens<M: Carried<'a>>(
+        &self,
+        tokens: &[ParseToken],
+    ) -> Result<Vec<M>, M::Stop>
+        requires { IsSomePath self.now.text.now tokens.now }
+        ensures { IfOk result (λ found. (p : Path) → IsListOf self.now.text.now p tokens.now → AreASetAt M.located M.stand M.content (document_of (view self.now.root.now)) (sel self.now.text.now (document_of (view self.now.root.now)) p) found.items) }
+    {
+        let code = instructions_of_token_list(self.alloc, tokens)?;
+        let manner = manner_of(self.alloc, self.text, code.as_slice())?;
+        if manner.is_better_by_sets() {
+            return self.select_set(code.as_slice());
+        }
+        self.select_list(manner, code.as_slice())
+    }
+
+    // Marks at what the path with these instructions selects, in the path's order.
+    fn select_list<M: Carried<'a>>(
+        &self,
+        manner: Manner,
+        code: &[Instruction<'_>],
+    ) -> Result<Vec<M>, M::Stop>
+        requires { (p : Path) × CodesPath code.now p }
+        ensures { IfOk result (λ found. (p : Path) → CodesPath code.now p → MarksStandAt M.located M.stand M.content (document_of (view self.now.root.now)) (sel self.now.text.now (document_of (view self.now.root.now)) p) found.items) }
+    {
+        let machine = Machine {
+            by_sets: manner.decides_by_sets,
+            ..*self
+        };
+        let root = machine.root_marks()?;
+        machine.lead_to_end(&code[1..], root)
     }
 
     // Marks at where these instructions, with which a path ends, lead from places. It is followed how the places stand

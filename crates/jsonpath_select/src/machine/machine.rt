@@ -5,12 +5,14 @@ ghost use Rattle.serde_json.specs.View.{view};
 ghost use Rattle.jsonpath_nodes.specs.document.OfData.{document_of};
 ghost use Rattle.jsonpath_select.specs.plan.Machine.{at_first};
 ghost use Rattle.jsonpath_select.specs.plan.Stack.{ShowsStacks, ExecutesAll, CanGoOn, Advances, IsStepByName, BeginsWithName, ShowsFound};
-ghost use Rattle.jsonpath_paths.specs.tree.Tree.{Condition};
+ghost use Rattle.jsonpath_paths.specs.tree.Tree.{Condition, Path};
 ghost use Rattle.jsonpath_nodes.specs.place.Location.{Location};
-ghost use Rattle.jsonpath_select.specs.Meaning.{holds};
-ghost use Rattle.jsonpath_select.specs.plan.NextFilter.{CodesCondition};
+ghost use Rattle.jsonpath_select.specs.Meaning.{holds, sel};
+ghost use Rattle.jsonpath_select.specs.plan.NextFilter.{AreASetAt, CodesCondition, CodesPath, Decides};
 ghost use Rattle.jsonpath_select.specs.plan.Standing.{for_all};
 
+use crate::laws::dropping_repeats_keeps_the_set;
+use crate::machine::by_sets::{condition_by_sets, instructions_by_sets};
 use crate::machine::instruction::Instruction;
 use crate::machine::plain_steps::root_steps_to_filter_with_own_step;
 use crate::machine::stacks::{Stacks, pop_marks, push_top};
@@ -18,6 +20,10 @@ use crate::step::carried_mark::Carried;
 use crate::tagged::marks::Found;
 use crate::tagged::start_of_paths::root_shared_by_candidates;
 use jsonpath_nodes::NoMemory;
+use jsonpath_nodes::laws::{
+    equal_locations_are_same, locations_once_in_order_ascend, steps_ignore_order_and_repeats,
+    topmost_descend_to_same_set, value_is_document,
+};
 use jsonpath_paths::{ParseToken, StrRange};
 use serde_json::Value;
 use std::alloc::Global;
@@ -28,6 +34,8 @@ pub struct Machine<'a, 't> {
     pub(crate) alloc: Global,
     pub(crate) root: &'a Value,
     pub(crate) text: &'t str,
+    // Whether conditions are decided by sets.
+    pub(crate) by_sets: bool,
 }
 
 impl<'a, 't> Machine<'a, 't> {
@@ -69,10 +77,53 @@ impl<'a, 't> Machine<'a, 't> {
         ensures { IfOk result (λ found. (f : Condition) (cs : List Location) → CodesCondition condition.now f → ShowsFound M.located M.stand M.content (document_of (view self.now.root.now)) (for_all cs) candidates
             → ShowsFound M.located M.stand M.content (document_of (view self.now.root.now)) (for_all (filter (λ l. holds self.now.text.now (document_of (view self.now.root.now)) f l) cs)) found) }
     {
+        equal_locations_are_same();
+        locations_once_in_order_ascend();
+        steps_ignore_order_and_repeats();
+        if !self.by_sets {
+            return self.execute_at_candidates(condition, candidates);
+        }
+        value_is_document(self.root);
+        topmost_descend_to_same_set();
+        dropping_repeats_keeps_the_set();
+        let code = condition_by_sets(self.alloc, condition)?;
+        self.execute_at_candidates(code.as_slice(), candidates)
+    }
+
+    // Executes instructions that lead from the candidates of a filter to those of them that pass.
+    fn execute_at_candidates<M: Carried<'a>>(
+        &self,
+        code: &[Instruction<'_>],
+        candidates: Found<M>,
+    ) -> Result<Found<M>, M::Stop>
+        requires { (cs : List Location) × (ks : List Location) × ShowsFound M.located M.stand M.content (document_of (view self.now.root.now)) (for_all cs) candidates × Decides self.now.text.now (document_of (view self.now.root.now)) code.now cs ks }
+        ensures { IfOk result (λ found. (cs ks : List Location) → ShowsFound M.located M.stand M.content (document_of (view self.now.root.now)) (for_all cs) candidates → Decides self.now.text.now (document_of (view self.now.root.now)) code.now cs ks
+            → ShowsFound M.located M.stand M.content (document_of (view self.now.root.now)) (for_all ks) found) }
+    {
         let mut stacks = self.stacks_at_start()?;
         push_top(&mut stacks.frames, candidates)?;
-        self.execute_all(condition, &mut stacks)?;
+        self.execute_all(code, &mut stacks)?;
         Ok(pop_marks(&mut stacks.operands))
+    }
+
+    // What a path selects, by sets, from its instructions: each location once, in document order.
+    pub(crate) fn select_set<M: Carried<'a>>(
+        &self,
+        code: &[Instruction<'_>],
+    ) -> Result<Vec<M>, M::Stop>
+        requires { (p : Path) × CodesPath code.now p }
+        ensures { IfOk result (λ found. (p : Path) → CodesPath code.now p → AreASetAt M.located M.stand M.content (document_of (view self.now.root.now)) (sel self.now.text.now (document_of (view self.now.root.now)) p) found.items) }
+    {
+        equal_locations_are_same();
+        locations_once_in_order_ascend();
+        steps_ignore_order_and_repeats();
+        value_is_document(self.root);
+        topmost_descend_to_same_set();
+        dropping_repeats_keeps_the_set();
+        let code = instructions_by_sets(self.alloc, code)?;
+        let mut stacks = self.stacks_at_start()?;
+        self.execute_all(code.as_slice(), &mut stacks)?;
+        Ok(pop_marks(&mut stacks.operands).pairs.marks)
     }
 
     // Executes the instruction at an index, or a few together, and answers the index of the next one. A path from `@`

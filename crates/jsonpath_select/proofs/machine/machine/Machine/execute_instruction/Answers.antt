@@ -1,12 +1,16 @@
-use Rattle.std.proofs.Common.{◌≡◌, ℕ, Bool, List, sym, subst}
+use Rattle.std.proofs.Common.{◌≡◌, ℕ, Bool, List, refl, sym, subst}
 use Rattle.std.proofs.lemmas.Result.{on_ok_weaker}
 use Rattle.jsonpath_nodes.specs.document.Document.{Document}
 use Rattle.jsonpath_nodes.specs.document.OfData.{value_document}
 use Rattle.jsonpath_nodes.specs.place.Location.{Location}
+use Rattle.jsonpath_nodes.specs.place.Order.{once_in_order}
+use Rattle.jsonpath_nodes.specs.step.SameMembers.{topmost}
+use Rattle.jsonpath_select.specs.plan.Code as code
 use Rattle.jsonpath_select.specs.plan.Ordered.{instruction_of}
 use Rattle.jsonpath_select.specs.plan.Stack.{Executes}
 use Rattle.jsonpath_select.specs.declared.machine.instruction.Instruction.{Instruction}
 use Rattle.jsonpath_select.specs.declared.machine.stacks.Stacks.{Stacks}
+use Rattle.jsonpath_select.proofs.machine.LeadTopLemmas.{leads}
 use Rattle.jsonpath_select.proofs.machine.machine.Machine.execute_instruction.Goals as goal
 
 -- the step of an instruction is that of the one that it is
@@ -41,3 +45,33 @@ returns-in_ok-compare_two_operands-in-Compares g c =
 pub returns-in_ok-join_two_conditions-in-Joins : goal.returns-in_ok-join_two_conditions-in-Joins
 returns-in_ok-join_two_conditions-in-Joins g c =
     as_is g.M.Mark.located g.M.Mark.stand g.M.Mark.content c.args.self.now.text.now (value_document c.args.self.now.root.now) c.args.instruction _ c.args.stacks.now c.join_two_conditions.new.stacks c.in-Joins.is (c.in_ok-join_two_conditions-in-Joins.ensures (value_document c.args.self.now.root.now))
+
+pub returns-in-Topmost : goal.returns-in-Topmost
+returns-in-Topmost g c =
+    let text = c.args.self.now.text.now in
+    let doc = value_document c.args.self.now.root.now in
+    on_ok_weaker c.lead_top.result
+    (λ led. as_is g.M.Mark.located g.M.Mark.stand g.M.Mark.content text doc c.args.instruction _ c.args.stacks.now c.lead_top.new.stacks c.in-Topmost.is
+    (leads g.M.Mark.located g.M.Mark.stand g.M.Mark.content text doc code.topmost topmost c.args.stacks.now c.lead_top.new.stacks ((λ cand os. refl), (λ s. refl)) (led doc)))
+    c.lead_top.ensures
+
+pub returns-in-InOrder : goal.returns-in-InOrder
+returns-in-InOrder g c =
+    let text = c.args.self.now.text.now in
+    let doc = value_document c.args.self.now.root.now in
+    on_ok_weaker c.lead_top-in-InOrder.result
+    (λ led. as_is g.M.Mark.located g.M.Mark.stand g.M.Mark.content text doc c.args.instruction _ c.args.stacks.now c.lead_top-in-InOrder.new.stacks c.in-InOrder.is
+    (leads g.M.Mark.located g.M.Mark.stand g.M.Mark.content text doc code.in_order once_in_order c.args.stacks.now c.lead_top-in-InOrder.new.stacks ((λ cand os. refl), (λ s. refl)) (led doc)))
+    c.lead_top-in-InOrder.ensures
+
+pub returns-in-Distinct : goal.returns-in-Distinct
+returns-in-Distinct g c =
+    on_ok_weaker c.put_candidates_aside.result
+    (λ steps. as_is g.M.Mark.located g.M.Mark.stand g.M.Mark.content c.args.self.now.text.now (value_document c.args.self.now.root.now) c.args.instruction _ c.args.stacks.now c.put_candidates_aside.new.stacks c.in-Distinct.is (steps (value_document c.args.self.now.root.now)))
+    c.put_candidates_aside.ensures
+
+pub returns-in-PutBack : goal.returns-in-PutBack
+returns-in-PutBack g c =
+    on_ok_weaker c.put_back.result
+    (λ steps. as_is g.M.Mark.located g.M.Mark.stand g.M.Mark.content c.args.self.now.text.now (value_document c.args.self.now.root.now) c.args.instruction _ c.args.stacks.now c.put_back.new.stacks c.in-PutBack.is (steps (value_document c.args.self.now.root.now)))
+    c.put_back.ensures

@@ -3,12 +3,12 @@ use Rattle.std.proofs.lemmas.Result.{IfOk-weaker}
 use Rattle.jsonpath_nodes.specs.document.OfData.{value_document}
 use Rattle.jsonpath_nodes.specs.place.Location.{Location}
 use Rattle.jsonpath_select.specs.plan.First.{BeginAs}
-use Rattle.jsonpath_select.proofs.machine.SelectLemmas.{list_begins}
+use Rattle.jsonpath_select.proofs.machine.SelectLemmas.{begins, list_codes}
 use Rattle.jsonpath_select.proofs.machine.machine.Machine.first_by_tokens.Goals as goal
 
 pub first_by_instructions-requires : goal.first_by_instructions-requires
 first_by_instructions-requires g c = λ k.
-    let begins = list_begins c.args.self.now.text.now (value_document c.args.self.now.root.now) c.requires.0 c.args.tokens.now c.as_slice.result.now c.in_ok-code.code.items c.requires.1 c.as_slice.ensures.value c.in_ok-code.ensures in
+    let begins = begins c.args.self.now.text.now (value_document c.args.self.now.root.now) c.requires.0 c.as_slice-2.result.now (list_codes c.args.self.now.text.now c.requires.0 c.args.tokens.now c.as_slice-2.result.now c.in_ok-code.code.items c.requires.1 c.as_slice-2.ensures.value c.in_ok-code.ensures) in
     ((refl, tt), (begins.0, begins.1))
 
 pub returns : goal.returns
@@ -17,6 +17,6 @@ returns g c =
     let doc = value_document c.args.self.now.root.now in
     IfOk-weaker c.first_by_instructions.result _ _
     (λ found leads p h.
-    let begins = list_begins text doc p c.args.tokens.now c.as_slice.result.now c.in_ok-code.code.items h c.as_slice.ensures.value c.in_ok-code.ensures in
+    let begins = begins text doc p c.as_slice-2.result.now (list_codes text p c.args.tokens.now c.as_slice-2.result.now c.in_ok-code.code.items h c.as_slice-2.ensures.value c.in_ok-code.ensures) in
     subst (λ (ls : List Location). BeginAs g.M.Mark.located g.M.Mark.stand g.M.Mark.content doc ls found.items) begins.2 (leads begins.0 begins.1))
     c.first_by_instructions.ensures

@@ -1,59 +1,68 @@
-use Rattle.std.proofs.Common.{◌≡◌, List, [], map, Some, refl, ap, ◌∙◌}
+use Rattle.std.proofs.Common.{true, List, map, refl, ap, ◌∙◌}
+use Rattle.std.proofs.lemmas.Result.{IfOk-weaker}
 use Rattle.std.specs.Prelude.{filter}
-use Rattle.jsonpath_nodes.specs.document.Document.{Document}
 use Rattle.jsonpath_nodes.specs.document.OfData.{value_document}
-use Rattle.jsonpath_paths.specs.tree.Tree.{Condition}
 use Rattle.jsonpath_nodes.specs.place.Location.{Location}
+use Rattle.jsonpath_nodes.specs.place.Order.{once_in_order}
 use Rattle.jsonpath_select.specs.Meaning.{holds}
 use Rattle.jsonpath_select.specs.plan.Code.{Instruction}
-use Rattle.jsonpath_select.specs.plan.Machine.{run_all, answering}
+use Rattle.jsonpath_select.specs.plan.Machine.{run_all}
+use Rattle.jsonpath_select.specs.plan.Manner.{descent}
+use Rattle.jsonpath_select.specs.plan.NextFilter.{begun}
 use Rattle.jsonpath_select.specs.plan.Ordered.{instruction_of}
-use Rattle.jsonpath_select.specs.plan.NextFilter.{CodesCondition, begun}
-use Rattle.jsonpath_select.specs.plan.Standing.{for_all}
-use Rattle.jsonpath_select.specs.declared.machine.instruction.Instruction.{Instruction as CodeInstruction}
-use Rattle.jsonpath_select.proofs.machine.TopLemmas.{top_decided}
-use Rattle.jsonpath_select.proofs.machine.OrderedLemmas.{found_there, found_is}
+use Rattle.jsonpath_select.proofs.machine.TopLemmas.{top_decided, top_decided_by_sets}
 use Rattle.jsonpath_select.proofs.machine.machine.Machine.keep_passing_candidates.Goals as goal
 
--- the condition is decided
-decided : (text : _) (doc : Document) (is : List CodeInstruction) (f : Condition) (cs : List Location) → CodesCondition is f → run_all text doc (map instruction_of is) (begun cs) ≡ Some (answering (filter (λ l. holds text doc f l) cs))
-decided text doc is f cs e = ap (λ (js : List Instruction). run_all text doc js (begun cs)) e ∙ top_decided text doc f [] cs
-
-pub execute_all-requires : goal.execute_all-requires
-execute_all-requires g c = λ k.
+pub execute_at_candidates-requires : goal.execute_at_candidates-requires
+execute_at_candidates-requires g c = λ k.
     let text = c.args.self.now.text.now in
     let doc = value_document c.args.self.now.root.now in
     let f = c.requires.is.0 in
     let cs = c.requires.there.0 in (
       (refl, tt),
       (
-        begun cs,
-        answering (filter (λ l. holds text doc f l) cs),
-        ((c.in_ok-stacks.stacks.frames.items, c.args.candidates, c.in_ok-push_top.ensures, c.requires.there.1, c.in_ok-stacks.ensures.0), c.in_ok-stacks.ensures.1),
-        decided text doc c.args.condition.now f cs c.requires.is.1,
+        cs,
+        filter (λ l. holds text doc f l) cs,
+        c.requires.there.1,
+        ap (λ (js : List Instruction). run_all text doc js (begun cs)) c.requires.is.1
+            ∙ top_decided c.equal_locations_are_same.ensures c.locations_once_in_order_ascend.ensures.members c.steps_ignore_order_and_repeats.ensures.kept c.steps_ignore_order_and_repeats.ensures.some text doc f cs,
       ),
     )
 
-pub pop_marks-requires : goal.pop_marks-requires
-pop_marks-requires g c =
+pub returns-then-not-self : goal.returns-then-not-self
+returns-then-not-self g c =
+    let text = c.args.self.now.text.now in
+    let doc = value_document c.args.self.now.root.now in
+    IfOk-weaker c.execute_at_candidates.result _ _
+    (λ found leads f cs codes there. leads cs (filter (λ l. holds text doc f l) cs) there
+    (ap (λ (js : List Instruction). run_all text doc js (begun cs)) codes
+    ∙ top_decided c.equal_locations_are_same.ensures c.locations_once_in_order_ascend.ensures.members c.steps_ignore_order_and_repeats.ensures.kept c.steps_ignore_order_and_repeats.ensures.some text doc f cs))
+    c.execute_at_candidates.ensures
+
+pub execute_at_candidates-requires-2 : goal.execute_at_candidates-requires-2
+execute_at_candidates-requires-2 g c = λ k.
     let text = c.args.self.now.text.now in
     let doc = value_document c.args.self.now.root.now in
     let f = c.requires.is.0 in
-    let cs = c.requires.there.0 in
-    let ks = filter (λ l. holds text doc f l) cs in
-    let after =
-    c.in_ok-execute_all.ensures (begun cs) (answering ks)
-    ((c.in_ok-stacks.stacks.frames.items, c.args.candidates, c.in_ok-push_top.ensures, c.requires.there.1, c.in_ok-stacks.ensures.0), c.in_ok-stacks.ensures.1)
-    (decided text doc c.args.condition.now f cs c.requires.is.1) in
-    found_there g.M.Mark.located g.M.Mark.stand g.M.Mark.content text doc (for_all ks) c.execute_all.new.stacks.operands.items after.1
+    let cs = c.requires.there.0 in (
+      (refl, tt),
+      (
+        cs,
+        filter (λ l. holds text doc f l) cs,
+        c.requires.there.1,
+        ap (λ (js : List Instruction). run_all text doc js (begun cs)) (ap (map instruction_of) c.as_slice.ensures.value ∙ c.in_ok-code.ensures f c.requires.is.1)
+            ∙ top_decided_by_sets c.equal_locations_are_same.ensures c.locations_once_in_order_ascend.ensures.members c.steps_ignore_order_and_repeats.ensures.kept c.steps_ignore_order_and_repeats.ensures.some text doc f cs
+            (λ l. c.dropping_repeats_keeps_the_set.ensures.condition once_in_order (descent true doc) text doc f l c.locations_once_in_order_ascend.ensures.members (λ ms. c.topmost_descend_to_same_set.ensures.below doc ms c.value_is_document.ensures)),
+      ),
+    )
 
 pub returns : goal.returns
-returns g c = λ f cs is there.
+returns g c =
     let text = c.args.self.now.text.now in
     let doc = value_document c.args.self.now.root.now in
-    let ks = filter (λ l. holds text doc f l) cs in
-    let after =
-    c.in_ok-execute_all.ensures (begun cs) (answering ks)
-    ((c.in_ok-stacks.stacks.frames.items, c.args.candidates, c.in_ok-push_top.ensures, there, c.in_ok-stacks.ensures.0), c.in_ok-stacks.ensures.1)
-    (decided text doc c.args.condition.now f cs is) in
-    found_is g.M.Mark.located g.M.Mark.stand g.M.Mark.content text doc (for_all ks) c.execute_all.new.stacks.operands.items c.pop_marks.new.operands.items c.pop_marks.result after.1 c.pop_marks.ensures
+    IfOk-weaker c.execute_at_candidates-2.result _ _
+    (λ found leads f cs codes there. leads cs (filter (λ l. holds text doc f l) cs) there
+    (ap (λ (js : List Instruction). run_all text doc js (begun cs)) (ap (map instruction_of) c.as_slice.ensures.value ∙ c.in_ok-code.ensures f codes)
+    ∙ top_decided_by_sets c.equal_locations_are_same.ensures c.locations_once_in_order_ascend.ensures.members c.steps_ignore_order_and_repeats.ensures.kept c.steps_ignore_order_and_repeats.ensures.some text doc f cs
+    (λ l. c.dropping_repeats_keeps_the_set.ensures.condition once_in_order (descent true doc) text doc f l c.locations_once_in_order_ascend.ensures.members (λ ms. c.topmost_descend_to_same_set.ensures.below doc ms c.value_is_document.ensures))))
+    c.execute_at_candidates-2.ensures

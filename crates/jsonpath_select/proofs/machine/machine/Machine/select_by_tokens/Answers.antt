@@ -1,22 +1,13 @@
-use Rattle.std.proofs.Common.{List, [], ◌∷◌, refl, subst}
+use Rattle.std.proofs.Common.{refl}
 use Rattle.std.proofs.lemmas.Result.{IfOk-weaker}
-use Rattle.jsonpath_nodes.specs.document.OfData.{value_document}
-use Rattle.jsonpath_nodes.specs.place.Location.{Location}
-use Rattle.jsonpath_nodes.specs.place.Mark.{MarksStandAt}
-use Rattle.jsonpath_select.proofs.machine.SelectLemmas.{list_begins}
+use Rattle.jsonpath_select.proofs.machine.SelectLemmas.{list_codes}
 use Rattle.jsonpath_select.proofs.machine.machine.Machine.select_by_tokens.Goals as goal
 
-pub lead_to_end-requires : goal.lead_to_end-requires
-lead_to_end-requires g c = λ k.
-    let begins = list_begins c.args.self.now.text.now (value_document c.args.self.now.root.now) c.requires.0 c.args.tokens.now c.as_slice.result.now c.in_ok-code.code.items c.requires.1 c.as_slice.ensures.value c.in_ok-code.ensures in
-    ((refl, tt), ((begins.0, begins.1), ([] ∷ [], c.in_ok-root.ensures)))
+pub select_list-requires : goal.select_list-requires
+select_list-requires g c = λ k. ((refl, tt), (c.requires.0, list_codes c.args.self.now.text.now c.requires.0 c.args.tokens.now c.as_slice-2.result.now c.in_ok-code.code.items c.requires.1 c.as_slice-2.ensures.value c.in_ok-code.ensures))
 
 pub returns : goal.returns
 returns g c =
-    let text = c.args.self.now.text.now in
-    let doc = value_document c.args.self.now.root.now in
-    IfOk-weaker c.lead_to_end.result _ _
-    (λ found leads p h.
-    let begins = list_begins text doc p c.args.tokens.now c.as_slice.result.now c.in_ok-code.code.items h c.as_slice.ensures.value c.in_ok-code.ensures in
-    subst (λ (ls : List Location). MarksStandAt g.M.Mark.located g.M.Mark.stand g.M.Mark.content doc ls found.items) begins.2 (leads begins.0 ([] ∷ []) begins.1 c.in_ok-root.ensures))
-    c.lead_to_end.ensures
+    IfOk-weaker c.select_list.result _ _
+    (λ found leads p h. leads p (list_codes c.args.self.now.text.now p c.args.tokens.now c.as_slice-2.result.now c.in_ok-code.code.items h c.as_slice-2.ensures.value c.in_ok-code.ensures))
+    c.select_list.ensures

@@ -1,0 +1,22 @@
+use Rattle.std.proofs.Common.{List, [], ◌∷◌, refl, subst}
+use Rattle.std.proofs.lemmas.Result.{IfOk-weaker}
+use Rattle.jsonpath_nodes.specs.document.OfData.{value_document}
+use Rattle.jsonpath_nodes.specs.place.Location.{Location}
+use Rattle.jsonpath_nodes.specs.place.Mark.{MarksStandAt}
+use Rattle.jsonpath_select.proofs.machine.SelectLemmas.{begins}
+use Rattle.jsonpath_select.proofs.machine.machine.Machine.select_list.Goals as goal
+
+pub lead_to_end-requires : goal.lead_to_end-requires
+lead_to_end-requires g c = λ k.
+    let b = begins c.args.self.now.text.now (value_document c.args.self.now.root.now) c.requires.0 c.args.code.now c.requires.1 in
+    ((refl, tt), ((b.0, b.1), ([] ∷ [], c.in_ok-root.ensures)))
+
+pub returns : goal.returns
+returns g c =
+    let text = c.args.self.now.text.now in
+    let doc = value_document c.args.self.now.root.now in
+    IfOk-weaker c.lead_to_end.result _ _
+    (λ found leads p codes.
+    let b = begins text doc p c.args.code.now codes in
+    subst (λ (ls : List Location). MarksStandAt g.M.Mark.located g.M.Mark.stand g.M.Mark.content doc ls found.items) b.2 (leads b.0 ([] ∷ []) b.1 c.in_ok-root.ensures))
+    c.lead_to_end.ensures

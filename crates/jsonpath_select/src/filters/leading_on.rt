@@ -1,0 +1,98 @@
+//! Paths of several steps that can reach a node more than once: after each step only those nodes are kept from which the
+//! steps behind it lead to something, so that no repeats are carried on that lead to nothing.
+
+ghost use Rattle.std.specs.Prelude.{◌≤◌, ◌<◌, [], List, filter, length, false, IfOk};
+ghost use Rattle.serde_json.specs.View.{view};
+ghost use Rattle.jsonpath_nodes.specs.document.OfData.{document_of};
+ghost use Rattle.jsonpath_nodes.specs.place.Location.{Location};
+ghost use Rattle.jsonpath_nodes.specs.place.Mark.{MarksStandAt};
+ghost use Rattle.jsonpath_paths.specs.tree.Tree.{PathSteps, lone, path};
+ghost use Rattle.jsonpath_select.specs.Meaning.{follow, holds};
+ghost use Rattle.jsonpath_select.specs.plan.NextFilter.{CodesCondition, CodesSteps, FirstStepEnds};
+ghost use Rattle.jsonpath_select.specs.plan.Standing.{AreStanding};
+
+use crate::filters::next_filter::condition_end;
+use crate::laws::what_leads_on_suffices;
+use crate::machine::instruction::Instruction;
+use crate::machine::machine::Machine;
+use crate::machine::standing::{Standing, StandingMarks};
+use crate::step::carried_mark::Carried;
+use crate::tagged::shared_lists::marks_shared_by_candidates;
+use jsonpath_nodes::NoMemory;
+use std::alloc::Global;
+
+impl<'a, 't> Machine<'a, 't> {
+    // Marks at where these instructions, with which a path ends, lead from places, step by step.
+    pub(crate) fn lead_on_to_end<M: Carried<'a>>(
+        &self,
+        left: &[Instruction<'_>],
+        from: StandingMarks<M>,
+    ) -> Result<Vec<M>, M::Stop>
+        requires steps { (ss : PathSteps) × CodesSteps left.now ss }
+        requires there { (ls : List Location) × AreStanding M.located M.stand M.content (document_of (view self.now.root.now)) ls from }
+        ensures { IfOk result (λ found. (ss : PathSteps) (ls : List Location) → CodesSteps left.now ss → AreStanding M.located M.stand M.content (document_of (view self.now.root.now)) ls from
+            → MarksStandAt M.located M.stand M.content (document_of (view self.now.root.now)) (follow self.now.text.now (document_of (view self.now.root.now)) ss ls) found.items) }
+    {
+        what_leads_on_suffices();
+        let mut rest = left;
+        let mut found = from;
+        while !rest.is_empty() {
+            let end = first_step_end(rest);
+            let led = self.lead_to_end(&rest[..end], found)?;
+            rest = &rest[end..];
+            found = self.keep_leading_on(rest, led)?;
+        }
+        Ok(found.marks)
+    }
+
+    // Those of the marks from which the steps with these instructions lead to something.
+    fn keep_leading_on<M: Carried<'a>>(
+        &self,
+        steps: &[Instruction<'_>],
+        marks: Vec<M>,
+    ) -> Result<StandingMarks<M>, M::Stop>
+        requires steps { (ss : PathSteps) × CodesSteps steps.now ss }
+        requires there { (ls : List Location) × MarksStandAt M.located M.stand M.content (document_of (view self.now.root.now)) ls marks.items }
+        ensures { IfOk result (λ found. (ss : PathSteps) (ls : List Location) → CodesSteps steps.now ss → MarksStandAt M.located M.stand M.content (document_of (view self.now.root.now)) ls marks.items
+            → AreStanding M.located M.stand M.content (document_of (view self.now.root.now)) (filter (λ l. holds self.now.text.now (document_of (view self.now.root.now)) (lone (path false ss)) l) ls) found) }
+    {
+        let machine = Machine {
+            by_sets: true,
+            ..*self
+        };
+        let condition = lone_condition(self.alloc, steps)?;
+        let all = marks_shared_by_candidates(self.alloc, marks)?;
+        let kept = machine.keep_passing_candidates(condition.as_slice(), all)?;
+        Ok(StandingMarks {
+            standing: Standing::Unknown,
+            marks: kept.pairs.marks,
+        })
+    }
+}
+
+// The index behind the first of the steps with these instructions.
+fn first_step_end(left: &[Instruction<'_>]) -> usize
+    requires { 0 < length left.now }
+    ensures first { FirstStepEnds left.now result }
+    ensures after { 0 < result }
+    ensures within { result ≤ length left.now }
+{
+    match left {
+        [Instruction::Enter { .. }, behind @ ..] => condition_end(behind) + 1,
+        _ => 1,
+    }
+}
+
+// The instructions of the condition that the steps with these instructions lead from `@` to something.
+fn lone_condition<'t>(
+    alloc: Global,
+    steps: &[Instruction<'t>],
+) -> Result<Vec<Instruction<'t>>, NoMemory>
+    ensures { IfOk result (λ code. (ss : PathSteps) → CodesSteps steps.now ss → CodesCondition code.items (lone (path false ss))) }
+{
+    let mut code = Vec::new(alloc);
+    code.push(Instruction::Start { absolute: false })?;
+    code.extend_from_slice(steps)?;
+    code.push(Instruction::Leave)?;
+    Ok(code)
+}
