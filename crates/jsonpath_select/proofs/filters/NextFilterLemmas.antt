@@ -1,5 +1,5 @@
 -- Where the filters of a path stand among its instructions.
-use Rattle.std.proofs.Common.{◌≡◌, ℕ, zero, suc, ◌-◌, ◌==◌, ◌<◌, Bool, true, false, List, [], ◌∷◌, ◌++◌, map, length, take, drop, get_or, cond, Bor, refl, sym, ap, ap₂, ◌∙◌, append_assoc, arith}
+use Rattle.std.proofs.Common.{◌≡◌, ℕ, zero, suc, ◌-◌, ◌==◌, ◌<◌, Bool, true, false, List, [], ◌∷◌, ◌++◌, map, length, take, drop, get_or, cond, Bor, ◌+◌, refl, sym, ap, ap₂, subst, ◌∙◌, append_assoc, append-nil, arith}
 use Rattle.std.specs.Prelude.{filter}
 use Rattle.std.specs.List.{list_all}
 use Rattle.std.proofs.Math.Dec.{eqb-suc-zero}
@@ -13,7 +13,7 @@ use Rattle.jsonpath_select.specs.Meaning.{follow, holds, has_own_step}
 use Rattle.jsonpath_select.specs.plan.Code as code
 use Rattle.jsonpath_select.specs.plan.Code.{leave, compares, joins, path_code, steps_code, inner_code, condition_code, term_code}
 use Rattle.jsonpath_select.specs.plan.Machine.{gathered, stepped}
-use Rattle.jsonpath_select.specs.plan.NextFilter.{CodesSteps, AreBegun, CodesCondition, behind_leave}
+use Rattle.jsonpath_select.specs.plan.NextFilter.{CodesSteps, AreBegun, CodesCondition, behind_leave, first_step, later_steps}
 use Rattle.jsonpath_select.specs.plan.Ordered.{instruction_of}
 use Rattle.jsonpath_select.specs.plan.Standing.{along}
 use Rattle.jsonpath_select.specs.plan.Unfiltered.{is_plain_step}
@@ -162,3 +162,53 @@ module _ (text : List ℕ) (doc : Document) where
             first ∙ next.3 (stepped text doc b t.now ls),
       )
   next_of _ leaves deep rest ss all e = cc
+
+-- ---- the first step alone
+
+first_there : (left : List Instruction) (d : Instruction) → 0 < length left → left ≡ get_or left 0 d ∷ drop 1 left
+first_there [] d below = absurd (omega (arith, below))
+first_there (j ∷ js) d below = refl
+
+-- a plain step
+plain_first : (i : Instruction) (is : List Instruction) (ss : PathSteps) → ((b d : Bool) → i ≡ Enter b d → ⊥) → CodesSteps (i ∷ is) ss → CodesSteps (i ∷ []) (first_step ss) × CodesSteps is (later_steps ss)
+plain_first (Enter b d) is ss none e = absurd (none b d refl)
+plain_first i is no_steps none e = cc
+plain_first i is (step_then leaves bracket (plain token) later) none e =
+    let first : instruction_of i ≡ code.plain_step leaves token = cc in
+    let behind : map instruction_of is ≡ steps_code later = cc in
+    (ap (λ (j : code.Instruction). j ∷ []) first, behind)
+plain_first _ is (step_then leaves bracket (tree.filter c) later) none e = cc
+
+-- a filter
+filter_first : (b d : Bool) (behind : List Instruction) (end : ℕ) (ss : PathSteps) → CodesSteps (Enter b d ∷ behind) ss → map instruction_of (drop end behind) ≡ behind_leave 0 (map instruction_of behind)
+    → CodesSteps (Enter b d ∷ take end behind) (first_step ss) × CodesSteps (drop end behind) (later_steps ss)
+filter_first b d behind end no_steps e is = cc
+filter_first b d behind end (step_then leaves bracket (plain token) later) e is = cc
+filter_first b d behind end (step_then leaves bracket (tree.filter c) later) e is =
+    let first : code.enter b d ≡ code.enter leaves (has_own_step c) = cc in
+    let rest : map instruction_of behind ≡ (condition_code c ++ leave ∷ []) ++ steps_code later = cc in
+    let parts = ends_condition behind end c later (rest ∙ append_assoc (condition_code c) (leave ∷ []) (steps_code later)) is in
+    (ap₂ (λ (j : code.Instruction) (js : List code.Instruction). j ∷ js) first (parts.0 ∙ sym (append-nil (condition_code c ++ leave ∷ []))), parts.1)
+
+pub filter_at_first : (left behind : List Instruction) (i : Instruction) (b d : Bool) (end : ℕ) (ss : PathSteps) → 0 < length left → get_or left 0 i ≡ Enter b d → behind ≡ drop 1 left → CodesSteps left ss
+    → map instruction_of (drop end behind) ≡ behind_leave 0 (map instruction_of behind) → CodesSteps (take (end + 1) left) (first_step ss) × CodesSteps (drop (end + 1) left) (later_steps ss)
+filter_at_first left behind i b d end ss below enter rest e ends =
+    let whole : left ≡ Enter b d ∷ behind = first_there left i below ∙ ap₂ (λ (j : Instruction) (js : List Instruction). j ∷ js) enter (sym rest) in
+    let next : end + 1 ≡ suc end = omega arith in
+    let found : CodesSteps (take (suc end) (Enter b d ∷ behind)) (first_step ss) × CodesSteps (drop (suc end) (Enter b d ∷ behind)) (later_steps ss) =
+    filter_first b d behind end ss (subst (λ (is : List Instruction). CodesSteps is ss) whole e) ends in
+    subst (λ n. CodesSteps (take n left) (first_step ss) × CodesSteps (drop n left) (later_steps ss)) (sym next)
+    (subst (λ (is : List Instruction). CodesSteps (take (suc end) is) (first_step ss) × CodesSteps (drop (suc end) is) (later_steps ss)) (sym whole) found)
+
+pub plain_at_first : (left : List Instruction) (i : Instruction) (ss : PathSteps) → 0 < length left → ((b d : Bool) → get_or left 0 i ≡ Enter b d → ⊥) → CodesSteps left ss → CodesSteps (take 1 left) (first_step ss) × CodesSteps (drop 1 left) (later_steps ss)
+plain_at_first [] i ss below other e = absurd (omega (arith, below))
+plain_at_first (j ∷ js) i ss below other e = plain_first j js ss other e
+
+pub no_steps_left : (ss : PathSteps) → CodesSteps [] ss → ss ≡ no_steps
+no_steps_left no_steps e = refl
+no_steps_left (step_then leaves bracket (plain token) later) e = cc
+no_steps_left (step_then leaves bracket (tree.filter c) later) e = cc
+
+pub first_then_later : (text : List ℕ) (doc : Document) (ss : PathSteps) (ls : List Location) → follow text doc ss ls ≡ follow text doc (later_steps ss) (follow text doc (first_step ss) ls)
+first_then_later text doc no_steps ls = refl
+first_then_later text doc (step_then leaves bracket inner later) ls = refl

@@ -30,7 +30,7 @@ use Rattle.jsonpath_paths.specs.declared.tree.parser_node.ParserNode.{ParserNode
 use Rattle.jsonpath_paths.specs.declared.tree.parser_node.ParserStep.{ParserStep}
 use Rattle.jsonpath_select.proofs.tagged.GroupLemmas.{places_tagged}
 use Rattle.jsonpath_select.proofs.walk.LeadingLemmas.{same_passes}
-use Rattle.jsonpath_select.proofs.walk.MarkLemmas.{length-marks}
+use Rattle.jsonpath_select.proofs.walk.MarkLemmas.{length-marks, standing}
 use Rattle.jsonpath_select.proofs.machine.RunLemmas.{entered-spread}
 use Rattle.jsonpath_select.proofs.tagged.TagLemmas.{path_tags, term_from, compared-terms, kept-chosen, each_tag-spread, places_alone, filter-tagged}
 
@@ -115,9 +115,6 @@ module _ (apart : (l m : Location) → location_cmp l m ≡ Equal → l ≡ m) (
         (λ i. numbers_where (λ l. one l i) 0 ls) ∙ numbers_among ls 0 ls (all_there [] ls)
 
 -- ---- candidates
-
-pub standing : (doc : Document) (ls : List Location) (spots : List Spot) → StandAt doc ls spots → map location_of spots ≡ ls
-standing doc ls spots h = sym (map-map (λ x. x.0) sight_of spots) ∙ ap (map (λ (x : Location × Option Document). x.0)) h ∙ map-map (λ x. x.0) (look doc) ls ∙ map-id ls
 
 pub counted : (doc : Document) (ps : List Tagged) (n : TaggedMarks Spot) → ShowsSpots doc ps n → length n.marks.items ≡ length (places ps)
 counted doc ps n shows = length-marks true location_of value_of doc (places ps) n.marks.items shows.1

@@ -1,10 +1,10 @@
 -- The next filter of a path, and the candidates with which it begins.
-use Rattle.std.specs.Prelude.{◌≡◌, ℕ, suc, ◌-◌, ◌==◌, Bool, true, List, [], ◌∷◌, ◌++◌, map, take, drop, Some, if◌then◌else◌}
+use Rattle.std.specs.Prelude.{◌≡◌, ℕ, suc, ◌-◌, ◌==◌, Bool, true, List, [], ◌∷◌, ◌++◌, map, Some, if◌then◌else◌}
 use Rattle.std.specs.List.{list_all}
 use Rattle.jsonpath_nodes.specs.document.Document.{Document}
 use Rattle.jsonpath_nodes.specs.place.Mark.{MarksStandAt}
 use Rattle.jsonpath_nodes.specs.place.Order.{once_in_order}
-use Rattle.jsonpath_paths.specs.tree.Tree.{Path, PathSteps, no_steps, step_then, Inner, Condition}
+use Rattle.jsonpath_paths.specs.tree.Tree.{Path, PathSteps, no_steps, step_then, Condition}
 use Rattle.jsonpath_paths.specs.tree.WellFormed.{IsPath}
 use Rattle.jsonpath_nodes.specs.place.Location.{Location}
 use Rattle.jsonpath_select.specs.plan.Code as code
@@ -35,10 +35,14 @@ AreBegun left c ss = map instruction_of left ≡ condition_code c ++ leave ∷ s
 abbrev pub ComesNext : List Instruction → FilterApproach → List Instruction → Type 0
 ComesNext left way rest = (left ≡ way.steps.now ++ Enter way.leaves way.deep ∷ rest) × (list_all is_plain_step way.steps.now ≡ true)
 
--- the first of the steps ends at a place
-abbrev pub FirstStepEnds : List Instruction → ℕ → Type 0
-FirstStepEnds left end = (ss : PathSteps) → CodesSteps left ss → (leaves : Bool) × (bracket : Bool) × (inner : Inner) × (later : PathSteps)
-    × (ss ≡ step_then leaves bracket inner later) × CodesSteps (take end left) (step_then leaves bracket inner no_steps) × CodesSteps (drop end left) later
+-- the first of the steps alone, and those behind it
+abbrev pub first_step : PathSteps → PathSteps
+first_step no_steps = no_steps
+first_step (step_then leaves bracket inner rest) = step_then leaves bracket inner no_steps
+
+abbrev pub later_steps : PathSteps → PathSteps
+later_steps no_steps = no_steps
+later_steps (step_then leaves bracket inner rest) = rest
 
 -- a filter of the path itself has begun, with these candidates
 abbrev pub begun : List Location → State

@@ -7,13 +7,13 @@ ghost use Rattle.jsonpath_select.specs.answer.Counted.{IsFirstOf, TellsIfAny};
 ghost use Rattle.jsonpath_select.specs.AnyPath.{ArePartsOf};
 ghost use Rattle.jsonpath_select.specs.Meaning.{Selects};
 
-use crate::answer::select::{spot_set_by_tree, values_by_tree};
+use crate::answer::select::spot_set_by_parts;
 use crate::compile::any_path::PathParts;
 use crate::error::JsonPathError;
 use crate::error::halt::Halt;
 use crate::laws::each_location_has_a_value;
 use crate::machine::machine::Machine;
-use crate::walk::choice_of_walk::Choice;
+use crate::machine::manner::is_better_by_sets;
 use jsonpath_nodes::laws::{locations_once_in_order_ascend, value_is_document};
 use jsonpath_nodes::{NoMemory, Spot};
 use jsonpath_paths::ParseToken;
@@ -30,12 +30,7 @@ pub(crate) fn first_by_parts<'a>(
     ensures ok { IfOk result (λ first. IsFirstOf (Selects path.entry.text.now (document_of (view json.now))) (option_map (λ v. document_of (view v.now)) first)) }
     ensures refused { IfErr result (λ e. e ≡ JsonPathError.OutOfMemory) }
 {
-    let text = path.text;
-    if (Choice { alloc, text }).needs_tree_walk(path.tree)? {
-        let found = values_by_tree(alloc, json, text, path.tree)?;
-        return Ok(found.first().copied());
-    }
-    Ok(first_by_tokens(alloc, json, text, path.tokens)?)
+    Ok(first_by_tokens(alloc, json, path.text, path.tokens)?)
 }
 
 // Whether the path selects a value. Where a path is decided by sets, its set is found whole; else the first value is
@@ -49,15 +44,14 @@ pub(crate) fn exists_by_parts(
     ensures ok { IfOk result (TellsIfAny (Selects path.entry.text.now (document_of (view json.now)))) }
     ensures refused { IfErr result (λ e. e ≡ JsonPathError.OutOfMemory) }
 {
-    let text = path.text;
-    if (Choice { alloc, text }).needs_set_walk(path.tree)? {
+    if is_better_by_sets(alloc, path.text, path.tokens)? {
         value_is_document(json);
         each_location_has_a_value();
         locations_once_in_order_ascend();
-        let set = spot_set_by_tree(alloc, json, text, path.tree)?;
+        let set = spot_set_by_parts(alloc, json, path)?;
         return Ok(!set.as_slice().is_empty());
     }
-    let first = first_by_tokens(alloc, json, text, path.tokens)?;
+    let first = first_by_tokens(alloc, json, path.text, path.tokens)?;
     Ok(first.is_some())
 }
 

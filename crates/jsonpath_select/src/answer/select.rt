@@ -15,7 +15,6 @@ use crate::compile::any_path::{AnyPath, PathParts};
 use crate::error::JsonPathError;
 use crate::error::halt::Halt;
 use crate::machine::machine::Machine;
-use crate::walk::choice_of_walk::Choice;
 use crate::walk::tree_walk::Walk;
 use jsonpath_nodes::Spot;
 use jsonpath_nodes::laws::spots_show_their_locations;
@@ -96,8 +95,7 @@ pub fn select_path_in_any_order<'a>(
     spot_set_by_parts(alloc, json, path.parts())
 }
 
-// Spots at what the path selects in the value, in the path's order: by the walk along the tree or by the machine,
-// whichever its tree needs.
+// Nodes at what the path selects in the value, in the path's order.
 pub(crate) fn spots_by_parts<'a>(
     alloc: Global,
     json: &'a Value,
@@ -107,15 +105,10 @@ pub(crate) fn spots_by_parts<'a>(
     ensures ok { IfOk result (λ found. SelectsSpots path.entry.text.now (document_of (view json.now)) found.items) }
     ensures refused { IfErr result (λ e. e ≡ JsonPathError.OutOfMemory) }
 {
-    let text = path.text;
-    if (Choice { alloc, text }).needs_tree_walk(path.tree)? {
-        return spots_by_tree(alloc, json, path.text, path.tree);
-    }
     select_tokens(alloc, json, path.text, path.tokens)
 }
 
-// The values that the path selects in the value, in the path's order: by the walk along the tree or by the machine,
-// whichever its tree needs.
+// The values that the path selects in the value, in the path's order.
 pub(crate) fn values_by_parts<'a>(
     alloc: Global,
     json: &'a Value,
@@ -125,14 +118,10 @@ pub(crate) fn values_by_parts<'a>(
     ensures ok { IfOk result (λ found. Selects path.entry.text.now (document_of (view json.now)) (map (λ v. document_of (view v.now)) found.items)) }
     ensures refused { IfErr result (λ e. e ≡ JsonPathError.OutOfMemory) }
 {
-    let text = path.text;
-    if (Choice { alloc, text }).needs_tree_walk(path.tree)? {
-        return values_by_tree(alloc, json, path.text, path.tree);
-    }
     values_by_tokens(alloc, json, path.text, path.tokens)
 }
 
-// Spots at what the path selects in the value, as a set: by the walk over sets where its tree needs it.
+// Nodes at what the path selects in the value, as a set.
 pub(crate) fn spot_set_by_parts<'a>(
     alloc: Global,
     json: &'a Value,
@@ -142,12 +131,14 @@ pub(crate) fn spot_set_by_parts<'a>(
     ensures ok { IfOk result (λ found. SelectsSet path.entry.text.now (document_of (view json.now)) found.items) }
     ensures refused { IfErr result (λ e. e ≡ JsonPathError.OutOfMemory) }
 {
-    let text = path.text;
-    if (Choice { alloc, text }).needs_set_walk(path.tree)? {
-        return spot_set_by_tree(alloc, json, path.text, path.tree);
-    }
     spots_show_their_locations();
-    Ok(spots_by_parts(alloc, json, path)?)
+    let machine = Machine {
+        alloc,
+        root: json,
+        text: path.text,
+        by_sets: false,
+    };
+    Ok(machine.select_set_by_tokens(path.tokens)?)
 }
 
 // Spots at what the path with this text and tree selects in the value, in the path's order, by the walk along the tree.
@@ -184,25 +175,6 @@ pub(crate) fn values_by_tree<'a>(
     let spots = spots_by_tree(alloc, json, text, tree)?;
     let found = values_of_selected_spots(alloc, spots.as_slice())?;
     Ok(found)
-}
-
-// Spots at what the path with this text and tree selects in the value, each location once, by the walk over sets.
-pub(crate) fn spot_set_by_tree<'a>(
-    alloc: Global,
-    json: &'a Value,
-    text: &str,
-    tree: &ParserNode,
-) -> Result<Vec<Spot<'a>>, JsonPathError>
-    requires { Spells text.now (path_of tree.now) }
-    ensures ok { IfOk result (λ found. SelectsSet text.now (document_of (view json.now)) found.items) }
-    ensures refused { IfErr result (λ e. e ≡ JsonPathError.OutOfMemory) }
-{
-    let walk = Walk {
-        alloc,
-        root: json,
-        text,
-    };
-    Ok(walk.select_spot_set(tree)?)
 }
 
 // The values that the path with this text and token list selects in the value, in the path's order, by the machine. It

@@ -39,6 +39,9 @@ impl<'a, 't> Machine<'a, 't> {
     {
         let code = instructions_of_token_list(self.alloc, tokens)?;
         let manner = manner_of(self.alloc, self.text, code.as_slice())?;
+        if manner.keeps_what_leads_on() {
+            return self.select_list(manner, code.as_slice());
+        }
         let machine = Machine {
             by_sets: manner.decides_by_sets,
             ..*self

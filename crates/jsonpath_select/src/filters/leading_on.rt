@@ -1,14 +1,14 @@
 //! Paths of several steps that can reach a node more than once: after each step only those nodes are kept from which the
 //! steps behind it lead to something, so that no repeats are carried on that lead to nothing.
 
-ghost use Rattle.std.specs.Prelude.{◌≤◌, ◌<◌, [], List, filter, length, false, IfOk};
+ghost use Rattle.std.specs.Prelude.{◌≤◌, ◌<◌, [], List, drop, filter, length, take, false, IfOk};
 ghost use Rattle.serde_json.specs.View.{view};
 ghost use Rattle.jsonpath_nodes.specs.document.OfData.{document_of};
 ghost use Rattle.jsonpath_nodes.specs.place.Location.{Location};
 ghost use Rattle.jsonpath_nodes.specs.place.Mark.{MarksStandAt};
 ghost use Rattle.jsonpath_paths.specs.tree.Tree.{PathSteps, lone, path};
 ghost use Rattle.jsonpath_select.specs.Meaning.{follow, holds};
-ghost use Rattle.jsonpath_select.specs.plan.NextFilter.{CodesCondition, CodesSteps, FirstStepEnds};
+ghost use Rattle.jsonpath_select.specs.plan.NextFilter.{CodesCondition, CodesSteps, first_step, later_steps};
 ghost use Rattle.jsonpath_select.specs.plan.Standing.{AreStanding};
 
 use crate::filters::next_filter::condition_end;
@@ -37,9 +37,8 @@ impl<'a, 't> Machine<'a, 't> {
         let mut rest = left;
         let mut found = from;
         while !rest.is_empty() {
-            let end = first_step_end(rest);
-            let led = self.lead_to_end(&rest[..end], found)?;
-            rest = &rest[end..];
+            let led = self.lead_to_end(instructions_of_first_step(rest), found)?;
+            rest = instructions_behind_first_step(rest);
             found = self.keep_leading_on(rest, led)?;
         }
         Ok(found.marks)
@@ -70,15 +69,33 @@ impl<'a, 't> Machine<'a, 't> {
     }
 }
 
-// The index behind the first of the steps with these instructions.
+// The instructions of the first of the steps with these.
+fn instructions_of_first_step<'c, 't>(left: &'c [Instruction<'t>]) -> &'c [Instruction<'t>]
+    requires { 0 < length left.now }
+    ensures { (ss : PathSteps) → CodesSteps left.now ss → CodesSteps result.now (first_step ss) }
+{
+    &left[..first_step_end(left)]
+}
+
+// The instructions behind those of the first of the steps.
+fn instructions_behind_first_step<'c, 't>(left: &'c [Instruction<'t>]) -> &'c [Instruction<'t>]
+    requires { 0 < length left.now }
+    ensures behind { (ss : PathSteps) → CodesSteps left.now ss → CodesSteps result.now (later_steps ss) }
+    ensures shorter { length result.now < length left.now }
+{
+    &left[first_step_end(left)..]
+}
+
+// The index behind the instructions of the first of the steps.
 fn first_step_end(left: &[Instruction<'_>]) -> usize
     requires { 0 < length left.now }
-    ensures first { FirstStepEnds left.now result }
+    ensures first { (ss : PathSteps) → CodesSteps left.now ss → CodesSteps (take result left.now) (first_step ss) }
+    ensures behind { (ss : PathSteps) → CodesSteps left.now ss → CodesSteps (drop result left.now) (later_steps ss) }
     ensures after { 0 < result }
     ensures within { result ≤ length left.now }
 {
-    match left {
-        [Instruction::Enter { .. }, behind @ ..] => condition_end(behind) + 1,
+    match left[0] {
+        Instruction::Enter { .. } => condition_end(&left[1..]) + 1,
         _ => 1,
     }
 }

@@ -67,7 +67,7 @@ impl<'a, 't> Machine<'a, 't> {
     }
 
     // Marks at what the path with these instructions selects, in the path's order.
-    fn select_list<M: Carried<'a>>(
+    pub(crate) fn select_list<M: Carried<'a>>(
         &self,
         manner: Manner,
         code: &[Instruction<'_>],
@@ -80,6 +80,9 @@ impl<'a, 't> Machine<'a, 't> {
             ..*self
         };
         let root = machine.root_marks()?;
+        if manner.keeps_what_leads_on() {
+            return machine.lead_on_to_end(&code[1..], root);
+        }
         machine.lead_to_end(&code[1..], root)
     }
 

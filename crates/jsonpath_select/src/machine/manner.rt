@@ -1,6 +1,6 @@
 //! In which manner a path is evaluated, read off its instructions: as lists or by sets. What it selects is the same.
 
-use crate::machine::instruction::Instruction;
+use crate::machine::instruction::{Instruction, instructions_of_token_list};
 use crate::step::distinct_selections::{indexes_select_distinct_items, names_are_distinct};
 use jsonpath_nodes::NoMemory;
 use jsonpath_paths::ParseToken;
@@ -16,10 +16,26 @@ pub struct Manner {
 }
 
 impl Manner {
+    // Whether after each step only those nodes are kept from which the rest of the path leads to something.
+    pub(crate) fn keeps_what_leads_on(self) -> bool {
+        self.repeating_steps > 2
+    }
+
     // Whether what the path selects, where only that matters, is found by sets.
     pub(crate) fn is_better_by_sets(self) -> bool {
         self.repeating_steps > 1 || self.decides_by_sets
     }
+}
+
+// Whether what the path with this token list selects is better found by sets.
+pub(crate) fn is_better_by_sets(
+    alloc: Global,
+    text: &str,
+    tokens: &[ParseToken],
+) -> Result<bool, NoMemory> {
+    let code = instructions_of_token_list(alloc, tokens)?;
+    let manner = manner_of(alloc, text, code.as_slice())?;
+    Ok(manner.is_better_by_sets())
 }
 
 // The manner of the path with these instructions, whose names stand in the text.

@@ -20,3 +20,18 @@ returns g c =
     let b = begins text doc p c.args.code.now codes in
     subst (λ (ls : List Location). MarksStandAt g.M.Mark.located g.M.Mark.stand g.M.Mark.content doc ls found.items) b.2 (leads b.0 ([] ∷ []) b.1 c.in_ok-root.ensures))
     c.lead_to_end.ensures
+
+pub lead_on_to_end-requires : goal.lead_on_to_end-requires
+lead_on_to_end-requires g c = λ k.
+    let b = begins c.args.self.now.text.now (value_document c.args.self.now.root.now) c.requires.0 c.args.code.now c.requires.1 in
+    ((refl, tt), ((b.0, b.1), ([] ∷ [], c.in_ok-root.ensures)))
+
+pub returns-then-keeps_what_leads_on : goal.returns-then-keeps_what_leads_on
+returns-then-keeps_what_leads_on g c =
+    let text = c.args.self.now.text.now in
+    let doc = value_document c.args.self.now.root.now in
+    IfOk-weaker c.lead_on_to_end.result _ _
+    (λ found leads p codes.
+    let b = begins text doc p c.args.code.now codes in
+    subst (λ (ls : List Location). MarksStandAt g.M.Mark.located g.M.Mark.stand g.M.Mark.content doc ls found.items) b.2 (leads b.0 ([] ∷ []) b.1 c.in_ok-root.ensures))
+    c.lead_on_to_end.ensures

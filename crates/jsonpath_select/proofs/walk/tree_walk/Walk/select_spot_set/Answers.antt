@@ -4,7 +4,8 @@ use Rattle.jsonpath_paths.specs.tree.View.{path_of}
 use Rattle.jsonpath_nodes.specs.place.Order.{once_in_order}
 use Rattle.jsonpath_select.specs.plan.SetWalk.{below_topmost}
 use Rattle.jsonpath_select.specs.plan.Machine.{root_shared_by_candidates}
-use Rattle.jsonpath_select.proofs.walk.SetWalkLemmas.{standing, alone_sets}
+use Rattle.jsonpath_select.proofs.walk.SetWalkLemmas.{alone_sets}
+use Rattle.jsonpath_select.proofs.walk.MarkLemmas.{standing}
 use Rattle.jsonpath_select.proofs.walk.tree_walk.Walk.select_spot_set.Goals as goal
 
 pub returns : goal.returns
