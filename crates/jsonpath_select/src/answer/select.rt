@@ -164,6 +164,7 @@ pub(crate) fn spots_by_tree<'a>(
         alloc,
         root: json,
         text,
+        sets: false,
     };
     Ok(walk.select_spots(tree)?)
 }
@@ -200,6 +201,7 @@ pub(crate) fn spot_set_by_tree<'a>(
         alloc,
         root: json,
         text,
+        sets: true,
     };
     Ok(walk.select_spot_set(tree)?)
 }

@@ -1,6 +1,10 @@
 //! What the machine and the walks pass from step to step for each node: a reference to the value, or a `Spot`.
 
-ghost use Rattle.std.specs.Prelude.{◌≡◌, [], ◌∷◌, IfOk};
+ghost use Rattle.std.specs.Prelude.{◌≡◌, [], ◌∷◌, IfOk, List};
+ghost use Rattle.std.specs.List.{list_any};
+ghost use Rattle.jsonpath_nodes.specs.document.Document.{Document};
+ghost use Rattle.jsonpath_nodes.specs.place.Location.{Location, is_same};
+ghost use Rattle.jsonpath_nodes.specs.place.NumbersWhere.{numbers_where};
 ghost use Rattle.serde_json.specs.View.{view};
 ghost use Rattle.jsonpath_nodes.specs.document.OfData.{document_of};
 ghost use Rattle.jsonpath_nodes.specs.place.Mark.{shown, MarksStandAt, MarksLeadBy};
@@ -10,7 +14,9 @@ ghost use Rattle.jsonpath_nodes.specs.step.Steps.{step, all_below, every, flatte
 
 use crate::error::halt::Halt;
 use jsonpath_nodes::steps_on_marks::{candidates_below_mark, flattened_from_mark};
-use jsonpath_nodes::{Mark, NoMemory, Spot, ValueWalker, in_document_order, topmost_spots};
+use jsonpath_nodes::{
+    Mark, NoMemory, Spot, ValueWalker, in_document_order, indexes_standing_among, topmost_spots,
+};
 use serde_json::Value;
 use std::alloc::{AllocError, Global};
 
@@ -46,6 +52,15 @@ pub trait Carried<'a>: Mark<'a> {
     // these are.
     fn topmost_marks(alloc: Global, marks: &[Self]) -> Result<Vec<Self>, Self::Stop>
         ensures { IfOk result (λ found. MarksLeadBy Self.located Self.stand Self.content (λ _ ls. topmost ls) marks.now found.items) };
+
+    // The indexes of the marks that stand where one of the others does; `NeedsLocations` where the marks can't tell.
+    fn indexes_standing_among(
+        alloc: Global,
+        marks: &[Self],
+        others: &[Self],
+    ) -> Result<Vec<usize>, Self::Stop>
+        ensures { IfOk result (λ numbers. (doc : Document) (ls ms : List Location) → MarksStandAt Self.located Self.stand Self.content doc ls marks.now → MarksStandAt Self.located Self.stand Self.content doc ms others.now
+            → numbers.items ≡ numbers_where (λ l. list_any (is_same l) (once_in_order ms)) 0 ls) };
 }
 
 // References: from two places and more they can't tell whether the same is reached twice.
@@ -92,6 +107,15 @@ impl<'a> Carried<'a> for &'a Value {
     fn topmost_marks(_alloc: Global, _marks: &[&'a Value]) -> Result<Vec<&'a Value>, Halt> {
         Err(Halt::NeedsLocations)
     }
+
+    // Always `NeedsLocations`: references can't tell which stand at one place.
+    fn indexes_standing_among(
+        _alloc: Global,
+        _marks: &[&'a Value],
+        _others: &[&'a Value],
+    ) -> Result<Vec<usize>, Halt> {
+        Err(Halt::NeedsLocations)
+    }
 }
 
 impl<'a> Carried<'a> for Spot<'a> {
@@ -128,5 +152,14 @@ impl<'a> Carried<'a> for Spot<'a> {
     // The spots without those at or below the one kept before them; in document order these are the topmost.
     fn topmost_marks(alloc: Global, marks: &[Spot<'a>]) -> Result<Vec<Spot<'a>>, NoMemory> {
         topmost_spots(alloc, marks)
+    }
+
+    // The indexes of the spots that stand where one of the others does.
+    fn indexes_standing_among(
+        alloc: Global,
+        marks: &[Spot<'a>],
+        others: &[Spot<'a>],
+    ) -> Result<Vec<usize>, NoMemory> {
+        indexes_standing_among(alloc, marks, others)
     }
 }

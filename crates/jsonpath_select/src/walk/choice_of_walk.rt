@@ -77,12 +77,6 @@ impl<'t> Choice<'t> {
         Ok(false)
     }
 
-    // Whether the walk along the tree decides the condition by sets: it has a path for which they are better, or one
-    // from the root, whose set is the same for all candidates.
-    pub(crate) fn is_decided_by_sets(self, condition: &Condition) -> Result<bool, NoMemory> {
-        self.has_path_better_by_sets(condition, true)
-    }
-
     // Whether the condition has a path for which sets are better, or, where `from_root` is set, one from the root.
     fn has_path_better_by_sets(
         self,

@@ -1,0 +1,15 @@
+use Rattle.std.proofs.Common.{◌≡◌, List, ap₂, ◌∙◌}
+use Rattle.std.proofs.lemmas.Result.{IfOk-weaker}
+use Rattle.std.specs.List.{list_any}
+use Rattle.jsonpath_nodes.specs.place.Location.{Location, is_same}
+use Rattle.jsonpath_nodes.specs.place.NumbersWhere.{numbers_where}
+use Rattle.jsonpath_nodes.specs.place.Order.{once_in_order}
+use Rattle.jsonpath_select.proofs.walk.FollowerLemmas.{standing}
+use Rattle.jsonpath_select.proofs.step.carried_mark.SpotCarried.indexes_standing_among.Goals as goal
+
+pub returns : goal.returns
+returns c =
+    IfOk-weaker c.indexes_standing_among.result _ _
+    (λ numbers told doc ls ms here others.
+    told ∙ ap₂ (λ (xs ys : List Location). numbers_where (λ l. list_any (is_same l) (once_in_order xs)) 0 ys) (standing doc ms c.args.others.now others) (standing doc ls c.args.marks.now here))
+    c.indexes_standing_among.ensures
