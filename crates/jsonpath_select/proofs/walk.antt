@@ -4,5 +4,6 @@ pub mod WalkLemmas
 pub mod SetMeaningLemmas
 pub mod FollowerLemmas
 pub mod LeadingLemmas
+pub mod LeadingOnLemmas
 pub mod PieceLemmas
 pub mod StandApartLemmas

@@ -2,6 +2,7 @@
 
 pub(crate) mod choice_of_walk;
 pub(crate) mod follower;
+pub(crate) mod leading_on;
 pub(crate) mod marked;
 pub(crate) mod own_step;
 pub(crate) mod tree_walk;

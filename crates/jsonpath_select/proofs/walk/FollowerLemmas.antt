@@ -12,11 +12,10 @@ use Rattle.jsonpath_paths.specs.tree.Tree as tree
 use Rattle.jsonpath_paths.specs.declared.token.tokens.FilterToken.{FilterToken}
 use Rattle.jsonpath_nodes.specs.DocumentLaws.{OnceInOrderKeepsMembers}
 use Rattle.jsonpath_nodes.specs.place.Location.{Location, location_cmp, is_same}
-use Rattle.jsonpath_nodes.specs.place.Mark.{MarksStandAt}
 use Rattle.jsonpath_nodes.specs.place.NumbersWhere.{numbers_where}
 use Rattle.jsonpath_nodes.specs.place.Order.{location_total, once_in_order}
 use Rattle.jsonpath_nodes.specs.place.SpotPlace.{StandAt, look, location_of, sight_of}
-use Rattle.jsonpath_nodes.specs.step.SameMembers.{SomeOfASet, topmost}
+use Rattle.jsonpath_nodes.specs.step.SameMembers.{SomeOfASet}
 use Rattle.jsonpath_nodes.specs.step.Steps.{every, step, all_below, flattened}
 use Rattle.jsonpath_select.specs.Meaning.{is_some_location, has_own_step, candidates}
 use Rattle.jsonpath_select.specs.plan.Machine.{Tagged, tagged, places, each_tag, spread, starts, itself, found_tags, kept_by_number, compared, gathered, entered}
@@ -28,7 +27,6 @@ use Rattle.jsonpath_nodes.specs.declared.place.spot.Spot.{Spot}
 use Rattle.jsonpath_paths.specs.tree.View.{path_of, inner_of, steps_of_list, path_of_out}
 use Rattle.jsonpath_paths.specs.declared.tree.parser_node.ParserNode.{ParserNode, out-ParserNode}
 use Rattle.jsonpath_paths.specs.declared.tree.parser_node.ParserStep.{ParserStep}
-use Rattle.jsonpath_select.proofs.tagged.GroupLemmas.{places_tagged}
 use Rattle.jsonpath_select.proofs.walk.LeadingLemmas.{same_passes}
 use Rattle.jsonpath_select.proofs.walk.MarkLemmas.{length-marks}
 use Rattle.jsonpath_select.proofs.machine.RunLemmas.{entered-spread}
@@ -140,7 +138,7 @@ all_where P Q (l ∷ ls) h all = (h l all.0, all_where P Q ls h all.1)
 
 module _ (apart : (l m : Location) → location_cmp l m ≡ Equal → l ≡ m) (keeps : OnceInOrderKeepsMembers) (some_same : SomeOfASet) (test : Location → Bool) (all : List Location) where
   -- of a set those that pass, put in order: which of its members are there
-  among_is : (l : Location) → IsThere all l → list_any (is_same l) (once_in_order (filter test all)) ≡ test l
+  pub among_is : (l : Location) → IsThere all l → list_any (is_same l) (once_in_order (filter test all)) ≡ test l
   among_is l there =
       some_same (is_same l) (once_in_order (filter test all)) (filter test all) (keeps (filter test all))
       ∙ same_passes apart test l all ∙ ap (λ (b : Bool). test l && b) there ∙ and-true (test l)

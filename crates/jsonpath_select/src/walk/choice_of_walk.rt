@@ -66,7 +66,7 @@ impl<'t> Choice<'t> {
     }
 
     // Whether a filter of the path has a condition that is better decided by sets.
-    fn has_filter_better_by_sets(self, path: &ParserNode) -> Result<bool, NoMemory> {
+    pub(crate) fn has_filter_better_by_sets(self, path: &ParserNode) -> Result<bool, NoMemory> {
         for step in &path.steps {
             if let Inner::Filter(condition) = &step.inner {
                 if self.has_path_better_by_sets(condition, false)? {

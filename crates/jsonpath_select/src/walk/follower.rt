@@ -46,7 +46,10 @@ impl<'t, G: Marked> Follower<'t, G> {
     ) -> Result<Found<G::Mark>, G::Stop>
         ensures { IfOk result (λ found. (ps : List Tagged) → Shows G.located G.stand G.content (G.whole self.now.document) ps candidates.now → ShowsFound G.located G.stand G.content (G.whole self.now.document) (found_in self.now.sets self.now.text.now (G.whole self.now.document) (path_of path.now) (places ps)) found) }
     {
-        let mut pairs = self.document.start_of_path(path.absolute, candidates)?.pairs;
+        let mut pairs = self
+            .document
+            .start_of_path(path.absolute, candidates)?
+            .pairs;
         let lists = list_count_for_candidates(path.absolute, candidates.marks.as_slice().len());
         for step in &path.steps {
             pairs = self.lists_after_step(step, lists, pairs)?;
@@ -136,7 +139,9 @@ impl<'t, G: Marked> Follower<'t, G> {
             }
             Inner::Filter(condition) => {
                 let deep = condition_has_own_step(condition);
-                let flat = self.document.candidates_of_filter(leaves, deep, lists, pairs)?;
+                let flat = self
+                    .document
+                    .candidates_of_filter(leaves, deep, lists, pairs)?;
                 let numbers = self.indexes_of_passing_candidates(condition, &flat)?;
                 Ok(self.document.keep_at_indexes(flat, numbers.as_slice())?)
             }
@@ -192,7 +197,10 @@ impl<'t, G: Marked> Follower<'t, G> {
                     text: self.text,
                     count,
                 };
-                Ok(self.document.tags_where_comparison_holds(&comparer, lefts, rights)?)
+                Ok(
+                    self.document
+                        .tags_where_comparison_holds(&comparer, lefts, rights)?,
+                )
             }
             Condition::Join(op, left, right) => {
                 let lefts = self.indexes_where_condition_holds(left, candidates)?;

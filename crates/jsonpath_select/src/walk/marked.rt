@@ -117,6 +117,7 @@ pub struct MarkedValue<'a, M> {
 
 impl<'a, M: Carried<'a>> Marked for MarkedValue<'a, M> {
     type Mark = M;
+
     type Stop = M::Stop;
 
     ghost located = { M.located };

@@ -7,13 +7,14 @@ ghost use Rattle.jsonpath_nodes.specs.document.OfData.{document_of};
 ghost use Rattle.jsonpath_paths.specs.tree.View.{path_of};
 ghost use Rattle.jsonpath_nodes.specs.place.Mark.{MarksStandAt};
 ghost use Rattle.jsonpath_nodes.specs.place.Order.{once_in_order};
-ghost use Rattle.jsonpath_nodes.specs.place.SpotPlace.{StandAt, location_of};
+ghost use Rattle.jsonpath_nodes.specs.place.SpotPlace.{location_of};
 ghost use Rattle.jsonpath_select.specs.Meaning.{sel};
 ghost use Rattle.jsonpath_select.specs.plan.Manner.{reached_in};
 
 use crate::laws::dropping_repeats_keeps_the_set;
 use crate::step::carried_mark::Carried;
 use crate::tagged::start_of_paths::root_shared_by_candidates;
+use crate::walk::choice_of_walk::Choice;
 use crate::walk::follower::Follower;
 use crate::walk::marked::MarkedValue;
 use jsonpath_nodes::laws::{
@@ -24,6 +25,9 @@ use jsonpath_paths::ParserNode;
 use serde_json::Value;
 use std::alloc::Global;
 use std::marker::PhantomData;
+
+// With so many steps that can repeat, what leads to nothing is not followed.
+const MANY: usize = 3;
 
 // The walk: the document that a path is followed in, the path's text, and the manner: of sets, where after each step
 // each location stands once, in document order, or of lists, where repeats stay.
@@ -45,6 +49,22 @@ impl<'a, 't> Walk<'a, 't> {
         Ok(found.pairs.marks)
     }
 
+    // Marks at what a path selects in the document, in the path's order, with its repeats, where nothing is followed that
+    // leads to nothing. Conditions are decided in the walk's manner.
+    pub(crate) fn select_keeping_what_leads_on<M: Carried<'a>>(
+        &self,
+        path: &ParserNode,
+    ) -> Result<Vec<M>, M::Stop>
+        ensures { IfOk result (λ found. MarksStandAt M.located M.stand M.content (document_of (view self.now.root.now)) (sel self.now.text.now (document_of (view self.now.root.now)) (path_of path.now)) found.items) }
+    {
+        value_is_document(self.root);
+        let start = root_shared_by_candidates(self.alloc, self.root)?;
+        let found = self
+            .follower::<M>()
+            .lists_keeping_what_leads_on(path, &start.pairs)?;
+        Ok(found.marks)
+    }
+
     // What follows paths over such marks.
     fn follower<M: Carried<'a>>(&self) -> Follower<'t, MarkedValue<'a, M>>
         ensures root { result.document.root.now ≡ self.now.root.now }
@@ -63,10 +83,24 @@ impl<'a, 't> Walk<'a, 't> {
         }
     }
 
-    // Spots at what a path selects in the document, in the path's order, with its repeats.
-    pub(crate) fn select_spots(&self, path: &ParserNode) -> Result<Vec<Spot<'a>>, NoMemory>
-        ensures { IfOk result (λ found. StandAt (document_of (view self.now.root.now)) (sel self.now.text.now (document_of (view self.now.root.now)) (path_of path.now)) found.items) }
+    // Marks at what a path selects in the document, in the path's order, with its repeats. Where three of its steps or
+    // more can lead to one place more than once, or conditions are better decided by sets, nothing is followed that leads
+    // to nothing.
+    pub(crate) fn select_in_order<M: Carried<'a>>(
+        &self,
+        path: &ParserNode,
+    ) -> Result<Vec<M>, M::Stop>
+        ensures { IfOk result (λ found. MarksStandAt M.located M.stand M.content (document_of (view self.now.root.now)) (sel self.now.text.now (document_of (view self.now.root.now)) (path_of path.now)) found.items) }
     {
+        let choice = Choice {
+            alloc: self.alloc,
+            text: self.text,
+        };
+        let sets = choice.has_filter_better_by_sets(path)?;
+        if sets || choice.has_repeating_steps(path, MANY)? {
+            let walk = Walk { sets, ..*self };
+            return walk.select_keeping_what_leads_on(path);
+        }
         let of_lists = Walk {
             sets: false,
             ..*self

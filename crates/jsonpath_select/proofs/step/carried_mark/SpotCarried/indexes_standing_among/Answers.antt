@@ -1,4 +1,4 @@
-use Rattle.std.proofs.Common.{◌≡◌, List, ap₂, ◌∙◌}
+use Rattle.std.proofs.Common.{List, ap₂, ◌∙◌}
 use Rattle.std.proofs.lemmas.Result.{IfOk-weaker}
 use Rattle.std.specs.List.{list_any}
 use Rattle.jsonpath_nodes.specs.place.Location.{Location, is_same}

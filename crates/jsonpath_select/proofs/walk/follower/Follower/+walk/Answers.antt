@@ -1,21 +1,19 @@
-use Rattle.std.proofs.Common.{◌≡◌, ℕ, Bool, List, length, map, refl, sym, ap, ap₂, subst, ◌∙◌, arith}
+use Rattle.std.proofs.Common.{◌≡◌, List, length, refl, sym, ap, ap₂, subst, ◌∙◌, arith}
 use Rattle.std.proofs.lemmas.Result.{IfOk-weaker}
 use Rattle.std.specs.Prelude.{filter}
-use Rattle.std.specs.List.{list_any}
 use Rattle.jsonpath_paths.specs.tree.Tree as tree
 use Rattle.jsonpath_paths.specs.tree.View.{path_of, inner_of, condition_of, term_of}
 use Rattle.jsonpath_paths.specs.declared.tree.parser_node.Condition.{Condition}
-use Rattle.jsonpath_paths.specs.declared.tree.parser_node.Inner.{Inner, Filter}
+use Rattle.jsonpath_paths.specs.declared.tree.parser_node.Inner.{Inner}
 use Rattle.jsonpath_paths.specs.declared.tree.parser_node.ParserNode.{out-ParserNode}
-use Rattle.jsonpath_nodes.specs.place.Location.{Location, is_same}
+use Rattle.jsonpath_nodes.specs.place.Location.{Location}
 use Rattle.jsonpath_nodes.specs.place.Mark.{MarksStandAt}
 use Rattle.jsonpath_nodes.specs.place.NumbersWhere.{numbers_where}
 use Rattle.jsonpath_nodes.specs.place.Order.{once_in_order}
-use Rattle.jsonpath_select.specs.plan.Machine.{Tagged, tagged, places, spread, starts, itself, entered, kept_by_number, found_tags, list_count_for_candidates, stepped, joined_tags}
+use Rattle.jsonpath_select.specs.plan.Machine.{Tagged, tagged, places, spread, starts, itself, entered, found_tags, list_count_for_candidates, stepped, joined_tags}
 use Rattle.jsonpath_select.specs.plan.Manner.{holds_in}
-use Rattle.jsonpath_select.specs.plan.SetWalk.{led_in, set_after, step_in, found_in, term_in}
+use Rattle.jsonpath_select.specs.plan.SetWalk.{led_in, step_in, found_in, term_in}
 use Rattle.jsonpath_select.specs.plan.Shown.{Shows}
-use Rattle.jsonpath_select.proofs.tagged.GroupLemmas.{places_tagged}
 use Rattle.jsonpath_select.proofs.walk.FollowerLemmas.{empty_spread, empty_tags, step_by_sets, step_by_lists, none_after, tags_in, compared_in, numbers_among, there_once, kept_alone, filtered, steps_next, shared_is, counted, turned, path_done}
 use Rattle.jsonpath_select.proofs.tagged.TagLemmas.{list_count_for_candidates-starts, joined-chosen}
 use Rattle.jsonpath_select.proofs.walk.follower.Follower.+walk.Goals as goal

@@ -1,5 +1,4 @@
 use Rattle.std.proofs.Common.{ℕ, Bool, List, [], sym, subst}
-use Rattle.jsonpath_nodes.specs.document.Document.{Document}
 use Rattle.jsonpath_nodes.specs.document.OfData.{value_document}
 use Rattle.jsonpath_nodes.specs.place.Location.{Location}
 use Rattle.jsonpath_nodes.specs.place.Mark.{MarksStandAt}
