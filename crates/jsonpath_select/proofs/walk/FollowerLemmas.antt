@@ -20,7 +20,7 @@ use Rattle.jsonpath_nodes.specs.step.Steps.{every, step, all_below, flattened}
 use Rattle.jsonpath_select.specs.Meaning.{is_some_location, has_own_step, candidates}
 use Rattle.jsonpath_select.specs.plan.Machine.{Tagged, tagged, places, each_tag, spread, starts, itself, found_tags, kept_by_number, compared, gathered, entered}
 use Rattle.jsonpath_select.specs.plan.Manner.{lessened, descent, reached_in, follow_in, holds_in, values_in}
-use Rattle.jsonpath_select.specs.plan.SetWalk.{led_in, step_in, set_after, found_in, term_in}
+use Rattle.jsonpath_select.specs.plan.Walk.{led_in, step_in, set_after, found_in, term_in}
 use Rattle.jsonpath_select.specs.plan.Shown.{Shows, tags_of}
 use Rattle.jsonpath_select.specs.declared.tagged.marks.TaggedMarks.{TaggedMarks}
 use Rattle.jsonpath_nodes.specs.declared.place.spot.Spot.{Spot}

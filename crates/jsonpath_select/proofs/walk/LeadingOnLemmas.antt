@@ -21,7 +21,7 @@ use Rattle.jsonpath_select.specs.SetMeaning.{HoldsAlike, FollowsWhatLeadsOn}
 use Rattle.jsonpath_select.specs.plan.LeadingOn.{AreAt, AreAfterEach, set_along, set_from_root, leads_on, leading_from_root, is_among, leading_to}
 use Rattle.jsonpath_select.specs.plan.Machine.{Tagged, places, spread, itself}
 use Rattle.jsonpath_select.specs.plan.Manner.{lessened, descent, holds_in}
-use Rattle.jsonpath_select.specs.plan.SetWalk.{led_in, set_after}
+use Rattle.jsonpath_select.specs.plan.Walk.{led_in, set_after}
 use Rattle.jsonpath_select.specs.declared.tagged.marks.TaggedMarks.{TaggedMarks}
 use Rattle.jsonpath_select.proofs.MannerLemmas.{lists_hold}
 use Rattle.jsonpath_select.proofs.walk.FollowerLemmas.{IsThere, all_there, all_where, among_is}

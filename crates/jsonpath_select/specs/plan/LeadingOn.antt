@@ -11,7 +11,7 @@ use Rattle.jsonpath_paths.specs.tree.View.{inner_of, steps_of_list}
 use Rattle.jsonpath_paths.specs.declared.tree.parser_node.ParserStep.{ParserStep}
 use Rattle.jsonpath_select.specs.Meaning.{holds, is_some_location}
 use Rattle.jsonpath_select.specs.plan.Machine.{Tagged, places}
-use Rattle.jsonpath_select.specs.plan.SetWalk.{led_in, set_after}
+use Rattle.jsonpath_select.specs.plan.Walk.{led_in, set_after}
 use Rattle.jsonpath_select.specs.plan.Shown.{Shows}
 use Rattle.jsonpath_select.specs.declared.tagged.marks.TaggedMarks.{TaggedMarks}
 

@@ -1,4 +1,4 @@
-//! What the machine and the walks pass from step to step for each node: a reference to the value, or a `Spot`.
+//! What the machine and the walk pass from step to step for each node: a reference to the value, or a `Spot`.
 
 ghost use Rattle.std.specs.Prelude.{◌≡◌, [], ◌∷◌, IfOk, List};
 ghost use Rattle.std.specs.List.{list_any};

@@ -11,7 +11,7 @@ ghost use Rattle.jsonpath_select.specs.plan.Machine.{Tagged, places, spread};
 ghost use Rattle.jsonpath_select.specs.plan.Manner.{holds_in};
 ghost use Rattle.jsonpath_select.specs.plan.Shown.{Shows};
 ghost use Rattle.jsonpath_select.specs.plan.Stack.{IsOfTerm, ShowsFound, ShowsOperand};
-ghost use Rattle.jsonpath_select.specs.plan.SetWalk.{found_in, led_in, set_after, step_in, term_in};
+ghost use Rattle.jsonpath_select.specs.plan.Walk.{found_in, led_in, set_after, step_in, term_in};
 
 use crate::comparison::comparer::Comparer;
 use crate::tagged::conditions::{join_tags, tags_where_marks_found};

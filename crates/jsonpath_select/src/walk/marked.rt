@@ -1,5 +1,5 @@
-//! What the walk does with marks, references or spots, in a document. `Marked` names no lifetime, so that functions that
-//! call one another in a cycle can be generic over it.
+//! What the walk needs of a document, whether it passes references or nodes from step to step. `Marked` names no
+//! lifetime, so that functions that call one another in a cycle can be generic over it.
 
 ghost use Rattle.std.specs.Prelude.{◌≡◌, Bool, List, IfOk};
 ghost use Rattle.std.specs.List.{list_any};

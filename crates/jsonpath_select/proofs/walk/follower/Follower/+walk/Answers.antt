@@ -12,7 +12,7 @@ use Rattle.jsonpath_nodes.specs.place.NumbersWhere.{numbers_where}
 use Rattle.jsonpath_nodes.specs.place.Order.{once_in_order}
 use Rattle.jsonpath_select.specs.plan.Machine.{Tagged, tagged, places, spread, starts, itself, entered, found_tags, list_count_for_candidates, stepped, joined_tags}
 use Rattle.jsonpath_select.specs.plan.Manner.{holds_in}
-use Rattle.jsonpath_select.specs.plan.SetWalk.{led_in, step_in, found_in, term_in}
+use Rattle.jsonpath_select.specs.plan.Walk.{led_in, step_in, found_in, term_in}
 use Rattle.jsonpath_select.specs.plan.Shown.{Shows}
 use Rattle.jsonpath_select.proofs.walk.FollowerLemmas.{empty_spread, empty_tags, step_by_sets, step_by_lists, none_after, tags_in, compared_in, numbers_among, there_once, kept_alone, filtered, steps_next, shared_is, counted, turned, path_done}
 use Rattle.jsonpath_select.proofs.tagged.TagLemmas.{list_count_for_candidates-starts, joined-chosen}

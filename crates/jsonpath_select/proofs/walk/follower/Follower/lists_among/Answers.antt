@@ -6,7 +6,7 @@ use Rattle.jsonpath_paths.specs.declared.tree.parser_node.ParserStep.{ParserStep
 use Rattle.jsonpath_select.specs.Meaning.{follow}
 use Rattle.jsonpath_select.specs.plan.LeadingOn.{AreAt, is_among, leading_from_root}
 use Rattle.jsonpath_select.specs.plan.Machine.{Tagged, spread}
-use Rattle.jsonpath_select.specs.plan.SetWalk.{led_in}
+use Rattle.jsonpath_select.specs.plan.Walk.{led_in}
 use Rattle.jsonpath_select.specs.plan.Shown.{Shows}
 use Rattle.jsonpath_select.specs.declared.tagged.marks.TaggedMarks.{TaggedMarks}
 use Rattle.jsonpath_select.proofs.tagged.TagLemmas.{filter-spread, places_alone}

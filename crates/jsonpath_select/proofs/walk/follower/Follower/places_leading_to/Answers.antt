@@ -6,7 +6,7 @@ use Rattle.jsonpath_paths.specs.tree.View.{inner_of}
 use Rattle.jsonpath_select.specs.Meaning.{is_some_location}
 use Rattle.jsonpath_select.specs.plan.LeadingOn.{is_among}
 use Rattle.jsonpath_select.specs.plan.Machine.{Tagged, places, spread, itself, some_tags}
-use Rattle.jsonpath_select.specs.plan.SetWalk.{led_in}
+use Rattle.jsonpath_select.specs.plan.Walk.{led_in}
 use Rattle.jsonpath_select.specs.plan.Shown.{Shows}
 use Rattle.jsonpath_select.proofs.tagged.TagLemmas.{filter-spread, some_tags-spread}
 use Rattle.jsonpath_select.proofs.walk.FollowerLemmas.{counted, kept_numbers}

@@ -3,7 +3,7 @@ use Rattle.jsonpath_nodes.specs.place.Location.{Location}
 use Rattle.jsonpath_paths.specs.tree.View.{inner_of}
 use Rattle.jsonpath_select.specs.plan.LeadingOn.{AreAt, AreAfterEach, set_from_root}
 use Rattle.jsonpath_select.specs.plan.Machine.{spread}
-use Rattle.jsonpath_select.specs.plan.SetWalk.{set_after}
+use Rattle.jsonpath_select.specs.plan.Walk.{set_after}
 use Rattle.jsonpath_select.specs.plan.Shown.{Shows}
 use Rattle.jsonpath_select.specs.declared.tagged.marks.TaggedMarks.{TaggedMarks}
 use Rattle.jsonpath_select.proofs.tagged.TagLemmas.{places_alone}
