@@ -2,7 +2,8 @@
 pub mod MarkLemmas
 pub mod WalkLemmas
 pub mod SetMeaningLemmas
-pub mod SetWalkLemmas
+pub mod FollowerLemmas
 pub mod LeadingLemmas
+pub mod LeadingOnLemmas
 pub mod PieceLemmas
 pub mod StandApartLemmas

@@ -10,7 +10,7 @@ use Rattle.jsonpath_nodes.specs.place.Order.{once_in_order}
 use Rattle.jsonpath_nodes.specs.place.SpotPlace.{StandAt, location_of}
 use Rattle.jsonpath_nodes.specs.declared.place.spot.Spot.{Spot}
 use Rattle.jsonpath_paths.specs.OfPath.{OfPath}
-use Rattle.jsonpath_select.specs.Parts.{plain_of, literals, quoted_text, has_pair, joined}
+use Rattle.jsonpath_select.specs.Parts.{plain_of, literals, has_pair, joined}
 
 -- ---- candidates
 
@@ -42,11 +42,6 @@ candidates doc f ls = if has_own_step f then flattened doc ls else ls
 abbrev pub is_some_location : List Location → Bool
 is_some_location [] = false
 is_some_location (l ∷ ls) = true
-
--- the text of a term that is a quoted literal
-abbrev pub quoted_text_of_term : List ℕ → Term → List ℕ
-quoted_text_of_term text (tree.at_path p) = []
-quoted_text_of_term text (tree.literal token) = quoted_text text token
 
 -- what comparisons see at these locations
 abbrev pub values_at : Document → List Location → List Seen

@@ -1,5 +1,6 @@
 -- How the machine and the walks go about it: the plan of the code. No contract of a public call cites it.
-pub mod SetWalk
+pub mod Walk
+pub mod LeadingOn
 pub mod Manner
 pub mod Code
 pub mod Machine

@@ -1,4 +1,4 @@
-//! Node references tagged with the numbers of their candidates, which the machine and the walks share: how a path
+//! Node references tagged with the numbers of their candidates, which the machine and the walk share: how a path
 //! begins with them, how steps are applied and results kept, and at which candidates a condition holds.
 
 pub(crate) mod conditions;

@@ -1,6 +1,8 @@
-//! The walks: over a path's tree, and over sets; and which of them a path needs.
+//! The walk over a path's syntax tree, and which manner of it a path needs.
 
 pub(crate) mod choice_of_walk;
+pub(crate) mod follower;
+pub(crate) mod leading_on;
+pub(crate) mod marked;
 pub(crate) mod own_step;
-pub(crate) mod set_walk;
 pub(crate) mod tree_walk;

@@ -8,7 +8,7 @@ use Rattle.jsonpath_paths.specs.tree.Tree as tree
 use Rattle.jsonpath_nodes.specs.place.Location.{Location, location_cmp}
 use Rattle.jsonpath_nodes.specs.place.NumbersWhere.{numbers_where}
 use Rattle.jsonpath_nodes.specs.place.Order.{once_in_order}
-use Rattle.jsonpath_nodes.specs.step.SameMembers.{SomeOfASet, KeptOfASet, topmost}
+use Rattle.jsonpath_nodes.specs.step.SameMembers.{SomeOfASet, topmost}
 use Rattle.jsonpath_select.specs.Meaning.{has_own_step}
 use Rattle.jsonpath_select.specs.plan.Code.{Instruction, path_code, steps_code, inner_code, condition_code, term_code, start, plain_step, enter, leave, constant, compares, joins, in_order, distinct, put_back, by_sets, all_by_sets}
 use Rattle.jsonpath_select.specs.plan.Machine.{Tagged, tagged, places, spread, each_tag, Found, list_count_for_candidates, starts, itself, Operand, of_path, tags, State, run_all, as_tags, is_side, stepped, gathered, entered, kept_by_number, kept_among}
@@ -66,7 +66,7 @@ moved shared f g cs to =
     ap (λ (ps : List Tagged). to (record { shared = shared; pairs = ps }))
     (ap (λ k. each_tag g 0 k (spread f 0 (starts shared cs))) (list_count_for_candidates-starts shared cs) ∙ each_tag-spread f g 0 (starts shared cs))
 
-module _ (apart : (l m : Location) → location_cmp l m ≡ Equal → l ≡ m) (keeps : OnceInOrderKeepsMembers) (kept_same : KeptOfASet) (some_same : SomeOfASet) (text : List ℕ) (doc : Document) where
+module _ (apart : (l m : Location) → location_cmp l m ≡ Equal → l ≡ m) (keeps : OnceInOrderKeepsMembers) (some_same : SomeOfASet) (text : List ℕ) (doc : Document) where
   -- what a path, a term and a condition leave
   abbrev path_found : Bool → Path → List Location → Found
   path_found sets p cs = path_from text doc (reached_in sets text doc) (values_in sets text doc) p 0 cs
@@ -120,7 +120,7 @@ module _ (apart : (l m : Location) → location_cmp l m ≡ Equal → l ≡ m) (
       let ones = each_location pairs in
       runs (leave ∷ put_back ∷ rest) ones (cand ∷ fs) (of_path new ∷ os)
       ∙ ap (λ (o : Option (List ℕ)). option_and_then (run_all text doc (put_back ∷ rest)) (option_map (λ ts. let s : State = state cand fs (of_path (record { shared = true; pairs = kept_by_number 0 ts ones.pairs }) ∷ of_path new ∷ os) in s) o)) (tags-found true c (places ones.pairs))
-      ∙ ap (λ (ps : List Tagged). run_all text doc rest (state cand fs (of_path (record { shared = shared; pairs = ps }) ∷ os))) (decided_once apart (holds_in true text doc c) keeps kept_same some_same pairs)
+      ∙ ap (λ (ps : List Tagged). run_all text doc rest (state cand fs (of_path (record { shared = shared; pairs = ps }) ∷ os))) (decided_once apart keeps some_same (holds_in true text doc c) pairs)
 
   run_filter_by_sets : (c : Condition) → Runs true c → (leaves shared : Bool) (f : Location → List Location) (rest : List Instruction) (cand : Found) (fs : List Found) (os : List Operand)
       → run_all text doc (enter leaves (has_own_step c) ∷ distinct ∷ (all_by_sets (condition_code c ++ leave ∷ []) ++ rest)) (state cand fs (of_path (led_by shared f (places cand.pairs)) ∷ os))

@@ -113,7 +113,7 @@ module _ (apart : (l m : Location) → location_cmp l m ≡ Equal → l ≡ m) (
   leads ss l = is_some_location (follow text doc ss (l ∷ []))
 
   -- what one step does to a list, when those that pass a test are looked for
-  StepKeeps : Inner → Bool → (Location → Bool) → Type 0
+  abbrev pub StepKeeps : Inner → Bool → (Location → Bool) → Type 0
   StepKeeps inner leaves test = (ls : List Location)
       → (list_any test (inner_on text doc inner leaves ls) ≡ list_any (λ l. list_any test (inner_on text doc inner leaves (l ∷ []))) ls)
       × (filter test (inner_on text doc inner leaves ls) ≡ filter test (inner_on text doc inner leaves (filter (λ l. list_any test (inner_on text doc inner leaves (l ∷ []))) ls)))
@@ -136,8 +136,7 @@ module _ (apart : (l m : Location) → location_cmp l m ≡ Equal → l ≡ m) (
             ∙ (λ i. filter test (filter pass (each_once (f (filter (λ l. sym (each l) i) ls))))),
       )
 
-  step_keeps : (inner : Inner) (leaves : Bool) (test : Location → Bool) → StepKeeps inner leaves test
-  unfolding StepKeeps
+  pub step_keeps : (inner : Inner) (leaves : Bool) (test : Location → Bool) → StepKeeps inner leaves test
   step_keeps (tree.plain token) true test ls =
       additive_keeps (λ ms. step doc (plain_of text token) (all_below doc ms)) test refl (then_each doc (single_steps (plain_of text token)) (all_below doc) (from_each-additive doc below)) ls
   step_keeps (tree.plain token) false test ls = additive_keeps (λ ms. step doc (plain_of text token) ms) test refl (from_each-additive doc (single_steps (plain_of text token))) ls
@@ -169,7 +168,6 @@ module _ (apart : (l m : Location) → location_cmp l m ≡ Equal → l ≡ m) (
   all_lead (l ∷ ls) = refl
 
   pub some_lead : (ss : PathSteps) (ls : List Location) → is_some_location (follow text doc ss ls) ≡ list_any (leads ss) ls
-  unfolding StepKeeps
   some_lead tree.no_steps ls = all_lead ls
   some_lead (tree.step_then leaves bracket inner rest) ls =
       some_lead rest (inner_on text doc inner leaves ls) ∙ (step_keeps inner leaves (leads rest) ls).0
@@ -180,7 +178,6 @@ module _ (apart : (l m : Location) → location_cmp l m ≡ Equal → l ≡ m) (
   all_kept (l ∷ ls) = ap (λ (ms : List Location). l ∷ ms) (all_kept ls)
 
   pub pruned : (ss : PathSteps) (ls : List Location) → follow text doc ss ls ≡ follow text doc ss (filter (leads ss) ls)
-  unfolding StepKeeps
   pruned tree.no_steps ls = all_kept ls
   pruned (tree.step_then leaves bracket inner rest) ls =
       let left : List Location = filter (λ l. list_any (leads rest) (inner_on text doc inner leaves (l ∷ []))) ls in

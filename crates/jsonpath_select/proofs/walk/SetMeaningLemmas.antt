@@ -14,10 +14,10 @@ use Rattle.jsonpath_select.specs.Meaning.{sel, reached, follow, inner_on, holds,
 use Rattle.jsonpath_select.specs.Parts.{plain_of, is_pair, has_pair, joined}
 use Rattle.jsonpath_select.specs.SetMeaning.{Lessening, KeepsMembers, FindsAllBelow, reached_by, follow_by, inner_by, holds_by, values_by, sel_by, SelectsOneSet, SelectsOneOrderedSet, HoldsAlike}
 
-same-itself : (ls : List Location) → SameMembers ls ls
+pub same-itself : (ls : List Location) → SameMembers ls ls
 same-itself ls l = (λ h. h, λ h. h)
 
-same-trans : (ls ms ns : List Location) → SameMembers ls ms → SameMembers ms ns → SameMembers ls ns
+pub same-trans : (ls ms ns : List Location) → SameMembers ls ms → SameMembers ms ns → SameMembers ls ns
 same-trans ls ms ns h k l = (λ a. (k l).0 ((h l).0 a), λ a. (h l).1 ((k l).1 a))
 
 -- two lists of values of which the same tests hold somewhere

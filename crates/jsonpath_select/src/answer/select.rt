@@ -156,12 +156,13 @@ pub(crate) fn spots_by_tree<'a>(
         alloc,
         root: json,
         text,
+        sets: false,
     };
-    Ok(walk.select_spots(tree)?)
+    Ok(walk.select_in_order(tree)?)
 }
 
 // The values that the path with this text and tree selects in the value, in the path's order, by the walk along the
-// tree.
+// tree. It follows references, and spots only where references can't tell whether a place is met twice.
 pub(crate) fn values_by_tree<'a>(
     alloc: Global,
     json: &'a Value,
@@ -172,9 +173,21 @@ pub(crate) fn values_by_tree<'a>(
     ensures ok { IfOk result (λ found. Selects text.now (document_of (view json.now)) (map (λ v. document_of (view v.now)) found.items)) }
     ensures refused { IfErr result (λ e. e ≡ JsonPathError.OutOfMemory) }
 {
-    let spots = spots_by_tree(alloc, json, text, tree)?;
-    let found = values_of_selected_spots(alloc, spots.as_slice())?;
-    Ok(found)
+    let walk = Walk {
+        alloc,
+        root: json,
+        text,
+        sets: false,
+    };
+    match walk.select_in_order::<&Value>(tree) {
+        Ok(found) => Ok(found),
+        Err(Halt::OutOfMemory) => Err(JsonPathError::OutOfMemory),
+        Err(Halt::NeedsLocations) => {
+            let spots = spots_by_tree(alloc, json, text, tree)?;
+            let found = values_of_selected_spots(alloc, spots.as_slice())?;
+            Ok(found)
+        }
+    }
 }
 
 // The values that the path with this text and token list selects in the value, in the path's order, by the machine. It

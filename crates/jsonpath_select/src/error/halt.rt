@@ -1,9 +1,9 @@
-//! `Halt`: why the machine stops without an answer where it follows references, and how it is made of an error.
+//! `Halt`: why a run over references stops without an answer, and how it is made of an error.
 
 use jsonpath_nodes::NoMemory;
 use std::alloc::AllocError;
 
-// Why the machine stops without an answer where it follows references.
+// Why a run of the machine or the walk over references stops without an answer.
 #[derive(Drop)]
 pub enum Halt {
     OutOfMemory,

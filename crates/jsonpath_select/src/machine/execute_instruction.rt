@@ -160,7 +160,7 @@ impl<'a, 't> Machine<'a, 't> {
         let passed = pop_marks(&mut stacks.operands);
         let Found { is_shared, pairs } = pop_marks(&mut stacks.operands);
         let marks = pairs.marks.as_slice();
-        let indexes = M::indexes_among(self.alloc, marks, passed.pairs.marks.as_slice())?;
+        let indexes = M::indexes_standing_among(self.alloc, marks, passed.pairs.marks.as_slice())?;
         let pairs = keep_marks_at_indexes(self.alloc, pairs, indexes.as_slice())?;
         let found = Operand::Marks(Found { is_shared, pairs });
         Ok(push_top(&mut stacks.operands, found)?)

@@ -2,7 +2,7 @@
 ghost use Rattle.std.specs.Prelude.{◌≡◌};
 ghost use Rattle.jsonpath_select.specs.selectors.Held.{text_held};
 
-use crate::answer::select::spots_by_tree;
+use crate::answer::select::{spots_by_tree, values_by_tree};
 use crate::compile::any_path::{AnyPath, PathParts};
 use crate::compile::node::Node;
 use crate::error::JsonPathError;
@@ -42,6 +42,11 @@ impl<'b> AnyPath for WalkedPath<'b> {
 
     fn parts(&self) -> PathParts<'_> {
         self.node().parts()
+    }
+
+    fn select<'v>(&self, alloc: Global, value: &'v Value) -> Result<Vec<&'v Value>, JsonPathError> {
+        let node = self.node();
+        values_by_tree(alloc, value, node.text(), node.tree())
     }
 
     fn select_spots<'v>(

@@ -1,13 +1,13 @@
-//! What the machine and the walks pass from step to step for each node: a reference to the value, or a `Spot`.
+//! What the machine and the walk pass from step to step for each node: a reference to the value, or a `Spot`.
 
-ghost use Rattle.std.specs.Prelude.{◌≡◌, [], ◌∷◌, List, IfOk};
+ghost use Rattle.std.specs.Prelude.{◌≡◌, [], ◌∷◌, IfOk, List};
 ghost use Rattle.std.specs.List.{list_any};
 ghost use Rattle.jsonpath_nodes.specs.document.Document.{Document};
+ghost use Rattle.jsonpath_nodes.specs.place.Location.{Location, is_same};
+ghost use Rattle.jsonpath_nodes.specs.place.NumbersWhere.{numbers_where};
 ghost use Rattle.serde_json.specs.View.{view};
 ghost use Rattle.jsonpath_nodes.specs.document.OfData.{document_of};
-ghost use Rattle.jsonpath_nodes.specs.place.Location.{Location, is_same};
 ghost use Rattle.jsonpath_nodes.specs.place.Mark.{shown, MarksStandAt, MarksLeadBy};
-ghost use Rattle.jsonpath_nodes.specs.place.NumbersWhere.{numbers_where};
 ghost use Rattle.jsonpath_nodes.specs.place.Order.{once_in_order};
 ghost use Rattle.jsonpath_nodes.specs.step.SameMembers.{topmost};
 ghost use Rattle.jsonpath_nodes.specs.step.Steps.{step, all_below, every, flattened};
@@ -53,9 +53,8 @@ pub trait Carried<'a>: Mark<'a> {
     fn topmost_marks(alloc: Global, marks: &[Self]) -> Result<Vec<Self>, Self::Stop>
         ensures { IfOk result (λ found. MarksLeadBy Self.located Self.stand Self.content (λ _ ls. topmost ls) marks.now found.items) };
 
-    // The indexes, from 0 and ascending, of the marks whose location is also that of a mark in `others`;
-    // `NeedsLocations` where the marks can't tell their locations.
-    fn indexes_among(
+    // The indexes of the marks that stand where one of the others does; `NeedsLocations` where the marks can't tell.
+    fn indexes_standing_among(
         alloc: Global,
         marks: &[Self],
         others: &[Self],
@@ -109,8 +108,8 @@ impl<'a> Carried<'a> for &'a Value {
         Err(Halt::NeedsLocations)
     }
 
-    // Always `NeedsLocations`: references can't tell which are the same.
-    fn indexes_among(
+    // Always `NeedsLocations`: references can't tell which stand at one place.
+    fn indexes_standing_among(
         _alloc: Global,
         _marks: &[&'a Value],
         _others: &[&'a Value],
@@ -155,8 +154,8 @@ impl<'a> Carried<'a> for Spot<'a> {
         topmost_spots(alloc, marks)
     }
 
-    // The indexes, from 0 and ascending, of the spots whose location is also that of one of the others.
-    fn indexes_among(
+    // The indexes of the spots that stand where one of the others does.
+    fn indexes_standing_among(
         alloc: Global,
         marks: &[Spot<'a>],
         others: &[Spot<'a>],

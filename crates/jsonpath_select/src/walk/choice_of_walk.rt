@@ -1,5 +1,5 @@
-//! Which walk a path needs, by its syntax tree alone: which steps can reach one location more than once, and which
-//! conditions are better decided by sets. The answer is the same by either.
+//! Which manner of the walk a path needs, by its syntax tree alone: which steps can reach one location more than once,
+//! and which conditions are better decided by sets. The answer is the same by either.
 
 use crate::step::distinct_selections::{indexes_select_distinct_items, names_are_distinct};
 use jsonpath_nodes::NoMemory;
@@ -20,7 +20,7 @@ impl<'t> Choice<'t> {
         Ok(self.has_repeating_steps(tree, 3)? || self.has_filter_better_by_sets(tree)?)
     }
 
-    // Whether the set of the places to which the path leads is found by the walk over sets: where two of its steps or
+    // Whether the set of the places to which the path leads is found in the manner of sets: where two of its steps or
     // more can lead to one place more than once, or a filter of it has a condition that is better decided by sets.
     pub(crate) fn needs_set_walk(self, tree: &ParserNode) -> Result<bool, NoMemory> {
         Ok(self.has_repeating_steps(tree, 2)? || self.has_filter_better_by_sets(tree)?)
@@ -66,10 +66,10 @@ impl<'t> Choice<'t> {
     }
 
     // Whether a filter of the path has a condition that is better decided by sets.
-    fn has_filter_better_by_sets(self, path: &ParserNode) -> Result<bool, NoMemory> {
+    pub(crate) fn has_filter_better_by_sets(self, path: &ParserNode) -> Result<bool, NoMemory> {
         for step in &path.steps {
             if let Inner::Filter(condition) = &step.inner {
-                if self.has_path_better_by_sets(condition, false)? {
+                if self.is_condition_better_by_sets(condition)? {
                     return Ok(true);
                 }
             }
@@ -77,51 +77,35 @@ impl<'t> Choice<'t> {
         Ok(false)
     }
 
-    // Whether the walk along the tree decides the condition by sets: it has a path for which they are better, or one
-    // from the root, whose set is the same for all candidates.
-    pub(crate) fn is_decided_by_sets(self, condition: &Condition) -> Result<bool, NoMemory> {
-        self.has_path_better_by_sets(condition, true)
-    }
-
-    // Whether the condition has a path for which sets are better, or, where `from_root` is set, one from the root.
-    fn has_path_better_by_sets(
-        self,
-        condition: &Condition,
-        from_root: bool,
-    ) -> Result<bool, NoMemory> {
+    // Whether the condition has a path for which sets are better.
+    fn is_condition_better_by_sets(self, condition: &Condition) -> Result<bool, NoMemory> {
         match condition {
-            Condition::Lone(path) => self.is_path_better_by_sets(path, from_root),
+            Condition::Lone(path) => self.is_path_better_by_sets(path),
             Condition::Compare(left, _, right) => {
-                Ok(
-                    self.is_term_better_by_sets(left, from_root)?
-                        || self.is_term_better_by_sets(right, from_root)?,
-                )
+                Ok(self.is_term_better_by_sets(left)? || self.is_term_better_by_sets(right)?)
             }
             Condition::Join(_, left, right) => {
                 Ok(
-                    self.has_path_better_by_sets(left, from_root)?
-                        || self.has_path_better_by_sets(right, from_root)?,
+                    self.is_condition_better_by_sets(left)?
+                        || self.is_condition_better_by_sets(right)?,
                 )
             }
         }
     }
 
-    // Whether a side of a comparison is a path for which sets are better, or, where `from_root` is set, one from the
-    // root.
-    fn is_term_better_by_sets(self, term: &Term, from_root: bool) -> Result<bool, NoMemory> {
+    // Whether a side of a comparison is a path for which sets are better.
+    fn is_term_better_by_sets(self, term: &Term) -> Result<bool, NoMemory> {
         match term {
-            Term::Path(path) => self.is_path_better_by_sets(path, from_root),
+            Term::Path(path) => self.is_path_better_by_sets(path),
             Term::Literal(_) => Ok(false),
         }
     }
 
-    // Whether sets are better for a path: it has a filter, or two steps that can lead to one place more than once, or,
-    // where `from_root` is set, begins at the root.
-    fn is_path_better_by_sets(self, path: &ParserNode, from_root: bool) -> Result<bool, NoMemory> {
+    // Whether sets are better for a path: it has a filter, or two steps that can lead to one place more than once.
+    fn is_path_better_by_sets(self, path: &ParserNode) -> Result<bool, NoMemory> {
         let mut steps = path.steps.as_slice().iter();
         Ok(
-            (from_root && path.absolute)
-                || steps.any(|step| matches!(step.inner, Inner::Filter(_)))
+            steps.any(|step| matches!(step.inner, Inner::Filter(_)))
                 || self.has_repeating_steps(path, 2)?,
         )
     }

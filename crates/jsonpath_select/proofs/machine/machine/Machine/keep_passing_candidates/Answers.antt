@@ -25,7 +25,7 @@ execute_at_candidates-requires g c = λ k.
         filter (λ l. holds text doc f l) cs,
         c.requires.there.1,
         ap (λ (js : List Instruction). run_all text doc js (begun cs)) c.requires.is.1
-            ∙ top_decided c.equal_locations_are_same.ensures c.locations_once_in_order_ascend.ensures.members c.steps_ignore_order_and_repeats.ensures.kept c.steps_ignore_order_and_repeats.ensures.some text doc f cs,
+            ∙ top_decided c.equal_locations_are_same.ensures c.locations_once_in_order_ascend.ensures.members c.steps_ignore_order_and_repeats.ensures.some text doc f cs,
       ),
     )
 
@@ -36,7 +36,7 @@ returns-then-not-self g c =
     IfOk-weaker c.execute_at_candidates.result _ _
     (λ found leads f cs codes there. leads cs (filter (λ l. holds text doc f l) cs) there
     (ap (λ (js : List Instruction). run_all text doc js (begun cs)) codes
-    ∙ top_decided c.equal_locations_are_same.ensures c.locations_once_in_order_ascend.ensures.members c.steps_ignore_order_and_repeats.ensures.kept c.steps_ignore_order_and_repeats.ensures.some text doc f cs))
+    ∙ top_decided c.equal_locations_are_same.ensures c.locations_once_in_order_ascend.ensures.members c.steps_ignore_order_and_repeats.ensures.some text doc f cs))
     c.execute_at_candidates.ensures
 
 pub execute_at_candidates-requires-2 : goal.execute_at_candidates-requires-2
@@ -51,7 +51,7 @@ execute_at_candidates-requires-2 g c = λ k.
         filter (λ l. holds text doc f l) cs,
         c.requires.there.1,
         ap (λ (js : List Instruction). run_all text doc js (begun cs)) (ap (map instruction_of) c.as_slice.ensures.value ∙ c.in_ok-code.ensures f c.requires.is.1)
-            ∙ top_decided_by_sets c.equal_locations_are_same.ensures c.locations_once_in_order_ascend.ensures.members c.steps_ignore_order_and_repeats.ensures.kept c.steps_ignore_order_and_repeats.ensures.some text doc f cs
+            ∙ top_decided_by_sets c.equal_locations_are_same.ensures c.locations_once_in_order_ascend.ensures.members c.steps_ignore_order_and_repeats.ensures.some text doc f cs
             (λ l. c.dropping_repeats_keeps_the_set.ensures.condition once_in_order (descent true doc) text doc f l c.locations_once_in_order_ascend.ensures.members (λ ms. c.topmost_descend_to_same_set.ensures.below doc ms c.value_is_document.ensures)),
       ),
     )
@@ -63,6 +63,6 @@ returns g c =
     IfOk-weaker c.execute_at_candidates-2.result _ _
     (λ found leads f cs codes there. leads cs (filter (λ l. holds text doc f l) cs) there
     (ap (λ (js : List Instruction). run_all text doc js (begun cs)) (ap (map instruction_of) c.as_slice.ensures.value ∙ c.in_ok-code.ensures f codes)
-    ∙ top_decided_by_sets c.equal_locations_are_same.ensures c.locations_once_in_order_ascend.ensures.members c.steps_ignore_order_and_repeats.ensures.kept c.steps_ignore_order_and_repeats.ensures.some text doc f cs
+    ∙ top_decided_by_sets c.equal_locations_are_same.ensures c.locations_once_in_order_ascend.ensures.members c.steps_ignore_order_and_repeats.ensures.some text doc f cs
     (λ l. c.dropping_repeats_keeps_the_set.ensures.condition once_in_order (descent true doc) text doc f l c.locations_once_in_order_ascend.ensures.members (λ ms. c.topmost_descend_to_same_set.ensures.below doc ms c.value_is_document.ensures))))
     c.execute_at_candidates-2.ensures

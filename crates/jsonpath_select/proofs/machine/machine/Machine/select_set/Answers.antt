@@ -23,9 +23,9 @@ execute_all-requires g c = λ k.
       (refl, tt),
       (
         at_first,
-        path_left apart keeps sets.kept sets.some text doc p,
+        path_left apart keeps sets.some text doc p,
         c.in_ok-stacks.ensures,
-        ap (λ (js : List Instruction). run_all text doc js at_first) (ap (map instruction_of) c.as_slice.ensures.value ∙ c.in_ok-code.ensures ∙ ap all_by_sets c.requires.1.1) ∙ path_run apart keeps sets.kept sets.some text doc p,
+        ap (λ (js : List Instruction). run_all text doc js at_first) (ap (map instruction_of) c.as_slice.ensures.value ∙ c.in_ok-code.ensures ∙ ap all_by_sets c.requires.1.1) ∙ path_run apart keeps sets.some text doc p,
       ),
     )
 
@@ -38,8 +38,8 @@ pop_marks-requires g c =
     let keeps = c.locations_once_in_order_ascend.ensures.members in
     let sets = c.steps_ignore_order_and_repeats.ensures in
     let after =
-    c.in_ok-execute_all.ensures at_first (path_left apart keeps sets.kept sets.some text doc p) c.in_ok-stacks.ensures
-    (ap (λ (js : List Instruction). run_all text doc js at_first) (ap (map instruction_of) c.as_slice.ensures.value ∙ c.in_ok-code.ensures ∙ ap all_by_sets c.requires.1.1) ∙ path_run apart keeps sets.kept sets.some text doc p) in
+    c.in_ok-execute_all.ensures at_first (path_left apart keeps sets.some text doc p) c.in_ok-stacks.ensures
+    (ap (λ (js : List Instruction). run_all text doc js at_first) (ap (map instruction_of) c.as_slice.ensures.value ∙ c.in_ok-code.ensures ∙ ap all_by_sets c.requires.1.1) ∙ path_run apart keeps sets.some text doc p) in
     found_there g.M.Mark.located g.M.Mark.stand g.M.Mark.content text doc (path_from text doc (reached_in true text doc) (values_in true text doc) p 0 ([] ∷ [])) c.execute_all.new.stacks.operands.items after.1
 
 pub returns : goal.returns
@@ -50,10 +50,10 @@ returns g c = λ p codes.
     let keeps = c.locations_once_in_order_ascend.ensures.members in
     let sets = c.steps_ignore_order_and_repeats.ensures in
     let after =
-    c.in_ok-execute_all.ensures at_first (path_left apart keeps sets.kept sets.some text doc p) c.in_ok-stacks.ensures
-    (ap (λ (js : List Instruction). run_all text doc js at_first) (ap (map instruction_of) c.as_slice.ensures.value ∙ c.in_ok-code.ensures ∙ ap all_by_sets codes.1) ∙ path_run apart keeps sets.kept sets.some text doc p) in
+    c.in_ok-execute_all.ensures at_first (path_left apart keeps sets.some text doc p) c.in_ok-stacks.ensures
+    (ap (λ (js : List Instruction). run_all text doc js at_first) (ap (map instruction_of) c.as_slice.ensures.value ∙ c.in_ok-code.ensures ∙ ap all_by_sets codes.1) ∙ path_run apart keeps sets.some text doc p) in
     let shows = found_is g.M.Mark.located g.M.Mark.stand g.M.Mark.content text doc (path_from text doc (reached_in true text doc) (values_in true text doc) p 0 ([] ∷ [])) c.execute_all.new.stacks.operands.items c.pop_marks.new.operands.items c.pop_marks.result after.1 c.pop_marks.ensures in (
       reached_in true text doc p [],
-      subst (λ (ls : List Location). MarksStandAt g.M.Mark.located g.M.Mark.stand g.M.Mark.content doc ls c.pop_marks.result.pairs.marks.items) (path_places apart keeps sets.kept sets.some text doc p) shows.1.1,
+      subst (λ (ls : List Location). MarksStandAt g.M.Mark.located g.M.Mark.stand g.M.Mark.content doc ls c.pop_marks.result.pairs.marks.items) (path_places apart keeps sets.some text doc p) shows.1.1,
       c.dropping_repeats_keeps_the_set.ensures.ordered once_in_order (descent true doc) text doc p c.locations_once_in_order_ascend.ensures.members (λ ms. c.topmost_descend_to_same_set.ensures.below doc ms c.value_is_document.ensures),
     )

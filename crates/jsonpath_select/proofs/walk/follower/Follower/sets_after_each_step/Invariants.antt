@@ -1,0 +1,12 @@
+use Rattle.std.proofs.Common.{◌≡◌, [], ◌∷◌, List, length}
+use Rattle.jsonpath_select.specs.plan.LeadingOn.{AreAfterEach, set_from_root}
+use Rattle.jsonpath_select.specs.plan.Machine.{Tagged, spread}
+use Rattle.jsonpath_select.specs.plan.Shown.{Shows}
+use Rattle.jsonpath_select.proofs.walk.follower.Follower.sets_after_each_step.Given as goal
+
+abbrev pub invariant-loop-step : goal.invariant-loop-step
+invariant-loop-step g l =
+    (length l.sets.items ≡ l.step-index)
+    × ((ps : List Tagged) → Shows g.G.Marked.located g.G.Marked.stand g.G.Marked.content (g.G.Marked.whole l.self.document) ps l.root
+    → AreAfterEach g.G.Marked.located g.G.Marked.stand g.G.Marked.content (g.G.Marked.whole l.self.document) (set_from_root l.self.sets l.self.text.now (g.G.Marked.whole l.self.document) l.steps) l.sets.items
+    × Shows g.G.Marked.located g.G.Marked.stand g.G.Marked.content (g.G.Marked.whole l.self.document) (spread (λ place. set_from_root l.self.sets l.self.text.now (g.G.Marked.whole l.self.document) l.steps l.step-index) 0 ([] ∷ [])) l.current)

@@ -1,0 +1,157 @@
+//! What a path selects, where the walk follows nothing that leads to nothing: one pass forward finds the set of the
+//! places after each step, and one pass back those of them from which the later steps lead somewhere.
+
+ghost use Rattle.std.specs.Prelude.{◌≡◌, ◌++◌, ◌∷◌, [], List, length, filter, IfOk, OnOk};
+ghost use Rattle.jsonpath_paths.specs.tree.View.{inner_of, path_of, steps_of_list};
+ghost use Rattle.jsonpath_nodes.specs.place.Location.{Location};
+ghost use Rattle.jsonpath_nodes.specs.place.Order.{IsOrderedDocument};
+ghost use Rattle.jsonpath_select.specs.Meaning.{follow, sel};
+ghost use Rattle.jsonpath_select.specs.plan.LeadingOn.{AreAfterEach, AreAt, is_among, leading_from_root, leading_to, set_from_root};
+ghost use Rattle.jsonpath_select.specs.plan.Machine.{Tagged};
+ghost use Rattle.jsonpath_select.specs.plan.Shown.{Shows};
+
+use crate::laws::{dropping_repeats_keeps_the_set, what_leads_on_suffices};
+use crate::tagged::conditions::tags_where_marks_found;
+use crate::tagged::marks::TaggedMarks;
+use crate::walk::follower::Follower;
+use crate::walk::marked::Marked;
+use jsonpath_nodes::NoMemory;
+use jsonpath_nodes::laws::{
+    equal_locations_are_same, locations_once_in_order_ascend, steps_ignore_order_and_repeats,
+    topmost_descend_to_same_set,
+};
+use jsonpath_paths::{ParserNode, ParserStep};
+
+impl<'t, G: Marked> Follower<'t, G> {
+    // What a path selects from the root, in the path's order, with its repeats.
+    pub(crate) fn lists_keeping_what_leads_on(
+        &self,
+        path: &ParserNode,
+        root: &TaggedMarks<G::Mark>,
+    ) -> Result<TaggedMarks<G::Mark>, G::Stop>
+        ensures { IfOk result (λ found. IsOrderedDocument (G.whole self.now.document) → (ps : List Tagged) → Shows G.located G.stand G.content (G.whole self.now.document) ps root.now → AreAt G.located G.stand G.content (G.whole self.now.document) (sel self.now.text.now (G.whole self.now.document) (path_of path.now)) found) }
+    {
+        let steps = path.steps.as_slice();
+        let sets = self.sets_after_each_step(steps, root)?;
+        let kept = self.keep_what_leads_on(steps, sets)?;
+        self.lists_among(steps, root, kept.as_slice())
+    }
+
+    // The pass forward: the set of the places after each step from the root.
+    fn sets_after_each_step(
+        &self,
+        steps: &[ParserStep],
+        root: &TaggedMarks<G::Mark>,
+    ) -> Result<Vec<TaggedMarks<G::Mark>>, G::Stop>
+        ensures count { IfOk result (λ found. length found.items ≡ length steps.now) }
+        ensures places { IfOk result (λ found. (ps : List Tagged) → Shows G.located G.stand G.content (G.whole self.now.document) ps root.now → AreAfterEach G.located G.stand G.content (G.whole self.now.document) (set_from_root self.now.sets self.now.text.now (G.whole self.now.document) steps.now) found.items) }
+    {
+        let mut sets = Vec::new(self.alloc);
+        let mut current = self.document.start_of_path(true, root)?.pairs;
+        for step in steps {
+            let next = self.sets_after_step(step, 1, current)?;
+            let copies = self.document.start_of_path(false, &next)?.pairs;
+            push_places(copies, &mut sets)?;
+            current = next;
+        }
+        Ok(sets)
+    }
+
+    // The pass back: of each set those places stay from which the later steps lead somewhere.
+    fn keep_what_leads_on(
+        &self,
+        steps: &[ParserStep],
+        sets: Vec<TaggedMarks<G::Mark>>,
+    ) -> Result<Vec<TaggedMarks<G::Mark>>, G::Stop>
+        requires { length sets.items ≡ length steps.now }
+        ensures count { IfOk result (λ found. length found.items ≡ length steps.now) }
+        ensures places { IfOk result (λ found. IsOrderedDocument (G.whole self.now.document) → AreAfterEach G.located G.stand G.content (G.whole self.now.document) (set_from_root self.now.sets self.now.text.now (G.whole self.now.document) steps.now) sets.items
+            → AreAfterEach G.located G.stand G.content (G.whole self.now.document) (leading_from_root self.now.sets self.now.text.now (G.whole self.now.document) steps.now) found.items) }
+    {
+        dropping_repeats_keeps_the_set();
+        equal_locations_are_same();
+        locations_once_in_order_ascend();
+        steps_ignore_order_and_repeats();
+        topmost_descend_to_same_set();
+        let mut kept = sets;
+        let mut number = steps.len();
+        while number > 1 {
+            number -= 1;
+            kept[number - 1] = self.places_leading_to(
+                &steps[number],
+                &kept[number - 1],
+                &kept[number],
+            )?;
+        }
+        Ok(kept)
+    }
+
+    // Those of some places from which a step leads to one of the places ahead.
+    fn places_leading_to(
+        &self,
+        step: &ParserStep,
+        here: &TaggedMarks<G::Mark>,
+        ahead: &TaggedMarks<G::Mark>,
+    ) -> Result<TaggedMarks<G::Mark>, G::Stop>
+        ensures { IfOk result (λ found. (ls ms : List Location) → AreAt G.located G.stand G.content (G.whole self.now.document) ls here.now → AreAt G.located G.stand G.content (G.whole self.now.document) ms ahead.now
+            → AreAt G.located G.stand G.content (G.whole self.now.document) (leading_to self.now.sets self.now.text.now (G.whole self.now.document) (inner_of step.now.inner) step.now.leaves ms ls) found) }
+    {
+        let count = here.marks.as_slice().len();
+        let starts = self.document.start_of_path(false, here)?.pairs;
+        let next = self.lists_after_inner(&step.inner, step.leaves, count, starts)?;
+        let found = self.keep_standing_among(next, ahead)?;
+        let numbers = tags_where_marks_found(self.alloc, false, count, &found)?;
+        let copies = self.document.start_of_path(false, here)?.pairs;
+        Ok(self.document.keep_at_indexes(copies, numbers.as_slice())?)
+    }
+
+    // The list: after each step go on those marks alone that stand at the places kept.
+    fn lists_among(
+        &self,
+        steps: &[ParserStep],
+        root: &TaggedMarks<G::Mark>,
+        kept: &[TaggedMarks<G::Mark>],
+    ) -> Result<TaggedMarks<G::Mark>, G::Stop>
+        requires { length kept.now ≡ length steps.now }
+        ensures { IfOk result (λ found. IsOrderedDocument (G.whole self.now.document) → (ps : List Tagged) → Shows G.located G.stand G.content (G.whole self.now.document) ps root.now
+            → AreAfterEach G.located G.stand G.content (G.whole self.now.document) (leading_from_root self.now.sets self.now.text.now (G.whole self.now.document) steps.now) kept.now
+            → AreAt G.located G.stand G.content (G.whole self.now.document) (follow self.now.text.now (G.whole self.now.document) (steps_of_list steps.now) ([] ∷ [])) found) }
+    {
+        dropping_repeats_keeps_the_set();
+        equal_locations_are_same();
+        locations_once_in_order_ascend();
+        steps_ignore_order_and_repeats();
+        topmost_descend_to_same_set();
+        what_leads_on_suffices();
+        let mut current = self.document.start_of_path(true, root)?.pairs;
+        for (number, step) in steps.iter().enumerate() {
+            let next = self.lists_after_inner(&step.inner, step.leaves, 1, current)?;
+            current = self.keep_standing_among(next, &kept[number])?;
+        }
+        Ok(current)
+    }
+
+    // The marks, with their tags, that stand at one of the places ahead.
+    fn keep_standing_among(
+        &self,
+        pairs: TaggedMarks<G::Mark>,
+        ahead: &TaggedMarks<G::Mark>,
+    ) -> Result<TaggedMarks<G::Mark>, G::Stop>
+        ensures { IfOk result (λ found. (ps : List Tagged) (ms : List Location) → Shows G.located G.stand G.content (G.whole self.now.document) ps pairs → AreAt G.located G.stand G.content (G.whole self.now.document) ms ahead.now
+            → Shows G.located G.stand G.content (G.whole self.now.document) (filter (λ (p : Tagged). is_among ms p.1) ps) found) }
+    {
+        let numbers = self.document.indexes_standing_among(&pairs, ahead)?;
+        Ok(self.document.keep_at_indexes(pairs, numbers.as_slice())?)
+    }
+}
+
+// Adds the places after one more step.
+fn push_places<M: Drop>(
+    places: TaggedMarks<M>,
+    sets: &mut Vec<TaggedMarks<M>>,
+) -> Result<(), NoMemory>
+    ensures { OnOk result (sets.new.items ≡ sets.old.items ++ places ∷ []) }
+{
+    sets.push(places)?;
+    Ok(())
+}
