@@ -1,6 +1,5 @@
-//! The walk over a path's syntax tree, and which manner of it a path needs.
+//! The walk over a path's syntax tree.
 
-pub(crate) mod choice_of_walk;
 pub(crate) mod follower;
 pub(crate) mod leading_on;
 pub(crate) mod marked;

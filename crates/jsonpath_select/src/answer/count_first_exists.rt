@@ -13,7 +13,7 @@ use crate::error::JsonPathError;
 use crate::error::halt::Halt;
 use crate::laws::each_location_has_a_value;
 use crate::machine::machine::Machine;
-use crate::machine::manner::is_better_by_sets;
+use crate::machine::manner::manner_of_token_list;
 use jsonpath_nodes::laws::{locations_once_in_order_ascend, value_is_document};
 use jsonpath_nodes::{NoMemory, Spot};
 use jsonpath_paths::ParseToken;
@@ -44,7 +44,7 @@ pub(crate) fn exists_by_parts(
     ensures ok { IfOk result (TellsIfAny (Selects path.entry.text.now (document_of (view json.now)))) }
     ensures refused { IfErr result (λ e. e ≡ JsonPathError.OutOfMemory) }
 {
-    if is_better_by_sets(alloc, path.text, path.tokens)? {
+    if manner_of_token_list(alloc, path.text, path.tokens)?.is_better_by_sets() {
         value_is_document(json);
         each_location_has_a_value();
         locations_once_in_order_ascend();

@@ -6,19 +6,18 @@ ghost use Rattle.jsonpath_nodes.specs.place.SpotPlace.{StandAt};
 ghost use Rattle.jsonpath_paths.specs.Listed.{IsListOf, IsListOfText, IsSomePath};
 ghost use Rattle.jsonpath_select.specs.AnyPath.{ArePartsOf};
 ghost use Rattle.jsonpath_select.specs.Meaning.{sel, Selects, SelectsSet, SelectsSpots};
-ghost use Rattle.jsonpath_paths.specs.Spelling.{Spells};
 ghost use Rattle.jsonpath_paths.specs.tree.Tree.{Path};
-ghost use Rattle.jsonpath_paths.specs.tree.View.{path_of};
 
 use crate::answer::of_spots::values_of_selected_spots;
 use crate::compile::any_path::{AnyPath, PathParts};
 use crate::error::JsonPathError;
 use crate::error::halt::Halt;
 use crate::machine::machine::Machine;
+use crate::machine::manner::manner_of_token_list;
 use crate::walk::tree_walk::Walk;
 use jsonpath_nodes::Spot;
 use jsonpath_nodes::laws::spots_show_their_locations;
-use jsonpath_paths::{ParseToken, ParserNode, PathParser};
+use jsonpath_paths::{ParseToken, PathParser};
 use serde_json::Value;
 use std::alloc::Global;
 
@@ -141,49 +140,49 @@ pub(crate) fn spot_set_by_parts<'a>(
     Ok(machine.select_set_by_tokens(path.tokens)?)
 }
 
-// Spots at what the path with this text and tree selects in the value, in the path's order, by the walk along the tree.
-pub(crate) fn spots_by_tree<'a>(
+// Nodes at what the path selects in the value, in the path's order, by the walk over its syntax tree.
+pub(crate) fn spots_by_walk<'a>(
     alloc: Global,
     json: &'a Value,
-    text: &str,
-    tree: &ParserNode,
+    path: PathParts<'_>,
 ) -> Result<Vec<Spot<'a>>, JsonPathError>
-    requires { Spells text.now (path_of tree.now) }
-    ensures ok { IfOk result (λ found. SelectsSpots text.now (document_of (view json.now)) found.items) }
+    requires { ArePartsOf path.text.now path }
+    ensures ok { IfOk result (λ found. SelectsSpots path.entry.text.now (document_of (view json.now)) found.items) }
     ensures refused { IfErr result (λ e. e ≡ JsonPathError.OutOfMemory) }
 {
+    let manner = manner_of_token_list(alloc, path.text, path.tokens)?;
     let walk = Walk {
         alloc,
         root: json,
-        text,
+        text: path.text,
         sets: false,
     };
-    Ok(walk.select_in_order(tree)?)
+    Ok(walk.select_in_order(path.tree, manner)?)
 }
 
-// The values that the path with this text and tree selects in the value, in the path's order, by the walk along the
-// tree. It follows references, and spots only where references can't tell whether a place is met twice.
-pub(crate) fn values_by_tree<'a>(
+// The values that the path selects in the value, in the path's order, by the walk over its syntax tree. It follows
+// references, and nodes only where references can't tell whether a place is met twice.
+pub(crate) fn values_by_walk<'a>(
     alloc: Global,
     json: &'a Value,
-    text: &str,
-    tree: &ParserNode,
+    path: PathParts<'_>,
 ) -> Result<Vec<&'a Value>, JsonPathError>
-    requires { Spells text.now (path_of tree.now) }
-    ensures ok { IfOk result (λ found. Selects text.now (document_of (view json.now)) (map (λ v. document_of (view v.now)) found.items)) }
+    requires { ArePartsOf path.text.now path }
+    ensures ok { IfOk result (λ found. Selects path.entry.text.now (document_of (view json.now)) (map (λ v. document_of (view v.now)) found.items)) }
     ensures refused { IfErr result (λ e. e ≡ JsonPathError.OutOfMemory) }
 {
+    let manner = manner_of_token_list(alloc, path.text, path.tokens)?;
     let walk = Walk {
         alloc,
         root: json,
-        text,
+        text: path.text,
         sets: false,
     };
-    match walk.select_in_order::<&Value>(tree) {
+    match walk.select_in_order::<&Value>(path.tree, manner) {
         Ok(found) => Ok(found),
         Err(Halt::OutOfMemory) => Err(JsonPathError::OutOfMemory),
         Err(Halt::NeedsLocations) => {
-            let spots = spots_by_tree(alloc, json, text, tree)?;
+            let spots = spots_by_walk(alloc, json, path)?;
             let found = values_of_selected_spots(alloc, spots.as_slice())?;
             Ok(found)
         }

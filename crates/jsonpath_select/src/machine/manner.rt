@@ -27,15 +27,14 @@ impl Manner {
     }
 }
 
-// Whether what the path with this token list selects is better found by sets.
-pub(crate) fn is_better_by_sets(
+// The manner of the path with this token list, whose names stand in the text.
+pub(crate) fn manner_of_token_list(
     alloc: Global,
     text: &str,
     tokens: &[ParseToken],
-) -> Result<bool, NoMemory> {
+) -> Result<Manner, NoMemory> {
     let code = instructions_of_token_list(alloc, tokens)?;
-    let manner = manner_of(alloc, text, code.as_slice())?;
-    Ok(manner.is_better_by_sets())
+    manner_of(alloc, text, code.as_slice())
 }
 
 // The manner of the path with these instructions, whose names stand in the text.

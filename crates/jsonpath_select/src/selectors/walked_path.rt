@@ -2,7 +2,7 @@
 ghost use Rattle.std.specs.Prelude.{◌≡◌};
 ghost use Rattle.jsonpath_select.specs.selectors.Held.{text_held};
 
-use crate::answer::select::{spots_by_tree, values_by_tree};
+use crate::answer::select::{spots_by_walk, values_by_walk};
 use crate::compile::any_path::{AnyPath, PathParts};
 use crate::compile::node::Node;
 use crate::error::JsonPathError;
@@ -45,8 +45,7 @@ impl<'b> AnyPath for WalkedPath<'b> {
     }
 
     fn select<'v>(&self, alloc: Global, value: &'v Value) -> Result<Vec<&'v Value>, JsonPathError> {
-        let node = self.node();
-        values_by_tree(alloc, value, node.text(), node.tree())
+        values_by_walk(alloc, value, self.parts())
     }
 
     fn select_spots<'v>(
@@ -54,8 +53,7 @@ impl<'b> AnyPath for WalkedPath<'b> {
         alloc: Global,
         value: &'v Value,
     ) -> Result<Vec<Spot<'v>>, JsonPathError> {
-        let node = self.node();
-        spots_by_tree(alloc, value, node.text(), node.tree())
+        spots_by_walk(alloc, value, self.parts())
     }
 }
 

@@ -1,33 +1,24 @@
 //! The walk: what a path's syntax tree selects in a document, each step applied to the nodes that the steps before it
 //! lead to.
 
-ghost use Rattle.std.specs.Prelude.{◌≡◌, [], map, IfOk};
+ghost use Rattle.std.specs.Prelude.{◌≡◌, [], IfOk};
 ghost use Rattle.serde_json.specs.View.{view};
 ghost use Rattle.jsonpath_nodes.specs.document.OfData.{document_of};
 ghost use Rattle.jsonpath_paths.specs.tree.View.{path_of};
 ghost use Rattle.jsonpath_nodes.specs.place.Mark.{MarksStandAt};
-ghost use Rattle.jsonpath_nodes.specs.place.Order.{once_in_order};
-ghost use Rattle.jsonpath_nodes.specs.place.SpotPlace.{location_of};
 ghost use Rattle.jsonpath_select.specs.Meaning.{sel};
 ghost use Rattle.jsonpath_select.specs.plan.Manner.{reached_in};
 
-use crate::laws::dropping_repeats_keeps_the_set;
+use crate::machine::manner::Manner;
 use crate::step::carried_mark::Carried;
 use crate::tagged::start_of_paths::root_shared_by_candidates;
-use crate::walk::choice_of_walk::Choice;
 use crate::walk::follower::Follower;
 use crate::walk::marked::MarkedValue;
-use jsonpath_nodes::laws::{
-    locations_once_in_order_ascend, topmost_descend_to_same_set, value_is_document,
-};
-use jsonpath_nodes::{NoMemory, Spot};
+use jsonpath_nodes::laws::value_is_document;
 use jsonpath_paths::ParserNode;
 use serde_json::Value;
 use std::alloc::Global;
 use std::marker::PhantomData;
-
-// With so many steps that can repeat, what leads to nothing is not followed.
-const MANY: usize = 3;
 
 // The walk: the document that a path is followed in, the path's text, and the manner: of sets, where after each step
 // each location stands once, in document order, or of lists, where repeats stay.
@@ -83,22 +74,19 @@ impl<'a, 't> Walk<'a, 't> {
         }
     }
 
-    // Marks at what a path selects in the document, in the path's order, with its repeats. Where three of its steps or
-    // more can lead to one place more than once, or conditions are better decided by sets, nothing is followed that leads
-    // to nothing.
+    // Marks at what a path of this manner selects in the document, in the path's order, with its repeats.
     pub(crate) fn select_in_order<M: Carried<'a>>(
         &self,
         path: &ParserNode,
+        manner: Manner,
     ) -> Result<Vec<M>, M::Stop>
         ensures { IfOk result (λ found. MarksStandAt M.located M.stand M.content (document_of (view self.now.root.now)) (sel self.now.text.now (document_of (view self.now.root.now)) (path_of path.now)) found.items) }
     {
-        let choice = Choice {
-            alloc: self.alloc,
-            text: self.text,
-        };
-        let sets = choice.has_filter_better_by_sets(path)?;
-        if sets || choice.has_repeating_steps(path, MANY)? {
-            let walk = Walk { sets, ..*self };
+        if manner.decides_by_sets || manner.keeps_what_leads_on() {
+            let walk = Walk {
+                sets: manner.decides_by_sets,
+                ..*self
+            };
             return walk.select_keeping_what_leads_on(path);
         }
         let of_lists = Walk {
@@ -106,20 +94,5 @@ impl<'a, 't> Walk<'a, 't> {
             ..*self
         };
         of_lists.select(path)
-    }
-
-    // Spots at what a path selects in the document, each location once.
-    pub(crate) fn select_spot_set(&self, path: &ParserNode) -> Result<Vec<Spot<'a>>, NoMemory>
-        ensures { IfOk result (λ found. once_in_order (map location_of found.items) ≡ once_in_order (sel self.now.text.now (document_of (view self.now.root.now)) (path_of path.now))) }
-    {
-        value_is_document(self.root);
-        locations_once_in_order_ascend();
-        topmost_descend_to_same_set();
-        dropping_repeats_keeps_the_set();
-        let of_sets = Walk {
-            sets: true,
-            ..*self
-        };
-        of_sets.select(path)
     }
 }
