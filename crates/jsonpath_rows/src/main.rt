@@ -1,5 +1,5 @@
 //! Replays the rows of the files on its command line through `run`, those that select also through `JsonSelector`,
-//! `Selector` (its values and its nodes) and `select_tokens`, and prints which of them pass. A file has a row as JSON on
+//! `Selector` (its values and its nodes), `select_tokens` and `select_path_in_any_order`, and prints which of them pass. A file has a row as JSON on
 //! each line.
 #![tactic(auto)]
 
@@ -33,6 +33,7 @@ fn replay(rt: &HostRuntime, file: &str) -> Result<bool> {
         Method::Selector,
         Method::SelectorSpots,
         Method::TokenList,
+        Method::Set,
     ] {
         holds = replay_selecting(rt, file, rows.as_slice(), way)? && holds;
     }

@@ -1,9 +1,9 @@
 //! The answers to a row that selects, each by another way.
 use crate::row::Row;
-use jsonpath_nodes::Spot;
+use jsonpath_nodes::{Spot, in_document_order};
 use jsonpath_select::{
     JsonPathError, JsonSelector, Parser, Selector, compile_path, list_to_text, read_document,
-    select_tokens, tokens_fit,
+    select_path_in_any_order, select_tokens, tokens_fit,
 };
 use serde_json::Value;
 use std::alloc::Global;
@@ -20,6 +20,8 @@ pub enum Method {
     SelectorSpots,
     /// Selects by `tokens_fit` and `select_tokens` on the path's token list.
     TokenList,
+    /// Selects nodes by a `Selector`; `select_path_in_any_order` has to select the same set.
+    Set,
 }
 
 impl Method {
@@ -30,6 +32,7 @@ impl Method {
             Method::Selector => "Selector",
             Method::SelectorSpots => "Selector's spots",
             Method::TokenList => "select_tokens",
+            Method::Set => "select_path_in_any_order",
         }
     }
 }
@@ -60,6 +63,7 @@ fn answer(alloc: Global, path: &str, input: &str, way: Method) -> Result<String,
         Method::Selector => by_selector(alloc, path, input),
         Method::SelectorSpots => by_spots(alloc, path, input),
         Method::TokenList => by_token_list(alloc, path, input),
+        Method::Set => by_set(alloc, path, input),
     }
 }
 
@@ -96,6 +100,32 @@ fn by_token_list(alloc: Global, path: &str, input: &str) -> Result<String, JsonP
     }
     let spots = select_tokens(alloc, &document, path, tokens)?;
     text_of(alloc, spots.as_slice())
+}
+
+// Two evaluators, one by sets and one by lists, have to find the same set of locations.
+fn by_set(alloc: Global, path: &str, input: &str) -> Result<String, JsonPathError> {
+    let compiled = compile_path(alloc, path)?;
+    let document = read_document(alloc, input.as_bytes())?;
+    let set = select_path_in_any_order(alloc, &document, &compiled)?;
+    let node = Parser::compile(alloc, path)?;
+    let mut selector = Selector::new();
+    selector.compiled_path(&node);
+    let spots = selector.value(&document).select_spots(alloc)?;
+    if locations_text(alloc, set.as_slice())? != locations_text(alloc, spots.as_slice())? {
+        return Err(JsonPathError::EmptyPath);
+    }
+    text_of(alloc, spots.as_slice())
+}
+
+// The locations of spots, each once, in document order, one on a line.
+fn locations_text(alloc: Global, spots: &[Spot<'_>]) -> Result<String, JsonPathError> {
+    let mut text = String::new(alloc);
+    for spot in in_document_order(alloc, spots)?.iter() {
+        let location = spot.location(alloc)?.to_string(alloc)?;
+        text.push_str(location.as_str())?;
+        text.push('\n')?;
+    }
+    Ok(text)
 }
 
 // The text of the values at spots.

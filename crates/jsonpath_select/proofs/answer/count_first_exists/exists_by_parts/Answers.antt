@@ -6,8 +6,8 @@ use Rattle.jsonpath_select.specs.Meaning.{answer, sel}
 use Rattle.jsonpath_select.proofs.answer.FirstLemmas.{any_answered, some_answered}
 use Rattle.jsonpath_select.proofs.answer.count_first_exists.exists_by_parts.Goals as goal
 
-pub returns-then-branch-clause-ok : goal.returns-then-branch-clause-ok
-returns-then-branch-clause-ok c =
+pub returns-then-is_better_by_sets-clause-ok : goal.returns-then-is_better_by_sets-clause-ok
+returns-then-is_better_by_sets-clause-ok c =
     let text = c.args.path.text.now in
     let doc = value_document c.args.json.now in
     let set = c.in_ok-set.ensures.ok in (
