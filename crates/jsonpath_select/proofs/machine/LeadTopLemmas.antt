@@ -1,15 +1,14 @@
 -- Instructions that lead what is on top of the operands, and those by which each location is decided once.
-use Rattle.std.proofs.Common.{◌≡◌, ℕ, Bool, List, [], ◌∷◌, ◌++◌, map, Some, refl, sym, ap, ◌∙◌, subst}
-use Rattle.std.proofs.lemmas.List.{same_from_push}
+use Rattle.std.proofs.Common.{◌≡◌, ℕ, Bool, List, [], ◌∷◌, ◌++◌, Some, refl, sym, ◌∙◌, subst}
 use Rattle.jsonpath_nodes.specs.document.Document.{Document}
 use Rattle.jsonpath_nodes.specs.place.Location.{Location}
 use Rattle.jsonpath_nodes.specs.place.Mark.{MarksStandAt}
 use Rattle.jsonpath_nodes.specs.place.Order.{once_in_order}
-use Rattle.jsonpath_select.specs.plan.Code.{Instruction, distinct, put_back}
-use Rattle.jsonpath_select.specs.plan.Machine.{State, of_path, tagged, places, one, inside, on_operands, top_led, put_aside, kept_among}
+use Rattle.jsonpath_select.specs.plan.Code.{Instruction, put_back}
+use Rattle.jsonpath_select.specs.plan.Machine.{State, of_path, places, one, inside, on_operands, top_led, put_aside, kept_among}
 use Rattle.jsonpath_select.specs.plan.Machine as machine
 use Rattle.jsonpath_select.specs.plan.Shown.{Shows}
-use Rattle.jsonpath_select.specs.plan.Stack.{found_on, CanExecute, CanLeadTop, EndsInMarks, EndsInOne, Executes, LeadsTop, ShowsFound, ShowsOperand, ShowsOperands, ShowsFrames, ShowsState, ShowsStacks}
+use Rattle.jsonpath_select.specs.plan.Stack.{found_on, CanExecute, CanLeadTop, EndsInMarks, EndsInOne, Executes, LeadsTop, ShowsFound, ShowsOperands, ShowsFrames, ShowsState, ShowsStacks}
 use Rattle.jsonpath_select.specs.plan.Standing.{for_all}
 use Rattle.jsonpath_select.specs.declared.machine.stacks.Stacks.{Stacks}
 use Rattle.jsonpath_select.specs.declared.tagged.marks.TaggedMarks.{TaggedMarks}

@@ -10,9 +10,9 @@ use Rattle.jsonpath_nodes.specs.place.NumbersWhere.{numbers_where}
 use Rattle.jsonpath_nodes.specs.place.Order.{once_in_order}
 use Rattle.jsonpath_nodes.specs.step.SameMembers.{SomeOfASet, topmost}
 use Rattle.jsonpath_select.specs.Meaning.{has_own_step}
-use Rattle.jsonpath_select.specs.plan.Code.{Instruction, path_code, steps_code, inner_code, condition_code, term_code, start, plain_step, enter, leave, constant, compares, joins, in_order, distinct, put_back, by_sets, all_by_sets}
-use Rattle.jsonpath_select.specs.plan.Machine.{Tagged, tagged, places, spread, each_tag, Found, list_count_for_candidates, starts, itself, Operand, of_path, tags, State, run_all, as_tags, is_side, stepped, gathered, entered, kept_by_number, kept_among}
-use Rattle.jsonpath_select.specs.plan.Manner.{reached_in, follow_in, inner_in, holds_in, values_in, lessened, descent_starts}
+use Rattle.jsonpath_select.specs.plan.Code.{Instruction, path_code, steps_code, inner_code, condition_code, term_code, start, plain_step, enter, leave, compares, joins, in_order, distinct, put_back, by_sets, all_by_sets}
+use Rattle.jsonpath_select.specs.plan.Machine.{Tagged, tagged, places, spread, each_tag, Found, list_count_for_candidates, starts, itself, Operand, of_path, tags, State, run_all, as_tags, is_side, stepped, gathered, entered, kept_by_number}
+use Rattle.jsonpath_select.specs.plan.Manner.{reached_in, follow_in, inner_in, holds_in, values_in, lessened}
 use Rattle.jsonpath_select.proofs.machine.BySetsLemmas.{sets-append}
 use Rattle.jsonpath_select.proofs.tagged.DistinctLemmas.{decided_once}
 use Rattle.jsonpath_select.proofs.tagged.TagLemmas.{path_from, path_tags, term_from, list_count_for_candidates-starts, each_tag-spread, compared-terms, joined-chosen, kept-chosen, filter-spread}

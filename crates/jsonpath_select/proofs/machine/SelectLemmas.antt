@@ -3,11 +3,10 @@ use Rattle.std.proofs.Common.{◌≡◌, ℕ, ◌≤◌, ◌-◌, true, false, L
 use Rattle.std.proofs.lemmas.List.{take_rest}
 use Rattle.jsonpath_nodes.specs.document.Document.{Document}
 use Rattle.jsonpath_paths.specs.tree.Tree.{Path, path, PathSteps}
-use Rattle.jsonpath_paths.specs.tree.WellFormed.{IsPath}
 use Rattle.jsonpath_paths.specs.declared.token.tokens.ParseToken.{ParseToken}
 use Rattle.jsonpath_paths.specs.Listed.{IsListOf}
 use Rattle.jsonpath_select.specs.Meaning.{sel, follow}
-use Rattle.jsonpath_select.specs.plan.Code.{path_code, scan}
+use Rattle.jsonpath_select.specs.plan.Code.{scan}
 use Rattle.jsonpath_select.specs.plan.NextFilter.{CodesPath, CodesSteps}
 use Rattle.jsonpath_select.specs.plan.Ordered.{instruction_of}
 use Rattle.jsonpath_select.specs.declared.machine.instruction.Instruction.{Instruction}

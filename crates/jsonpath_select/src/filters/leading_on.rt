@@ -1,7 +1,7 @@
 //! Paths of several steps that can reach a node more than once: after each step only those nodes are kept from which the
 //! steps behind it lead to something, so that no repeats are carried on that lead to nothing.
 
-ghost use Rattle.std.specs.Prelude.{◌≤◌, ◌<◌, [], List, drop, filter, length, take, false, IfOk};
+ghost use Rattle.std.specs.Prelude.{◌≤◌, ◌<◌, List, drop, filter, length, take, false, IfOk};
 ghost use Rattle.serde_json.specs.View.{view};
 ghost use Rattle.jsonpath_nodes.specs.document.OfData.{document_of};
 ghost use Rattle.jsonpath_nodes.specs.place.Location.{Location};

@@ -1,7 +1,7 @@
 //! The instructions by which a path, or a condition, is evaluated by sets: those of its token list, and between them such
 //! as make a set of what a step has found, and decide each location once.
 
-ghost use Rattle.std.specs.Prelude.{◌≡◌, ◌++◌, ◌∷◌, [], map, OnOk, IfOk};
+ghost use Rattle.std.specs.Prelude.{◌≡◌, ◌++◌, map, OnOk, IfOk};
 ghost use Rattle.jsonpath_paths.specs.tree.Tree.{Condition};
 ghost use Rattle.jsonpath_select.specs.plan.Code.{all_by_sets, before_step, by_sets, condition_code, decided_by_sets};
 ghost use Rattle.jsonpath_select.specs.plan.NextFilter.{CodesCondition};
