@@ -151,10 +151,6 @@ steps_next sets text doc ss i s ls all within is follows =
 pub shared_is : (sets : Bool) (text : List ℕ) (doc : Document) (n : ParserNode) (cs : List Location) → (out-ParserNode n).absolute ≡ (found_in sets text doc (path_of n) cs).shared
 shared_is sets text doc n cs = sym (ap (λ (p : Path). (found_in sets text doc p cs).shared) (path_of_out n))
 
-pub alone_in : (sets : Bool) (text : List ℕ) (doc : Document) (p : Path) → places (found_in sets text doc p ([] ∷ [])).pairs ≡ reached_in sets text doc p []
-alone_in sets text doc (path true ss) = places_alone 0 (reached_in sets text doc (path true ss) [])
-alone_in sets text doc (path false ss) = places_alone 0 (reached_in sets text doc (path false ss) [])
-
 -- ---- marks
 
 module _ {M : Type 0} (located : Bool) (stand_of : M → Location) (content_of : M → Document) where

@@ -1,4 +1,4 @@
-use Rattle.std.proofs.Common.{List, drop, sym, subst}
+use Rattle.std.proofs.Common.{List, sym, subst}
 use Rattle.std.proofs.lemmas.List.{take_rest}
 use Rattle.jsonpath_select.specs.plan.NextFilter.{CodesSteps, later_steps}
 use Rattle.jsonpath_select.specs.declared.machine.instruction.Instruction.{Instruction}

@@ -1,4 +1,4 @@
-use Rattle.std.proofs.Common.{◌≡◌, ◌≤◌, ◌-◌, ◌++◌, [], ◌∷◌, List, length, map, take, sym, ap, ◌∙◌, append_assoc, append-nil, drop_of_length-le, drop}
+use Rattle.std.proofs.Common.{◌≡◌, ◌≤◌, ◌-◌, ◌++◌, [], ◌∷◌, List, length, map, take, sym, ap, ◌∙◌, append_assoc, append-nil, drop_of_length-le}
 use Rattle.std.proofs.lemmas.List.{map-append, take-append-drop}
 use Rattle.jsonpath_select.specs.plan.Code as code
 use Rattle.jsonpath_select.specs.plan.Code.{all_by_sets, distinct, leave, put_back}

@@ -3,7 +3,7 @@ use Rattle.std.specs.Prelude.{filter}
 use Rattle.jsonpath_nodes.specs.document.OfData.{value_document}
 use Rattle.jsonpath_nodes.specs.place.Location.{Location}
 use Rattle.jsonpath_nodes.specs.place.Mark.{MarksStandAt}
-use Rattle.jsonpath_paths.specs.tree.Tree.{lone, path, PathSteps}
+use Rattle.jsonpath_paths.specs.tree.Tree.{lone, path}
 use Rattle.jsonpath_select.specs.Meaning.{holds}
 use Rattle.jsonpath_select.specs.plan.NextFilter.{CodesCondition}
 use Rattle.jsonpath_select.specs.declared.machine.instruction.Instruction.{Instruction}

@@ -2,7 +2,7 @@ use Rattle.std.proofs.Common.{◌≡◌, ◌==◌, suc, true, false, List, [], �
 use Rattle.std.proofs.Math.Dec.{eqb-suc-zero}
 use Rattle.std.specs.Prelude.{filter}
 use Rattle.jsonpath_nodes.specs.document.OfData.{value_document}
-use Rattle.jsonpath_paths.specs.tree.Tree.{PathSteps, lone, path}
+use Rattle.jsonpath_paths.specs.tree.Tree.{lone, path}
 use Rattle.jsonpath_nodes.specs.place.Location.{Location}
 use Rattle.jsonpath_nodes.specs.place.Mark.{MarksStandAt}
 use Rattle.jsonpath_select.specs.Meaning.{follow, holds}
