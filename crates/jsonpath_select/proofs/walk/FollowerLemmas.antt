@@ -1,21 +1,12 @@
 -- The walk: lists of candidates at a time lead where the meaning in the manner told leads from each.
-use Rattle.std.proofs.Common.{◌≡◌, ℕ, suc, ◌≤◌, Bool, true, false, cond, ◌&&◌, ◌||◌, List, [], ◌∷◌, ◌++◌, length, map, drop, Equal, refl, sym, ap, ap₂, subst, ◌∙◌, append-nil, append_assoc, drop_of_length-le, drop-cons, get_or, Option, ◌+◌, ◌<◌, ◌==◌, ◌≢◌, ne_eqb, arith, add-one}
-use Rattle.std.proofs.Math.Bool.{and-true, or-true}
-use Rattle.std.proofs.lemmas.Cmp.{tied_itself}
-use Rattle.std.proofs.lemmas.List.{map-id}
-use mathlib.Core.List.{map-map}
+use Rattle.std.proofs.Common.{◌≡◌, ℕ, suc, ◌≤◌, Bool, true, false, cond, List, [], ◌∷◌, ◌++◌, length, drop, refl, sym, ap, ap₂, subst, ◌∙◌, drop_of_length-le, drop-cons, get_or, ◌+◌, ◌<◌, ◌==◌, ◌≢◌, ne_eqb, arith, add-one}
 use Rattle.std.specs.Prelude.{filter}
-use Rattle.std.specs.List.{AllByRecursion, list_any}
 use Rattle.jsonpath_nodes.specs.document.Document.{Document}
 use Rattle.jsonpath_paths.specs.tree.Tree.{Path, path, Inner, Condition, Term}
 use Rattle.jsonpath_paths.specs.tree.Tree as tree
 use Rattle.jsonpath_paths.specs.declared.token.tokens.FilterToken.{FilterToken}
-use Rattle.jsonpath_nodes.specs.DocumentLaws.{OnceInOrderKeepsMembers}
-use Rattle.jsonpath_nodes.specs.place.Location.{Location, location_cmp, is_same}
+use Rattle.jsonpath_nodes.specs.place.Location.{Location}
 use Rattle.jsonpath_nodes.specs.place.NumbersWhere.{numbers_where}
-use Rattle.jsonpath_nodes.specs.place.Order.{location_total, once_in_order}
-use Rattle.jsonpath_nodes.specs.place.SpotPlace.{StandAt, look, location_of, sight_of}
-use Rattle.jsonpath_nodes.specs.step.SameMembers.{SomeOfASet}
 use Rattle.jsonpath_nodes.specs.step.Steps.{every, step, all_below, flattened}
 use Rattle.jsonpath_select.specs.Meaning.{is_some_location, has_own_step, candidates}
 use Rattle.jsonpath_select.specs.plan.Machine.{Tagged, tagged, places, each_tag, spread, starts, itself, found_tags, kept_by_number, compared, gathered, entered}
@@ -23,7 +14,6 @@ use Rattle.jsonpath_select.specs.plan.Manner.{lessened, descent, reached_in, fol
 use Rattle.jsonpath_select.specs.plan.Walk.{led_in, step_in, set_after, found_in, term_in}
 use Rattle.jsonpath_select.specs.plan.Shown.{Shows, tags_of}
 use Rattle.jsonpath_select.specs.declared.tagged.marks.TaggedMarks.{TaggedMarks}
-use Rattle.jsonpath_nodes.specs.declared.place.spot.Spot.{Spot}
 use Rattle.jsonpath_paths.specs.tree.View.{path_of, inner_of, steps_of_list, path_of_out}
 use Rattle.jsonpath_paths.specs.declared.tree.parser_node.ParserNode.{ParserNode, out-ParserNode}
 use Rattle.jsonpath_paths.specs.declared.tree.parser_node.ParserStep.{ParserStep}
@@ -31,7 +21,7 @@ use Rattle.jsonpath_select.proofs.tagged.DistinctLemmas.{tagged-filter}
 use Rattle.jsonpath_select.proofs.tagged.GroupLemmas.{places_tagged}
 use Rattle.jsonpath_select.proofs.walk.MarkLemmas.{length-marks}
 use Rattle.jsonpath_select.proofs.machine.RunLemmas.{entered-spread}
-use Rattle.jsonpath_select.proofs.tagged.TagLemmas.{path_tags, term_from, compared-terms, kept-chosen, each_tag-spread, places_alone, filter-tagged, filter-spread}
+use Rattle.jsonpath_select.proofs.tagged.TagLemmas.{path_tags, term_from, compared-terms, kept-chosen, each_tag-spread, filter-spread}
 
 -- ---- lists for each candidate
 
