@@ -21,7 +21,7 @@ use Rattle.jsonpath_select.proofs.tagged.DistinctLemmas.{tagged-filter}
 use Rattle.jsonpath_select.proofs.tagged.GroupLemmas.{places_tagged}
 use Rattle.jsonpath_select.proofs.walk.MarkLemmas.{length-marks}
 use Rattle.jsonpath_select.proofs.machine.RunLemmas.{entered-spread}
-use Rattle.jsonpath_select.proofs.tagged.TagLemmas.{path_tags, term_from, compared-terms, kept-chosen, each_tag-spread, places_alone, filter-spread}
+use Rattle.jsonpath_select.proofs.tagged.TagLemmas.{path_tags, term_from, compared-terms, kept-chosen, each_tag-spread, filter-spread}
 
 -- ---- lists for each candidate
 
@@ -140,10 +140,6 @@ steps_next sets text doc ss i s ls all within is follows =
 
 pub shared_is : (sets : Bool) (text : List ℕ) (doc : Document) (n : ParserNode) (cs : List Location) → (out-ParserNode n).absolute ≡ (found_in sets text doc (path_of n) cs).shared
 shared_is sets text doc n cs = sym (ap (λ (p : Path). (found_in sets text doc p cs).shared) (path_of_out n))
-
-pub alone_in : (sets : Bool) (text : List ℕ) (doc : Document) (p : Path) → places (found_in sets text doc p ([] ∷ [])).pairs ≡ reached_in sets text doc p []
-alone_in sets text doc (path true ss) = places_alone 0 (reached_in sets text doc (path true ss) [])
-alone_in sets text doc (path false ss) = places_alone 0 (reached_in sets text doc (path false ss) [])
 
 -- ---- marks
 

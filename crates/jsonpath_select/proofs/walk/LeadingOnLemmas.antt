@@ -73,7 +73,23 @@ next_set sets text doc [] n s within is ls = absurd (omega arith)
 next_set sets text doc (x ∷ ss) zero s within is ls = ap (λ (y : ParserStep). set_after sets text doc (inner_of y.inner) y.leaves ls) (sym is)
 next_set sets text doc (x ∷ ss) (suc n) s within is ls = next_set sets text doc ss n s (omega arith) is (set_after sets text doc (inner_of x.inner) x.leaves ls)
 
+pub step_left : (ss : List ParserStep) (n : ℕ) (s : ParserStep) → n < length ss → s ≡ get_or ss n s → drop n ss ≡ s ∷ drop (suc n) ss
+step_left ss n s within is = drop-cons ss n s within ∙ ap (λ (x : ParserStep). x ∷ drop (suc n) ss) (sym is)
+
 -- ---- one step
+
+-- a step is what it means, in whichever manner conditions are decided
+module _ (keeps : OnceInOrderKeepsMembers) (below : BelowOfTheTopmost) (alike : HoldsAlike) (sets : Bool) (text : List ℕ) (doc : Document) (ordered : IsOrderedDocument doc) where
+  holds_alike : (f : Condition) (c : Location) → holds_in sets text doc f c ≡ holds text doc f c
+  holds_alike f c = by sets
+    where
+      by : (b : Bool) → holds_in b text doc f c ≡ holds text doc f c
+      by true = alike (lessened true) (descent true doc) text doc f c keeps (λ ms. below doc ms ordered)
+      by false = lists_hold text doc f c
+
+  pub led_is : (inner : Inner) (leaves : Bool) (ls : List Location) → led_in sets text doc inner leaves ls ≡ inner_on text doc inner leaves ls
+  led_is (tree.plain token) leaves ls = refl
+  led_is (tree.filter f) leaves ls = λ i. filter (λ c. holds_alike f c i) (candidates doc f (cond leaves (step doc every (all_below doc ls)) ls))
 
 -- what is known of sets, and that conditions hold alike in the manner told
 module _ (apart : (l m : Location) → location_cmp l m ≡ Equal → l ≡ m) (keeps : OnceInOrderKeepsMembers) (once_same : EachOnceKeepsMembers) (some_same : SomeOfASet) (step_same : StepOfASet) (flat_same : CandidatesOfASet) (kept_same : KeptOfASet) (below : BelowOfTheTopmost) (lower : DescentOfTheTopmost) (alike : HoldsAlike)
@@ -94,16 +110,8 @@ module _ (apart : (l m : Location) → location_cmp l m ≡ Equal → l ≡ m) (
       by true passes some later = any_at P l ms all.0 passes
       by false passes some later = later some
 
-  holds_alike : (f : Condition) (c : Location) → holds_in sets text doc f c ≡ holds text doc f c
-  holds_alike f c = by sets
-    where
-      by : (b : Bool) → holds_in b text doc f c ≡ holds text doc f c
-      by true = alike (lessened true) (descent true doc) text doc f c keeps (λ ms. below doc ms ordered)
-      by false = lists_hold text doc f c
-
-  led_is : (inner : Inner) (leaves : Bool) (ls : List Location) → led_in sets text doc inner leaves ls ≡ inner_on text doc inner leaves ls
-  led_is (tree.plain token) leaves ls = refl
-  led_is (tree.filter f) leaves ls = λ i. filter (λ c. holds_alike f c i) (candidates doc f (cond leaves (step doc every (all_below doc ls)) ls))
+  is_led : (inner : Inner) (leaves : Bool) (ls : List Location) → led_in sets text doc inner leaves ls ≡ inner_on text doc inner leaves ls
+  is_led = led_is keeps below alike sets text doc ordered
 
   topmost_same : (inner : Inner) (leaves : Bool) (ls : List Location) → SameMembers (inner_on text doc inner leaves (cond leaves (topmost ls) ls)) (inner_on text doc inner leaves ls)
   topmost_same inner false ls = same-itself (inner_on text doc inner false ls)
@@ -119,7 +127,7 @@ module _ (apart : (l m : Location) → location_cmp l m ≡ Equal → l ≡ m) (
   after_same inner leaves ls =
       same-trans (set_after sets text doc inner leaves ls) (led_in sets text doc inner leaves (cond leaves (topmost ls) ls)) (inner_on text doc inner leaves ls)
       (keeps (led_in sets text doc inner leaves (cond leaves (topmost ls) ls)))
-      (subst (λ (ms : List Location). SameMembers ms (inner_on text doc inner leaves ls)) (sym (led_is inner leaves (cond leaves (topmost ls) ls))) (topmost_same inner leaves ls))
+      (subst (λ (ms : List Location). SameMembers ms (inner_on text doc inner leaves ls)) (sym (is_led inner leaves (cond leaves (topmost ls) ls))) (topmost_same inner leaves ls))
 
   -- from places of a set a step leads to places of the next set
   step_within : (inner : Inner) (leaves : Bool) (ls all : List Location) → AllByRecursion (IsThere all) ls → AllByRecursion (IsThere (set_after sets text doc inner leaves all)) (inner_on text doc inner leaves ls)
@@ -139,9 +147,6 @@ module _ (apart : (l m : Location) → location_cmp l m ≡ Equal → l ≡ m) (
 
   -- ---- the steps of a path
 
-  step_left : (ss : List ParserStep) (n : ℕ) (s : ParserStep) → n < length ss → s ≡ get_or ss n s → drop n ss ≡ s ∷ drop (suc n) ss
-  step_left ss n s within is = drop-cons ss n s within ∙ ap (λ (x : ParserStep). x ∷ drop (suc n) ss) (sym is)
-
   module _ (ss : List ParserStep) (n : ℕ) (s : ParserStep) (within : n < length ss) (is : s ≡ get_or ss n s) where
     abbrev here : List Location
     here = set_from_root sets text doc ss n
@@ -156,7 +161,7 @@ module _ (apart : (l m : Location) → location_cmp l m ≡ Equal → l ≡ m) (
     led_among : (ls : List Location) → AllByRecursion (IsThere here) ls
         → filter (is_among (leading_from_root sets text doc ss (suc n))) (led_in sets text doc (inner_of s.inner) s.leaves ls) ≡ filter (leads_on text doc ss (suc n)) (inner_on text doc (inner_of s.inner) s.leaves ls)
     led_among ls inside =
-        ap₂ (λ (ms ns : List Location). filter (is_among ms) ns) kept_ahead (led_is (inner_of s.inner) s.leaves ls)
+        ap₂ (λ (ms ns : List Location). filter (is_among ms) ns) kept_ahead (is_led (inner_of s.inner) s.leaves ls)
         ∙ among_kept (leads_on text doc ss (suc n)) ahead (inner_on text doc (inner_of s.inner) s.leaves ls) (step_within (inner_of s.inner) s.leaves ls here inside)
 
     leads_from : (c : Location) → IsThere here c → is_some_location (filter (is_among (leading_from_root sets text doc ss (suc n))) (led_in sets text doc (inner_of s.inner) s.leaves (c ∷ []))) ≡ leads_on text doc ss n c

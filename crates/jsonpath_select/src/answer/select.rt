@@ -155,9 +155,9 @@ pub(crate) fn spots_by_walk<'a>(
         alloc,
         root: json,
         text: path.text,
-        sets: false,
+        sets: manner.decides_by_sets,
     };
-    Ok(walk.select_in_order(path.tree, manner)?)
+    Ok(walk.select_list(manner.keeps_what_leads_on(), path.tree)?)
 }
 
 // The values that the path selects in the value, in the path's order, by the walk over its syntax tree. It follows
@@ -176,9 +176,9 @@ pub(crate) fn values_by_walk<'a>(
         alloc,
         root: json,
         text: path.text,
-        sets: false,
+        sets: manner.decides_by_sets,
     };
-    match walk.select_in_order::<&Value>(path.tree, manner) {
+    match walk.select_list::<&Value>(manner.keeps_what_leads_on(), path.tree) {
         Ok(found) => Ok(found),
         Err(Halt::OutOfMemory) => Err(JsonPathError::OutOfMemory),
         Err(Halt::NeedsLocations) => {

@@ -1,5 +1,6 @@
-//! What a path selects, where the walk follows nothing that leads to nothing: one pass forward finds the set of the
-//! places after each step, and one pass back those of them from which the later steps lead somewhere.
+//! What a path selects from the root, as a list. Where the walk follows nothing that leads to nothing, one pass forward
+//! finds the set of the places after each step, and one pass back those of them from which the later steps lead
+//! somewhere.
 
 ghost use Rattle.std.specs.Prelude.{◌≡◌, ◌++◌, ◌∷◌, [], List, length, filter, IfOk, OnOk};
 ghost use Rattle.jsonpath_paths.specs.tree.View.{inner_of, path_of, steps_of_list};
@@ -24,17 +25,39 @@ use jsonpath_paths::{ParserNode, ParserStep};
 
 impl<'t, G: Marked> Follower<'t, G> {
     // What a path selects from the root, in the path's order, with its repeats.
-    pub(crate) fn lists_keeping_what_leads_on(
+    pub(crate) fn lists_from_root(
         &self,
+        keeps_what_leads_on: bool,
         path: &ParserNode,
         root: &TaggedMarks<G::Mark>,
     ) -> Result<TaggedMarks<G::Mark>, G::Stop>
         ensures { IfOk result (λ found. IsOrderedDocument (G.whole self.now.document) → (ps : List Tagged) → Shows G.located G.stand G.content (G.whole self.now.document) ps root.now → AreAt G.located G.stand G.content (G.whole self.now.document) (sel self.now.text.now (G.whole self.now.document) (path_of path.now)) found) }
     {
         let steps = path.steps.as_slice();
+        if !keeps_what_leads_on {
+            return self.lists_after_steps(steps, root);
+        }
         let sets = self.sets_after_each_step(steps, root)?;
         let kept = self.keep_what_leads_on(steps, sets)?;
         self.lists_among(steps, root, kept.as_slice())
+    }
+
+    // Where the steps lead from the root, one after the other.
+    fn lists_after_steps(
+        &self,
+        steps: &[ParserStep],
+        root: &TaggedMarks<G::Mark>,
+    ) -> Result<TaggedMarks<G::Mark>, G::Stop>
+        ensures { IfOk result (λ found. IsOrderedDocument (G.whole self.now.document) → (ps : List Tagged) → Shows G.located G.stand G.content (G.whole self.now.document) ps root.now → AreAt G.located G.stand G.content (G.whole self.now.document) (follow self.now.text.now (G.whole self.now.document) (steps_of_list steps.now) ([] ∷ [])) found) }
+    {
+        dropping_repeats_keeps_the_set();
+        locations_once_in_order_ascend();
+        topmost_descend_to_same_set();
+        let mut current = self.document.start_of_path(true, root)?.pairs;
+        for step in steps {
+            current = self.lists_after_inner(&step.inner, step.leaves, 1, current)?;
+        }
+        Ok(current)
     }
 
     // The pass forward: the set of the places after each step from the root.

@@ -1,15 +1,13 @@
 //! The walk: what a path's syntax tree selects in a document, each step applied to the nodes that the steps before it
 //! lead to.
 
-ghost use Rattle.std.specs.Prelude.{◌≡◌, [], IfOk};
+ghost use Rattle.std.specs.Prelude.{◌≡◌, IfOk};
 ghost use Rattle.serde_json.specs.View.{view};
 ghost use Rattle.jsonpath_nodes.specs.document.OfData.{document_of};
 ghost use Rattle.jsonpath_paths.specs.tree.View.{path_of};
 ghost use Rattle.jsonpath_nodes.specs.place.Mark.{MarksStandAt};
 ghost use Rattle.jsonpath_select.specs.Meaning.{sel};
-ghost use Rattle.jsonpath_select.specs.plan.Manner.{reached_in};
 
-use crate::machine::manner::Manner;
 use crate::step::carried_mark::Carried;
 use crate::tagged::start_of_paths::root_shared_by_candidates;
 use crate::walk::follower::Follower;
@@ -20,8 +18,8 @@ use serde_json::Value;
 use std::alloc::Global;
 use std::marker::PhantomData;
 
-// The walk: the document that a path is followed in, the path's text, and the manner: of sets, where after each step
-// each location stands once, in document order, or of lists, where repeats stay.
+// The walk: the document that a path is followed in, the path's text, and the manner in which conditions are decided: of
+// sets, where after each step each location stands once, in document order, or of lists, where repeats stay.
 #[derive(Clone, Copy)]
 pub struct Walk<'a, 't> {
     pub(crate) alloc: Global,
@@ -31,19 +29,11 @@ pub struct Walk<'a, 't> {
 }
 
 impl<'a, 't> Walk<'a, 't> {
-    // Marks at what a path selects in the document, in the walk's manner.
-    pub(crate) fn select<M: Carried<'a>>(&self, path: &ParserNode) -> Result<Vec<M>, M::Stop>
-        ensures { IfOk result (λ found. MarksStandAt M.located M.stand M.content (document_of (view self.now.root.now)) (reached_in self.now.sets self.now.text.now (document_of (view self.now.root.now)) (path_of path.now) []) found.items) }
-    {
-        let start = root_shared_by_candidates(self.alloc, self.root)?;
-        let found = self.follower::<M>().lists_after_path(path, &start.pairs)?;
-        Ok(found.pairs.marks)
-    }
-
-    // Marks at what a path selects in the document, in the path's order, with its repeats, where nothing is followed that
-    // leads to nothing. Conditions are decided in the walk's manner.
-    pub(crate) fn select_keeping_what_leads_on<M: Carried<'a>>(
+    // Marks at what a path selects in the document, in the path's order, with its repeats. Where `keeps_what_leads_on` is
+    // set, nothing is followed that leads to nothing.
+    pub(crate) fn select_list<M: Carried<'a>>(
         &self,
+        keeps_what_leads_on: bool,
         path: &ParserNode,
     ) -> Result<Vec<M>, M::Stop>
         ensures { IfOk result (λ found. MarksStandAt M.located M.stand M.content (document_of (view self.now.root.now)) (sel self.now.text.now (document_of (view self.now.root.now)) (path_of path.now)) found.items) }
@@ -52,7 +42,7 @@ impl<'a, 't> Walk<'a, 't> {
         let start = root_shared_by_candidates(self.alloc, self.root)?;
         let found = self
             .follower::<M>()
-            .lists_keeping_what_leads_on(path, &start.pairs)?;
+            .lists_from_root(keeps_what_leads_on, path, &start.pairs)?;
         Ok(found.marks)
     }
 
@@ -72,27 +62,5 @@ impl<'a, 't> Walk<'a, 't> {
                 marks: PhantomData,
             },
         }
-    }
-
-    // Marks at what a path of this manner selects in the document, in the path's order, with its repeats.
-    pub(crate) fn select_in_order<M: Carried<'a>>(
-        &self,
-        path: &ParserNode,
-        manner: Manner,
-    ) -> Result<Vec<M>, M::Stop>
-        ensures { IfOk result (λ found. MarksStandAt M.located M.stand M.content (document_of (view self.now.root.now)) (sel self.now.text.now (document_of (view self.now.root.now)) (path_of path.now)) found.items) }
-    {
-        if manner.decides_by_sets || manner.keeps_what_leads_on() {
-            let walk = Walk {
-                sets: manner.decides_by_sets,
-                ..*self
-            };
-            return walk.select_keeping_what_leads_on(path);
-        }
-        let of_lists = Walk {
-            sets: false,
-            ..*self
-        };
-        of_lists.select(path)
     }
 }

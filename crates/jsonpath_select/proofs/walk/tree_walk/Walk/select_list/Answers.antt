@@ -8,7 +8,7 @@ use Rattle.serde_json.specs.declared.value.Value.{Value}
 use Rattle.jsonpath_select.specs.Meaning.{sel}
 use Rattle.jsonpath_select.specs.plan.Machine.{root_shared_by_candidates}
 use Rattle.jsonpath_select.specs.plan.Stack.{ShowsFound}
-use Rattle.jsonpath_select.proofs.walk.tree_walk.Walk.select_keeping_what_leads_on.Goals as goal
+use Rattle.jsonpath_select.proofs.walk.tree_walk.Walk.select_list.Goals as goal
 
 pub returns : goal.returns
 returns g c =

@@ -4,7 +4,7 @@ use Rattle.jsonpath_nodes.specs.place.Location.{Location}
 use Rattle.jsonpath_select.specs.plan.LeadingOn.{AreAfterEach, AreAt, leading_from_root}
 use Rattle.jsonpath_select.specs.declared.tagged.marks.TaggedMarks.{TaggedMarks}
 use Rattle.jsonpath_select.proofs.walk.WalkLemmas.{all_steps}
-use Rattle.jsonpath_select.proofs.walk.follower.Follower.lists_keeping_what_leads_on.Goals as goal
+use Rattle.jsonpath_select.proofs.walk.follower.Follower.lists_from_root.Goals as goal
 
 pub returns : goal.returns
 returns g c =
@@ -19,3 +19,12 @@ returns g c =
     let kept = subst (λ (all : List (TaggedMarks g.row.G-Mark.Denot)). AreAfterEach located stand content doc (leading_from_root c.args.self.now.sets text doc ss) all) (sym c.as_slice.ensures.value) (c.in_ok-kept.ensures.places ordered (c.in_ok-sets.ensures.places ps shows)) in
     subst (λ (ls : List Location). AreAt located stand content doc ls found) (all_steps text doc c.args.path.now ss c.as_slice-steps.ensures.value) (leads ordered ps shows kept))
     c.lists_among.ensures
+
+pub returns-then-not-keeps_what_leads_on : goal.returns-then-not-keeps_what_leads_on
+returns-then-not-keeps_what_leads_on g c =
+    let text = c.args.self.now.text.now in
+    let doc = g.G.Marked.whole c.args.self.now.document in
+    IfOk-weaker c.lists_after_steps.result _ _
+    (λ found leads ordered ps shows.
+    subst (λ (ls : List Location). AreAt g.G.Marked.located g.G.Marked.stand g.G.Marked.content doc ls found) (all_steps text doc c.args.path.now c.as_slice-steps.result.now c.as_slice-steps.ensures.value) (leads ordered ps shows))
+    c.lists_after_steps.ensures
