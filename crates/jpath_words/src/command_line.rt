@@ -9,12 +9,14 @@ use std::alloc::{AllocError, Global};
 // What may stand behind `--color`.
 const COLORS: [&str; 3] = ["auto", "always", "never"];
 
-// What help shows behind an option that takes a path alone; the next two have a second value.
+// What help shows behind an option that takes a path alone; the next three have a second value.
 const PATH: [&str; 1] = ["PATH"];
 
 const PATH_AND_JSON: [&str; 2] = ["PATH", "JSON"];
 
 const PATH_AND_TEXT: [&str; 2] = ["PATH", "TEXT"];
+
+const PATH_AND_NAME: [&str; 2] = ["PATH", "NAME"];
 
 // A flag: its letter, its name, and what help says of it.
 type Flag = (Option<char>, &'static str, &'static str);
@@ -85,8 +87,8 @@ const IN_PLACE: [Flag; 2] = [
 // An edit: its name, what stands behind it, and what help says of it.
 type EditOption = (&'static str, &'static [&'static str], &'static str);
 
-// The four options that edit.
-const EDITS: [EditOption; 4] = [
+// The options that edit.
+const EDITS: [EditOption; 8] = [
     (
         "set",
         &PATH_AND_JSON,
@@ -96,6 +98,22 @@ const EDITS: [EditOption; 4] = [
         "set-text",
         &PATH_AND_TEXT,
         "TEXT in place of each value that PATH selects",
+    ),
+    (
+        "add",
+        &PATH_AND_JSON,
+        "The same, or a new member with it, as PATH's last name says",
+    ),
+    ("add-text", &PATH_AND_TEXT, "The same with TEXT"),
+    (
+        "append",
+        &PATH_AND_JSON,
+        "The value of JSON at the end of each list that PATH selects",
+    ),
+    (
+        "rename",
+        &PATH_AND_NAME,
+        "NAME in place of PATH's last name",
     ),
     (
         "null",
@@ -112,6 +130,14 @@ pub enum EditWords<'a> {
     Set(&'a str, &'a str),
     /// `--set-text PATH TEXT`: puts a text in place of each value that the path selects.
     SetText(&'a str, &'a str),
+    /// `--add PATH JSON`: puts the value of a JSON text at a plain path, and makes its last member if it isn't there.
+    Add(&'a str, &'a str),
+    /// `--add-text PATH TEXT`: the same with a text.
+    AddText(&'a str, &'a str),
+    /// `--append PATH JSON`: puts the value of a JSON text at the end of each list that the path selects.
+    Append(&'a str, &'a str),
+    /// `--rename PATH NAME`: gives each member that the path selects another name.
+    Rename(&'a str, &'a str),
     /// `--null PATH`: puts null in place of each value that the path selects.
     Null(&'a str),
     /// `--remove PATH`: removes each value that the path selects.
@@ -125,6 +151,8 @@ impl<'a> EditWords<'a> {
     {
         match self {
             EditWords::Set(path, _) | EditWords::SetText(path, _) => *path,
+            EditWords::Add(path, _) | EditWords::AddText(path, _) => *path,
+            EditWords::Append(path, _) | EditWords::Rename(path, _) => *path,
             EditWords::Null(path) | EditWords::Remove(path) => *path,
         }
     }
@@ -372,7 +400,7 @@ fn option_values<'a>(
     Ok(found)
 }
 
-// The edits that `clap` found, of all four options, in the order in which they are written.
+// The edits that `clap` found, of all options, in the order in which they are written.
 fn read_edit_words<'a>(
     alloc: Global,
     matches: &ArgMatches<'a>,
@@ -418,7 +446,7 @@ fn add_edits_of_option<'a>(
     Ok(())
 }
 
-// The edit that an option of this name (`set`, `set-text`, `null` or `remove`) asks for by these values, and the
+// The edit that an option of this name (`set` and so on) asks for by these values, and the
 // position of the first value among the words. `None` where there are no values.
 fn edit_with_position<'a>(
     name: &str,
@@ -430,6 +458,10 @@ fn edit_with_position<'a>(
     let edit = match name {
         "set" => EditWords::Set(*path, second),
         "set-text" => EditWords::SetText(*path, second),
+        "add" => EditWords::Add(*path, second),
+        "add-text" => EditWords::AddText(*path, second),
+        "append" => EditWords::Append(*path, second),
+        "rename" => EditWords::Rename(*path, second),
         "null" => EditWords::Null(*path),
         _ => EditWords::Remove(*path),
     };

@@ -4,9 +4,11 @@
 
 mod command_line;
 mod hints;
+mod plain_path;
 mod refused_path;
 mod task;
 mod word_faults;
 
 pub use command_line::{EditWords, Flags, ParseOutcome, Words, parse_words};
+pub use plain_path::NamedMember;
 pub use task::{Edit, Refused, Table, Task, Wanted, wanted_of_words, wants_color};
