@@ -13,7 +13,7 @@ mkdir "$work/bin" "$work/rows" "$work/files"
 }
 cp "$here/crates/jpath/out/jpath" "$work/bin/jpath"
 PATH=$work/bin:$PATH exec python3 - "$here" "$work" << 'TEXT'
-import os, pty, re, stat, subprocess, sys
+import os, pty, re, shlex, stat, subprocess, sys
 
 here, work = sys.argv[1:]
 passed, failed = 0, 0
@@ -171,6 +171,23 @@ for words in ["", "-q -r '$'", "-l -L '$'", "-l -a '$'", "-l -c '$'", "-a -c '$'
               "-H --null '$.a' a.json", "-e '$' --null '$.a'", "-i -k --null '$.a' a.json", "--set '$.a' '{' a.json"]:
     wants(f"jpath {words}", 2, "", "jpath: *")
 for words in ["--no-such '$'", "-C sometimes '$'", "--set '$.a'"]:
+    wants(f"jpath {words}", 2, "", "error: *")
+
+# arguments: whatever the text, the path's form stays
+who = b"""[{"n":"it's","v":1},{"n":"a\\\\","v":2},{"n":"' || @.v > 0 || 'a' == '","v":3},{"n":"{x}","v":4.5}]"""
+for text, found in [("it's", "1"), ("a\\", "2"), ("' || @.v > 0 || 'a' == '", "3"), ("{x}", "4.5")]:
+    wants(f"jpath --arg x {shlex.quote(text)} '$[?(@.n == {{x}})].v'", 0, found + "\n", given=who)
+wants("jpath --arg x v --argjson i 3 '$[{i}][{x}]'", 0, "4.5\n", given=who)
+wants("jpath --argjson x 4.5 '$[?(@.v=={x})].n'", 0, '"{x}"\n', given=who)
+wants("jpath --arg x '{x}' '$[?(@.n == {x} && @.n == \"{x}\")].v'", 0, "4.5\n", given=who)
+wants("jpath --arg x v --rows '$[1]' -e 'V=$[{x}]' --csv --header", 0, "V\n2\n", given=who)
+wants("jpath --arg x a --arg y '' --set '$[{x}]' 5 --null '$[{y}]'", 0, '{"a":5,"":null}', given=b'{"a":1,"":2}')
+wants("jpath '$.{x}'", 0, "1\n", given=b'{"{x}":1}')
+for words, error in [("--arg '' 1 '$[{x}]'", "want a name"), ("--arg x 1 --argjson x 1 '$[{x}]'", "given twice"), ("--arg x 1 '$.{x}'", "no path uses the argument x"), ("--arg x 1 '$[\"{x}\"]'", "no path uses"),
+                     ("--argjson x true '$[{x}]'", "wants a number"), ("--argjson x '1 || 1' '$[{x}]'", "wants a number"), ("--argjson x 1e3 '$[{x}]'", "wants a number"), ("--arg x a '$[?(@.b = {x})]'", "has an error here")]:
+    wants(f"jpath {words} a.json", 2, "", f"jpath: *{error}*")
+wants("jpath --arg x a '$[{y}]' a.json", 2, "", "jpath: no path uses*")
+for words in ["--arg", "--arg x"]:
     wants(f"jpath {words}", 2, "", "error: *")
 
 # refused paths, with a caret and a hint

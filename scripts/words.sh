@@ -61,6 +61,8 @@ fault_of_jpath_words() {
             --help | --version) has_path=yes ;;
             --color) wants=1 ;;
             --color=*) ;;
+            --arg | --argjson) wants=2 ;;
+            --arg=* | --argjson=*) wants=1 ;;
             --path | --rows | --null | --remove) has_path=yes wants=1 ;;
             --path=* | --rows=* | --null=* | --remove=*) has_path=yes ;;
             --set | --set-text) has_path=yes wants=2 ;;

@@ -1,7 +1,7 @@
 //! The command line of `jpath`: its options, declared for `clap`, and how it is parsed.
 
 ghost use Rattle.std.specs.Prelude.{◌≡◌, ◌<◌};
-ghost use Rattle.jpath_words.specs.Words.{path_of};
+ghost use Rattle.jpath_words.specs.Words.{path_of, argument_name};
 
 use clap::{Arg, ArgAction, ArgMatches, Command};
 use std::alloc::{AllocError, Global};
@@ -15,6 +15,10 @@ const PATH: [&str; 1] = ["PATH"];
 const PATH_AND_JSON: [&str; 2] = ["PATH", "JSON"];
 
 const PATH_AND_TEXT: [&str; 2] = ["PATH", "TEXT"];
+
+const NAME_AND_TEXT: [&str; 2] = ["NAME", "TEXT"];
+
+const NAME_AND_NUMBER: [&str; 2] = ["NAME", "NUMBER"];
 
 // A flag: its letter, its name, and what help says of it.
 type Flag = (Option<char>, &'static str, &'static str);
@@ -82,11 +86,25 @@ const IN_PLACE: [Flag; 2] = [
     ),
 ];
 
-// An edit: its name, what stands behind it, and what help says of it.
-type EditOption = (&'static str, &'static [&'static str], &'static str);
+// An option with values behind it: its name, the values, and what help says of it.
+type ValueOption = (&'static str, &'static [&'static str], &'static str);
+
+// The two options that give arguments to paths.
+const ARGUMENTS: [ValueOption; 2] = [
+    (
+        "arg",
+        &NAME_AND_TEXT,
+        "TEXT, quoted, for each {NAME} of a path",
+    ),
+    (
+        "argjson",
+        &NAME_AND_NUMBER,
+        "NUMBER for each {NAME} of a path",
+    ),
+];
 
 // The four options that edit.
-const EDITS: [EditOption; 4] = [
+const EDITS: [ValueOption; 4] = [
     (
         "set",
         &PATH_AND_JSON,
@@ -128,6 +146,40 @@ impl<'a> EditWords<'a> {
             EditWords::Null(path) | EditWords::Remove(path) => *path,
         }
     }
+
+    // The same edit by another path text.
+    pub(crate) fn with_path<'b>(&self, path: &'b str) -> EditWords<'b>
+    where
+        'a: 'b,
+        ensures path { path_of result ≡ path.now }
+    {
+        match self {
+            EditWords::Set(_, json) => EditWords::Set(path, *json),
+            EditWords::SetText(_, text) => EditWords::SetText(path, *text),
+            EditWords::Null(_) => EditWords::Null(path),
+            EditWords::Remove(_) => EditWords::Remove(path),
+        }
+    }
+}
+
+/// An argument of the command line, which is put into paths: its name, and what is put.
+#[derive(Clone, Copy, Debug, Drop)]
+pub enum ArgumentWords<'a> {
+    /// `--arg NAME TEXT`: puts a text in quotes.
+    Text(&'a str, &'a str),
+    /// `--argjson NAME NUMBER`: puts a number.
+    Number(&'a str, &'a str),
+}
+
+impl<'a> ArgumentWords<'a> {
+    /// The argument's name, which a path has in braces.
+    pub fn name(&self) -> &'a str
+        ensures { result.now ≡ argument_name self.now }
+    {
+        match self {
+            ArgumentWords::Text(name, _) | ArgumentWords::Number(name, _) => *name,
+        }
+    }
 }
 
 /// When output is coloured, as the argument of `--color` says.
@@ -166,6 +218,8 @@ pub struct Words<'a> {
     /// The path texts of the options `-e`, in the order of the command line.
     pub paths: Vec<&'a str>,
     pub rows: Option<&'a str>,
+    /// The arguments that are put into paths: those of `--arg` first.
+    pub arguments: Vec<ArgumentWords<'a>>,
     /// The edit options with their arguments, in the order of the command line.
     pub edits: Vec<EditWords<'a>>,
     /// The words on the command line that belong to no option: the path and the files.
@@ -215,7 +269,8 @@ fn clap_arguments<'a>(alloc: Global) -> Result<Vec<Arg<'a>>, AllocError> {
     add_argument(path_option(alloc), &mut arguments)?;
     add_argument(rows_option(alloc), &mut arguments)?;
     add_flags(alloc, OTHERS.as_slice(), &mut arguments)?;
-    add_edit_options(alloc, EDITS.as_slice(), &mut arguments)?;
+    add_value_options(alloc, ARGUMENTS.as_slice(), &mut arguments)?;
+    add_value_options(alloc, EDITS.as_slice(), &mut arguments)?;
     add_flags(alloc, IN_PLACE.as_slice(), &mut arguments)?;
     add_argument(path_and_files_argument(alloc), &mut arguments)?;
     Ok(arguments)
@@ -242,15 +297,15 @@ fn add_flags<'a>(
     Ok(())
 }
 
-// Adds an option for each of these edits, as `--set PATH JSON`.
-fn add_edit_options<'a>(
+// Adds each of these options with values, as `--set PATH JSON`.
+fn add_value_options<'a>(
     alloc: Global,
-    edits: &[EditOption],
+    options: &[ValueOption],
     arguments: &mut Vec<Arg<'a>>,
 ) -> Result<(), AllocError> {
-    for (name, values, help) in edits {
+    for (name, values, help) in options {
         add_argument(
-            as_edit_option(named_option(alloc, *name, *help), *values),
+            as_value_option(named_option(alloc, *name, *help), *values),
             arguments,
         )?;
     }
@@ -271,8 +326,8 @@ fn as_flag<'a>(argument: Arg<'a>, letter: Option<char>) -> Arg<'a> {
     }
 }
 
-// Makes an option an edit: these values stand behind it, and it may stand several times. A value may begin with `-`.
-fn as_edit_option<'a>(argument: Arg<'a>, values: &'a [&'a str]) -> Arg<'a> {
+// Puts these values behind an option, which may stand several times. A value may begin with `-`.
+fn as_value_option<'a>(argument: Arg<'a>, values: &'a [&'a str]) -> Arg<'a> {
     argument
         .action(ArgAction::Append)
         .allow_hyphen_values(true)
@@ -325,6 +380,7 @@ fn words_of_clap_matches<'a>(
         flags: read_flags(matches),
         paths: option_values(alloc, matches, "path")?,
         rows: matches.get_str("rows"),
+        arguments: read_argument_words(alloc, matches)?,
         edits: read_edit_words(alloc, matches)?,
         rest: option_values(alloc, matches, "words")?,
     })
@@ -370,6 +426,25 @@ fn option_values<'a>(
         }
     }
     Ok(found)
+}
+
+// The arguments that `clap` found, those of `--arg` first.
+fn read_argument_words<'a>(
+    alloc: Global,
+    matches: &ArgMatches<'a>,
+) -> Result<Vec<ArgumentWords<'a>>, AllocError> {
+    let mut arguments = Vec::new(alloc);
+    for pair in option_values(alloc, matches, "arg")?.chunks(2) {
+        if let [name, text] = pair {
+            arguments.push(ArgumentWords::Text(*name, *text))?;
+        }
+    }
+    for pair in option_values(alloc, matches, "argjson")?.chunks(2) {
+        if let [name, number] = pair {
+            arguments.push(ArgumentWords::Number(*name, *number))?;
+        }
+    }
+    Ok(arguments)
 }
 
 // The edits that `clap` found, of all four options, in the order in which they are written.
