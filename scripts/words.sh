@@ -59,6 +59,8 @@ fault_of_jpath_words() {
             --raw | --pretty | --array | --locations | --with-locations | --count | --quiet | --with-filename | --keep-going) ;;
             --csv | --tsv | --header | --in-place | --copy | --check) ;;
             --help | --version) has_path=yes ;;
+            --completions) has_path=yes wants=1 ;;
+            --completions=*) has_path=yes ;;
             --color) wants=1 ;;
             --color=*) ;;
             --arg | --argjson) wants=2 ;;

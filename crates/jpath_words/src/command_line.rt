@@ -3,11 +3,25 @@
 ghost use Rattle.std.specs.Prelude.{◌≡◌, ◌<◌};
 ghost use Rattle.jpath_words.specs.Words.{path_of, argument_name};
 
+use crate::completions::{Described, completions};
 use clap::{Arg, ArgAction, ArgMatches, Command};
 use std::alloc::{AllocError, Global};
 
-// What may stand behind `--color`.
+// What may stand behind `--color`, and behind `--completions`.
 const COLORS: [&str; 3] = ["auto", "always", "never"];
+
+const SHELLS: [&str; 3] = ["bash", "zsh", "fish"];
+
+// What help has behind the options.
+const EXAMPLES: &str = "Examples:
+  jpath '$.store.book[*].title' books.json         each title, a line each
+  jpath -r '$[?(@.level == \"error\")].msg' log.json     messages without quotes
+  jpath --arg id \"$ID\" '$.users[?(@.id == {id})]' users.json
+  jpath --rows '$.store.book[*]' -e '$.title' -e '$.price' --csv books.json
+  jpath -i --set '$.rate' 0.5 config.json          changes one value of a file
+
+Status: 0 something was selected or changed; 1 nothing was; 2 wrong words or path;
+3 a document has an error; 4 a file can't be read or written, or memory ran out.";
 
 // What help shows behind an option that takes a path alone; the next two have a second value.
 const PATH: [&str; 1] = ["PATH"];
@@ -88,6 +102,58 @@ const IN_PLACE: [Flag; 2] = [
 
 // An option with values behind it: its name, the values, and what help says of it.
 type ValueOption = (&'static str, &'static [&'static str], &'static str);
+
+// An option with one value: its letter, its name, the value, what the value may be if it is one of a few, and what help
+// says of it.
+type OneValue = (
+    Option<char>,
+    &'static str,
+    &'static str,
+    &'static [&'static str],
+    &'static str,
+);
+
+const ANY: [&str; 0] = [];
+
+const ONE_VALUE: [&str; 1] = ["VALUE"];
+
+const COLOR: OneValue = (
+    Some('C'),
+    "color",
+    "WHEN",
+    &COLORS,
+    "Colours: auto is on a terminal alone",
+);
+
+const PATHS: OneValue = (
+    Some('e'),
+    "path",
+    "PATH",
+    &ANY,
+    "A path, or with --rows a column; may be given several times",
+);
+
+const ROWS: OneValue = (
+    None,
+    "rows",
+    "PATH",
+    &ANY,
+    "A row for each value that PATH selects, a field for each -e",
+);
+
+const COMPLETIONS: OneValue = (
+    None,
+    "completions",
+    "SHELL",
+    &SHELLS,
+    "Writes the completions of jpath for this shell",
+);
+
+// The two options that clap adds.
+const OF_CLAP: [Flag; 2] = [
+    (Some('h'), "help", "Print help"),
+    (Some('V'), "version", "Print version"),
+];
 
 // The two options that give arguments to paths.
 const ARGUMENTS: [ValueOption; 2] = [
@@ -244,12 +310,69 @@ pub fn parse_words<'a>(
 ) -> Result<ParseOutcome<'a>, AllocError> {
     let command = clap_command(rt.alloc())?;
     match command.try_get_matches_from(&*words) {
-        Ok(matches) => Ok(ParseOutcome::Words(words_of_clap_matches(rt.alloc(), &matches)?)),
+        Ok(matches) => match matches.get_str("completions") {
+            Some(shell) => {
+                print_completions(rt, shell)?;
+                Ok(ParseOutcome::Ended(0))
+            }
+            None => Ok(ParseOutcome::Words(words_of_clap_matches(rt.alloc(), &matches)?)),
+        },
         Err(error) => {
             let _ = error.print(rt);
             Ok(ParseOutcome::Ended(if error.use_stderr() { 2 } else { 0 }))
         }
     }
+}
+
+// Prints the completions of the options for this shell.
+fn print_completions(rt: &(impl Print + Alloc<A = Global>), shell: &str) -> Result<(), AllocError> {
+    let text = completions(rt.alloc(), described_options(rt.alloc())?.as_slice(), shell)?;
+    let text = text.as_str();
+    let _ = print!(rt; "{text}");
+    Ok(())
+}
+
+// All options, as completions need them.
+fn described_options(alloc: Global) -> Result<Vec<Described>, AllocError> {
+    let mut options = Vec::new(alloc);
+    for flags in [
+        FORMS.as_slice(),
+        OTHERS.as_slice(),
+        IN_PLACE.as_slice(),
+        OF_CLAP.as_slice(),
+    ] {
+        for (letter, name, help) in flags {
+            options.push(Described {
+                letter: *letter,
+                name: *name,
+                values: &[],
+                choices: &[],
+                help: *help,
+            })?;
+        }
+    }
+    for one in [COLOR, PATHS, ROWS, COMPLETIONS] {
+        let (letter, name, _, choices, help) = one;
+        options.push(Described {
+            letter,
+            name,
+            values: &ONE_VALUE,
+            choices,
+            help,
+        })?;
+    }
+    for many in [ARGUMENTS.as_slice(), EDITS.as_slice()] {
+        for (name, values, help) in many {
+            options.push(Described {
+                letter: None,
+                name: *name,
+                values: *values,
+                choices: &[],
+                help: *help,
+            })?;
+        }
+    }
+    Ok(options)
 }
 
 // `jpath` as `clap` is told of it: its name, version, purpose and options.
@@ -258,6 +381,7 @@ fn clap_command<'a>(alloc: Global) -> Result<Command<'a>, AllocError> {
     Command::new(alloc, "jpath")
         .version("0.1.0")
         .about("Selects values of JSON documents by JSONPath: jpath [OPTIONS] PATH [FILE..]")
+        .after_help(EXAMPLES)
         .args(arguments)
 }
 
@@ -267,11 +391,12 @@ fn clap_arguments<'a>(alloc: Global) -> Result<Vec<Arg<'a>>, AllocError> {
     add_flags(alloc, FORMS.as_slice(), &mut arguments)?;
     add_argument(color_option(alloc), &mut arguments)?;
     add_argument(path_option(alloc), &mut arguments)?;
-    add_argument(rows_option(alloc), &mut arguments)?;
+    add_argument(one_value_option(alloc, ROWS), &mut arguments)?;
     add_flags(alloc, OTHERS.as_slice(), &mut arguments)?;
     add_value_options(alloc, ARGUMENTS.as_slice(), &mut arguments)?;
     add_value_options(alloc, EDITS.as_slice(), &mut arguments)?;
     add_flags(alloc, IN_PLACE.as_slice(), &mut arguments)?;
+    add_argument(completions_option(alloc), &mut arguments)?;
     add_argument(path_and_files_argument(alloc), &mut arguments)?;
     Ok(arguments)
 }
@@ -337,30 +462,29 @@ fn as_value_option<'a>(argument: Arg<'a>, values: &'a [&'a str]) -> Arg<'a> {
 
 // The option `--color`, which says when lines are coloured.
 fn color_option<'a>(alloc: Global) -> Arg<'a> {
-    Arg::new(alloc, "color")
-        .short('C')
-        .long("color")
-        .value_name("WHEN")
+    one_value_option(alloc, COLOR)
         .value_parser(COLORS.as_slice())
         .default_value("auto")
-        .help("Colours: auto is on a terminal alone")
+}
+
+// The option `--completions`, which writes the completions of a shell.
+fn completions_option<'a>(alloc: Global) -> Arg<'a> {
+    one_value_option(alloc, COMPLETIONS).value_parser(SHELLS.as_slice())
 }
 
 // The option `-e`, which gives a path, or with `--rows` a column.
 fn path_option<'a>(alloc: Global) -> Arg<'a> {
-    Arg::new(alloc, "path")
-        .short('e')
-        .long("path")
-        .action(ArgAction::Append)
-        .value_name("PATH")
-        .help("A path, or with --rows a column; may be given several times")
+    one_value_option(alloc, PATHS).action(ArgAction::Append)
 }
 
-// The option `--rows`, which gives the path whose matches are the rows of a table.
-fn rows_option<'a>(alloc: Global) -> Arg<'a> {
-    Arg::new(alloc, "rows").long("rows").value_name("PATH").help(
-        "A row for each value that PATH selects, a field for each -e",
-    )
+// The option with one value that is described so.
+fn one_value_option<'a>(alloc: Global, described: OneValue) -> Arg<'a> {
+    let (letter, name, value, _, help) = described;
+    let argument = named_option(alloc, name, help).value_name(value);
+    match letter {
+        Some(letter) => argument.short(letter),
+        None => argument,
+    }
 }
 
 // The words that belong to no option: the path, where no option gives one, and the files.

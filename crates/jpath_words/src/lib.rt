@@ -4,6 +4,7 @@
 
 mod arguments;
 mod command_line;
+mod completions;
 mod hints;
 mod refused_path;
 mod task;

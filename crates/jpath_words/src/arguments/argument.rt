@@ -32,11 +32,15 @@ pub(crate) fn read_arguments(
         let argument = read_argument(rt, *words)?;
         let name = words.name();
         if name.is_empty() {
-            let _ = eprintln!(rt; "jpath: --arg and --argjson want a name, as in --arg id 7 '$.users[?(@.id == {{id}})]'");
+            let _ = eprintln!(rt;
+                "jpath: --arg and --argjson want a name, as in --arg id 7 '$.users[?(@.id == {{id}})]'"
+            );
             return Err(Refused::Told);
         }
         if find_argument(arguments.as_slice(), argument.placeholder.as_str()).is_some() {
-            let _ = eprintln!(rt; "jpath: the argument {name} is given twice: leave one of them out");
+            let _ = eprintln!(rt;
+                "jpath: the argument {name} is given twice: leave one of them out"
+            );
             return Err(Refused::Told);
         }
         arguments.push(argument)?;
@@ -71,7 +75,9 @@ fn number_text(rt: &(impl Eprint + Alloc<A = Global>), number: &str) -> Result<S
         && is_number_alone(number)
         && PathParser::compile(alloc, path.as_str()).is_ok();
     if !is_number {
-        let _ = eprintln!(rt; "jpath: --argjson wants a number as a path has it, and this is none: {number}");
+        let _ = eprintln!(rt;
+            "jpath: --argjson wants a number as a path has it, and this is none: {number}"
+        );
         let _ = eprintln!(rt; "hint: --arg takes a text as it is");
         return Err(Refused::Told);
     }

@@ -94,7 +94,9 @@ fn refuse_unused_argument(
     for (argument, words_of_one) in arguments.iter().zip(words.arguments.as_slice()) {
         if !is_used(words, paths, argument) {
             let name = words_of_one.name();
-            let _ = eprintln!(rt; "jpath: no path uses the argument {name}: {{{name}}} stands for it in a filter or in brackets, as $[{{{name}}}]");
+            let _ = eprintln!(rt;
+                "jpath: no path uses the argument {name}: {{{name}}} stands for it in a filter or in brackets, as $[{{{name}}}]"
+            );
             return Err(Refused::Told);
         }
     }
@@ -103,9 +105,16 @@ fn refuse_unused_argument(
 
 // Whether one of the paths has the argument's placeholder, or it can't be said of one.
 fn is_used(words: &Words<'_>, paths: &[&str], argument: &Argument) -> bool {
-    paths.iter().any(|text| may_use_argument(split_column(*text).1, argument))
-        || words.rows.is_some_and(|path| may_use_argument(path, argument))
-        || words.edits.iter().any(|edit| may_use_argument(edit.path(), argument))
+    paths
+        .iter()
+        .any(|text| may_use_argument(split_column(*text).1, argument))
+        || words
+            .rows
+            .is_some_and(|path| may_use_argument(path, argument))
+        || words
+            .edits
+            .iter()
+            .any(|edit| may_use_argument(edit.path(), argument))
 }
 
 // These strings as texts.
