@@ -59,8 +59,12 @@ fault_of_jpath_words() {
             --raw | --pretty | --array | --locations | --with-locations | --count | --quiet | --with-filename | --keep-going) ;;
             --csv | --tsv | --header | --in-place | --copy | --check) ;;
             --help | --version) has_path=yes ;;
+            --completions) has_path=yes wants=1 ;;
+            --completions=*) has_path=yes ;;
             --color) wants=1 ;;
             --color=*) ;;
+            --arg | --argjson) wants=2 ;;
+            --arg=* | --argjson=*) wants=1 ;;
             --path | --rows | --null | --remove) has_path=yes wants=1 ;;
             --path=* | --rows=* | --null=* | --remove=*) has_path=yes ;;
             --set | --set-text | --add | --add-text | --append | --rename) has_path=yes wants=2 ;;

@@ -124,7 +124,7 @@ pub fn rename_text(
     old: &str,
     new: &str,
 ) -> Result<Option<Edited>, DocumentRefusal>
-    ensures { IfOk result (λ found. IfSome found (λ edited. IsGrownByPath query.now.path (Name old new) document.now text.now edited.text.items)) }
+    ensures { IfOk result (λ found. IfSome found (λ edited. IsGrownByPath query.now.path (Name old.entry new.entry) document.now text.now edited.text.items)) }
 {
     let places = select_locations_in_document_order(alloc, document, query)?;
     let growth = Growth::Name(old, new);

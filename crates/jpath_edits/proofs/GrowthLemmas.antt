@@ -8,8 +8,8 @@ use Rattle.std.proofs.Math.Seq.{take-suc}
 use Rattle.std.proofs.lemmas.Grind.{flat_map-append}
 use Rattle.std.proofs.lemmas.List.{map-append}
 use Rattle.std.proofs.lemmas.Slice.Eq.{bytes_eq-Decides}
-use Rattle.json.specs.Json.{Json, Items, item, no_items, Members, member, no_members}
-use Rattle.json.specs.Value.{value_view, items_of, items_view, members_of, members_view}
+use Rattle.json.specs.Json.{Json, item, Members, member, no_members}
+use Rattle.json.specs.Value.{value_view, items_view, members_view}
 use Rattle.json.specs.declared.value.Value.{Value}
 use Rattle.jsonpath_nodes.specs.place.Location.{Location}
 use Rattle.jpath_edits.specs.Grown.{Filled, IsFilledAt, AreGoneFor, IsGrownAt, containers_of, grown_all, has_name, with_last_item, with_last_member, with_member, with_name, each_renamed, in_item, in_member, IsLastNamed}
@@ -95,11 +95,6 @@ module _ {A : Type 0} where
   last_at k [] i m lt is named none = absurd (omega (arith, lt))
   last_at k (x ∷ ms) zero m lt is named none = (ap (λ (y : Entry A). bytes_eq k y.0.now) (sym is) ∙ named, none)
   last_at k (x ∷ ms) (suc i) m lt is named none = last_at k ms i m (omega (arith, lt)) is named none
-
-  pub none_from : (k : List ℕ) (ms : List (Entry A)) (i : ℕ) (m : Entry A) → i < length ms → m ≡ slice_index_or ms i m → bytes_eq k m.0.now ≡ false → has_name k (members_view (drop (suc i) ms)) ≡ false → has_name k (members_view (drop i ms)) ≡ false
-  none_from k [] i m lt is named none = absurd (omega (arith, lt))
-  none_from k (x ∷ ms) zero m lt is named none = rw (ap (λ (y : Entry A). bytes_eq k y.0.now) (sym is) ∙ named) none
-  none_from k (x ∷ ms) (suc i) m lt is named none = none_from k ms i m (omega (arith, lt)) is named none
 
 pub renamed_last : (k n m : List ℕ) (j : Json) (ms : Members) → each_renamed k n (with_last_member m j ms) ≡ with_last_member (if bytes_eq k m then n else m) j (each_renamed k n ms)
 renamed_last k n m j no_members = refl

@@ -1,5 +1,5 @@
 -- A document in which something was made: a member at an object's end, an item at a list's end, or a name in place of another; and its text.
-use Rattle.std.specs.Prelude.{◌≡◌, ℕ, zero, suc, ◌-◌, ◌||◌, List, [], ◌∷◌, ◌++◌, length, map, flat_map, take, slice_range, Bool, true, false, if◌then◌else◌, Option, Some}
+use Rattle.std.specs.Prelude.{◌≡◌, ℕ, zero, suc, ◌-◌, ◌||◌, List, [], ◌∷◌, ◌++◌, length, map, flat_map, take, slice_range, Bool, true, false, if◌then◌else◌, Some}
 use Rattle.std.specs.Str.{bytes_eq}
 use Rattle.json.specs.Json.{Json, string, array, object, Items, no_items, item, Members, no_members, member}
 use Rattle.json.specs.Tree.{HasNumbers}

@@ -26,11 +26,11 @@ use std::str;
 
 /// What an edit makes in a document.
 #[derive(Clone, Copy, Debug, Drop)]
-pub enum Growth<'c> {
+pub enum Growth<'c, 'v> {
     /// A member of this name with this value at the end of an object that has no member of the name.
-    Member(&'c str, &'c Exact<'c>),
+    Member(&'c str, &'c Exact<'v>),
     /// An item with this value at the end of a list.
-    Item(&'c Exact<'c>),
+    Item(&'c Exact<'v>),
     /// The second name in place of the first, in an object that has no member of the second.
     Name(&'c str, &'c str),
 }
@@ -58,7 +58,7 @@ pub fn grown_text(
     text: &str,
     exact: &Exact<'_>,
     places: &[Location],
-    growth: &Growth<'_>,
+    growth: &Growth<'_, '_>,
 ) -> Result<Option<Grown>, DocumentRefusal>
     requires { CanBeWritten growth.now }
     ensures { IfOk result (λ found. IfSome found (λ grown. IsGrownAt growth.now (value_view exact.now) places.now text.now grown.text.items)) }
@@ -95,7 +95,7 @@ fn is_grown(
     bytes: &[u8],
     exact: &Exact<'_>,
     containers: &[&[LocStep]],
-    growth: &Growth<'_>,
+    growth: &Growth<'_, '_>,
 ) -> Result<bool, DocumentRefusal>
     ensures { IfOk result (λ right. IsTrue right → exact_of bytes.now ≡ Some (grown_all growth.now (map (λ c. owned_steps c.now) containers.now) (value_view exact.now))) }
 {
@@ -109,7 +109,7 @@ fn is_grown(
 fn containers<'l>(
     alloc: Global,
     places: &'l [Location],
-    growth: &Growth<'_>,
+    growth: &Growth<'_, '_>,
 ) -> Result<Vec<&'l [LocStep]>, AllocError>
     ensures { IfOk result (λ found. map (λ c. owned_steps c.now) found.items ≡ containers_of growth.now places.now) }
 {
@@ -123,7 +123,7 @@ fn containers<'l>(
 
 // Where the object or list stands in which something is made: at a location itself, or above a member that gets
 // another name.
-fn container<'l>(location: &'l Location, growth: &Growth<'_>) -> &'l [LocStep]
+fn container<'l>(location: &'l Location, growth: &Growth<'_, '_>) -> &'l [LocStep]
     ensures { owned_steps result.now ≡ container_of growth.now location.now }
 {
     match growth {
@@ -136,7 +136,7 @@ fn container<'l>(location: &'l Location, growth: &Growth<'_>) -> &'l [LocStep]
 }
 
 // Whether a name is to be given to a member of an object that has one of that name already.
-fn is_name_taken(exact: &Exact<'_>, containers: &[&[LocStep]], growth: &Growth<'_>) -> bool {
+fn is_name_taken(exact: &Exact<'_>, containers: &[&[LocStep]], growth: &Growth<'_, '_>) -> bool {
     match growth {
         Growth::Name(_, new) => containers.iter().any(|container| {
             match exact_value_below(exact, *container) {

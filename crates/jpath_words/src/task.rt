@@ -201,7 +201,7 @@ pub fn wants_color(flags: &Flags, is_terminal: bool, has_no_color: bool) -> bool
 
 // The path texts and the files among the words. Without -e and edits the first word that belongs to no option is the
 // path; refused where there is none.
-fn paths_and_files<'a>(
+pub(crate) fn paths_and_files<'a>(
     alloc: Global,
     words: &Words<'a>,
 ) -> Result<(Vec<&'a str>, Vec<&'a str>), Refused>

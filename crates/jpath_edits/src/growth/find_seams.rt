@@ -21,7 +21,7 @@ pub(crate) fn find_seams(
     text: &str,
     exact: &Exact<'_>,
     places: &[Location],
-    growth: &Growth<'_>,
+    growth: &Growth<'_, '_>,
 ) -> Result<Vec<Seam>, AllocError>
     requires { CanBeWritten growth.now }
 {
@@ -70,7 +70,7 @@ fn seams_in_containers(
     exact: &Exact<'_>,
     parts: &[Part],
     places: &[Location],
-    growth: &Growth<'_>,
+    growth: &Growth<'_, '_>,
 ) -> Result<Vec<Seam>, AllocError>
     requires { CanBeWritten growth.now }
 {
@@ -125,7 +125,7 @@ fn seam_at_end(
     at: Positions<'_>,
     start: usize,
     last: Option<LastChild>,
-    growth: &Growth<'_>,
+    growth: &Growth<'_, '_>,
     style: &DocumentStyle<'_>,
 ) -> Result<Seam, AllocError>
     requires { CanBeWritten growth.now }
@@ -157,7 +157,7 @@ fn seam_at_end(
 // Writes what is made: a member's name and colon, and the value.
 fn add_made_text(
     alloc: Global,
-    growth: &Growth<'_>,
+    growth: &Growth<'_, '_>,
     colon: &[u8],
     put: &mut Vec<u8>,
 ) -> Result<(), AllocError>

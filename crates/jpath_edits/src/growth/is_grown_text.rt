@@ -21,7 +21,7 @@ pub(crate) fn is_grown_text(
     written: &str,
     exact: &Exact<'_>,
     containers: &[&[LocStep]],
-    growth: &Growth<'_>,
+    growth: &Growth<'_, '_>,
 ) -> Result<bool, DocumentRefusal>
     ensures { IfOk result (λ right. IsTrue right → exact_of written.now ≡ Some (grown_all growth.now (map (λ c. owned_steps c.now) containers.now) (value_view exact.now))) }
 {
@@ -40,7 +40,7 @@ fn is_grown_tree<'t, 'g: 't>(
     found: Exact<'t>,
     exact: &Exact<'_>,
     containers: &[&[LocStep]],
-    growth: &Growth<'g>,
+    growth: &Growth<'g, '_>,
 ) -> Result<bool, AllocError>
     ensures { IfOk result (λ right. IsTrue right → value_view found.entry ≡ grown_all growth.now (map (λ c. owned_steps c.now) containers.now) (value_view exact.now)) }
 {

@@ -44,7 +44,7 @@ pub(crate) fn are_seams_of(
     alloc: Global,
     text: &str,
     seams: &[Seam],
-    growth: &Growth<'_>,
+    growth: &Growth<'_, '_>,
 ) -> Result<bool, DocumentRefusal>
     ensures { IfOk result (λ right. IsTrue right → AreGoneFor growth.now (map (λ s. slice_range text.now s.start s.end) seams.now)) }
 {
@@ -61,7 +61,7 @@ fn is_seam_of(
     alloc: Global,
     text: &str,
     seam: &Seam,
-    growth: &Growth<'_>,
+    growth: &Growth<'_, '_>,
 ) -> Result<bool, DocumentRefusal>
     ensures { IfOk result (λ right. IsTrue right → IsGoneFor growth.now (slice_range text.now seam.now.start seam.now.end)) }
 {

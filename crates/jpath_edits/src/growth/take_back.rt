@@ -23,7 +23,7 @@ pub(crate) fn take_back<'t, 'g: 't>(
     alloc: Global,
     value: &mut Exact<'t>,
     steps: &[LocStep],
-    growth: &Growth<'g>,
+    growth: &Growth<'g, '_>,
 ) -> Result<bool, AllocError>
     ensures { IfOk result (λ done. IsTrue done → value_view value.old ≡ grown growth.now (owned_steps steps.now) (value_view value.new)) }
 {
@@ -46,7 +46,7 @@ fn take_back_by_name<'t, 'g: 't>(
     value: &mut Exact<'t>,
     name: &String,
     rest: &[LocStep],
-    growth: &Growth<'g>,
+    growth: &Growth<'g, '_>,
 ) -> Result<bool, AllocError>
     ensures { IfOk result (λ done. IsTrue done → value_view value.old ≡ grown growth.now (by_name (string_bytes name.now) ∷ owned_steps rest.now) (value_view value.new)) }
 {
@@ -71,7 +71,7 @@ fn take_back_in_member<'t, 'g: 't>(
     members: &mut Vec<(&'t str, Exact<'t>)>,
     name: &str,
     rest: &[LocStep],
-    growth: &Growth<'g>,
+    growth: &Growth<'g, '_>,
 ) -> Result<bool, AllocError>
     ensures { IfOk result (λ done. IsTrue done → object (members_view members.old.items) ≡ grown growth.now (by_name name.now ∷ owned_steps rest.now) (object (members_view members.new.items))) }
 {
@@ -88,7 +88,7 @@ fn take_back_in_item<'t, 'g: 't>(
     items: &mut Vec<Exact<'t>>,
     index: usize,
     rest: &[LocStep],
-    growth: &Growth<'g>,
+    growth: &Growth<'g, '_>,
 ) -> Result<bool, AllocError>
     ensures { IfOk result (λ done. IsTrue done → array (items_view items.old.items) ≡ grown growth.now (by_index index ∷ owned_steps rest.now) (array (items_view items.new.items))) }
 {
@@ -116,7 +116,7 @@ fn last_index_of_name(members: &[(&str, Exact<'_>)], name: &str) -> Option<usize
 fn take_back_here<'t, 'g: 't>(
     alloc: Global,
     value: &mut Exact<'t>,
-    growth: &Growth<'g>,
+    growth: &Growth<'g, '_>,
 ) -> Result<bool, AllocError>
     ensures { IfOk result (λ done. IsTrue done → value_view value.old ≡ grown_here growth.now (value_view value.new)) }
 {
@@ -144,7 +144,7 @@ fn take_back_here<'t, 'g: 't>(
 fn take_back_in_object<'t, 'g: 't>(
     alloc: Global,
     members: &mut Vec<(&'t str, Exact<'t>)>,
-    growth: &Growth<'g>,
+    growth: &Growth<'g, '_>,
 ) -> Result<bool, AllocError>
     ensures { IfOk result (λ done. IsTrue done → object (members_view members.old.items) ≡ grown_here growth.now (object (members_view members.new.items))) }
 {
@@ -156,7 +156,7 @@ fn take_back_in_object<'t, 'g: 't>(
 }
 
 // Takes back what was made in a list itself; false where it isn't there.
-fn take_back_in_list(items: &mut Vec<Exact<'_>>, growth: &Growth<'_>) -> bool
+fn take_back_in_list(items: &mut Vec<Exact<'_>>, growth: &Growth<'_, '_>) -> bool
     ensures { IsTrue result → array (items_view items.old.items) ≡ grown_here growth.now (array (items_view items.new.items)) }
 {
     match growth {
