@@ -10,7 +10,7 @@ trap 'rm -rf "$work"' EXIT
 mkdir "$work/bin" "$work/elsewhere" "$work/other" "$work/home"
 line=$'\n'
 # where FOLDER MANUALS: what is said of an installation.
-where() { printf 'install: %s\n' "jpath is in $work/$1" "jsonpath_run is in $work/$1" "the manuals are in $work/$2/man1"; }
+where() { printf 'install: %s\n' "jpath is in $work/$1" "jsonpath_run is in $work/$1" "the manuals are in $work/$2/man1" "completions for bash, zsh and fish are in $work/${2%/man}"; }
 
 # Runs a command elsewhere, and keeps what it wrote and its status.
 tries() {
@@ -53,6 +53,9 @@ holds 'the program is the built one' cmp -s "$work/bin/jsonpath_run" "$here/crat
 holds 'jpath is the built one' cmp -s "$work/bin/jpath" "$here/crates/jpath/out/jpath"
 for manual in jpath.1 jsonpath_run.1; do
     holds "$manual is there" cmp -s "$work/share/man/man1/$manual" "$here/docs/$manual"
+done
+for place in bash-completion/completions/jpath zsh/site-functions/_jpath fish/vendor_completions.d/jpath.fish; do
+    holds "$place has completions" grep -q with-locations "$work/share/$place"
 done
 old=$(stat -c %i "$work/bin/jsonpath_run")
 PATH=$work/bin:$PATH tries "$here/install" "$work/bin"

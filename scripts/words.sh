@@ -59,12 +59,16 @@ fault_of_jpath_words() {
             --raw | --pretty | --array | --locations | --with-locations | --count | --quiet | --with-filename | --keep-going) ;;
             --csv | --tsv | --header | --in-place | --copy | --check) ;;
             --help | --version) has_path=yes ;;
+            --completions) has_path=yes wants=1 ;;
+            --completions=*) has_path=yes ;;
             --color) wants=1 ;;
             --color=*) ;;
+            --arg | --argjson) wants=2 ;;
+            --arg=* | --argjson=*) wants=1 ;;
             --path | --rows | --null | --remove) has_path=yes wants=1 ;;
             --path=* | --rows=* | --null=* | --remove=*) has_path=yes ;;
-            --set | --set-text) has_path=yes wants=2 ;;
-            --set=* | --set-text=*) has_path=yes wants=1 ;;
+            --set | --set-text | --add | --add-text | --append | --rename) has_path=yes wants=2 ;;
+            --set=* | --set-text=* | --add=* | --add-text=* | --append=* | --rename=*) has_path=yes wants=1 ;;
             --*) printf "jpath has no option '%s'" "$word" && return ;;
             -C) wants=1 ;;
             -e) has_path=yes wants=1 ;;

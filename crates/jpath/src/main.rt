@@ -3,7 +3,10 @@
 
 mod run;
 
-use jpath_words::{ParseOutcome, Refused, Words, parse_words, wanted_of_words, wants_color};
+use jpath_words::{
+    ParseOutcome, Refused, Words, fill_paths, parse_words, wanted_of_words, wants_color,
+    words_with_paths,
+};
 use run::run_over_files;
 use std::alloc::AllocError;
 use std::env;
@@ -42,13 +45,34 @@ fn run_from_arguments(rt: &HostRuntime) -> Result<u8, AllocError> {
     }
 }
 
-// Does what the words ask for, and answers the exit status: that of the run over the files, 0 where paths were only to
-// be checked, 2 where words or a path are refused.
+// Does what the words ask for, once their arguments are put into their paths, and answers the exit status: that of the
+// run over the files, 0 where paths were only to be checked, 2 where words or a path are refused.
 fn carry_out_words(rt: &HostRuntime, words: &Words<'_>) -> Result<u8, AllocError> {
+    status_or_refusal(rt, run_with_arguments(rt, words))
+}
+
+// Puts the arguments into the paths, where there are any, and does what the words ask for.
+fn run_with_arguments(rt: &HostRuntime, words: &Words<'_>) -> Result<u8, Refused> {
+    if words.arguments.is_empty() {
+        return run_filled_words(rt, words);
+    }
+    let filled = fill_paths(rt, words)?;
+    let words = words_with_paths(rt.alloc(), words, &filled)?;
+    run_filled_words(rt, &words)
+}
+
+// Does what the words ask for, and answers the status of the run over the files.
+fn run_filled_words(rt: &HostRuntime, words: &Words<'_>) -> Result<u8, Refused> {
     let is_terminal = rt.stdout().is_terminal();
     let is_colored = wants_color(&words.flags, is_terminal, is_no_color_variable_set(rt));
-    match wanted_of_words(rt, words, is_colored) {
-        Ok(wanted) => Ok(run_over_files(rt, &wanted)),
+    let wanted = wanted_of_words(rt, words, is_colored)?;
+    Ok(run_over_files(rt, &wanted))
+}
+
+// The exit status of a run, or of what was refused before it, which is told.
+fn status_or_refusal(rt: &HostRuntime, ran: Result<u8, Refused>) -> Result<u8, AllocError> {
+    match ran {
+        Ok(status) => Ok(status),
         Err(Refused::Checked) => Ok(0),
         Err(Refused::Told) => Ok(2),
         Err(Refused::OutOfMemory) => Err(AllocError),

@@ -1,1 +1,3 @@
 pub mod EditLemmas
+pub mod ArgumentLemmas
+pub mod PairwiseLemmas

@@ -1,20 +1,40 @@
 //! The command line of `jpath`: its options, declared for `clap`, and how it is parsed.
 
 ghost use Rattle.std.specs.Prelude.{◌≡◌, ◌<◌};
-ghost use Rattle.jpath_words.specs.Words.{path_of};
+ghost use Rattle.jpath_words.specs.Words.{path_of, argument_name};
 
+use crate::completions::{Described, completions};
 use clap::{Arg, ArgAction, ArgMatches, Command};
 use std::alloc::{AllocError, Global};
 
-// What may stand behind `--color`.
+// What may stand behind `--color`, and behind `--completions`.
 const COLORS: [&str; 3] = ["auto", "always", "never"];
 
-// What help shows behind an option that takes a path alone; the next two have a second value.
+const SHELLS: [&str; 3] = ["bash", "zsh", "fish"];
+
+// What help has behind the options.
+const EXAMPLES: &str = "Examples:
+  jpath '$.store.book[*].title' books.json         each title, a line each
+  jpath -r '$[?(@.level == \"error\")].msg' log.json     messages without quotes
+  jpath --arg id \"$ID\" '$.users[?(@.id == {id})]' users.json
+  jpath --rows '$.store.book[*]' -e '$.title' -e '$.price' --csv books.json
+  jpath -i --set '$.rate' 0.5 config.json          changes one value of a file
+
+Status: 0 something was selected or changed; 1 nothing was; 2 wrong words or path;
+3 a document has an error; 4 a file can't be read or written, or memory ran out.";
+
+// What help shows behind an option that takes a path alone; the next three have a second value.
 const PATH: [&str; 1] = ["PATH"];
 
 const PATH_AND_JSON: [&str; 2] = ["PATH", "JSON"];
 
 const PATH_AND_TEXT: [&str; 2] = ["PATH", "TEXT"];
+
+const PATH_AND_NAME: [&str; 2] = ["PATH", "NAME"];
+
+const NAME_AND_TEXT: [&str; 2] = ["NAME", "TEXT"];
+
+const NAME_AND_NUMBER: [&str; 2] = ["NAME", "NUMBER"];
 
 // A flag: its letter, its name, and what help says of it.
 type Flag = (Option<char>, &'static str, &'static str);
@@ -82,11 +102,77 @@ const IN_PLACE: [Flag; 2] = [
     ),
 ];
 
-// An edit: its name, what stands behind it, and what help says of it.
-type EditOption = (&'static str, &'static [&'static str], &'static str);
+// An option with values behind it: its name, the values, and what help says of it.
+type ValueOption = (&'static str, &'static [&'static str], &'static str);
 
-// The four options that edit.
-const EDITS: [EditOption; 4] = [
+// An option with one value: its letter, its name, the value, what the value may be if it is one of a few, and what help
+// says of it.
+type OneValue = (
+    Option<char>,
+    &'static str,
+    &'static str,
+    &'static [&'static str],
+    &'static str,
+);
+
+const ANY: [&str; 0] = [];
+
+const ONE_VALUE: [&str; 1] = ["VALUE"];
+
+const COLOR: OneValue = (
+    Some('C'),
+    "color",
+    "WHEN",
+    &COLORS,
+    "Colours: auto is on a terminal alone",
+);
+
+const PATHS: OneValue = (
+    Some('e'),
+    "path",
+    "PATH",
+    &ANY,
+    "A path, or with --rows a column; may be given several times",
+);
+
+const ROWS: OneValue = (
+    None,
+    "rows",
+    "PATH",
+    &ANY,
+    "A row for each value that PATH selects, a field for each -e",
+);
+
+const COMPLETIONS: OneValue = (
+    None,
+    "completions",
+    "SHELL",
+    &SHELLS,
+    "Writes the completions of jpath for this shell",
+);
+
+// The two options that clap adds.
+const OF_CLAP: [Flag; 2] = [
+    (Some('h'), "help", "Print help"),
+    (Some('V'), "version", "Print version"),
+];
+
+// The two options that give arguments to paths.
+const ARGUMENTS: [ValueOption; 2] = [
+    (
+        "arg",
+        &NAME_AND_TEXT,
+        "TEXT, quoted, for each {NAME} of a path",
+    ),
+    (
+        "argjson",
+        &NAME_AND_NUMBER,
+        "NUMBER for each {NAME} of a path",
+    ),
+];
+
+// The options that edit.
+const EDITS: [ValueOption; 8] = [
     (
         "set",
         &PATH_AND_JSON,
@@ -96,6 +182,22 @@ const EDITS: [EditOption; 4] = [
         "set-text",
         &PATH_AND_TEXT,
         "TEXT in place of each value that PATH selects",
+    ),
+    (
+        "add",
+        &PATH_AND_JSON,
+        "The same, or a new member with it, as PATH's last name says",
+    ),
+    ("add-text", &PATH_AND_TEXT, "The same with TEXT"),
+    (
+        "append",
+        &PATH_AND_JSON,
+        "The value of JSON at the end of each list that PATH selects",
+    ),
+    (
+        "rename",
+        &PATH_AND_NAME,
+        "NAME in place of PATH's last name",
     ),
     (
         "null",
@@ -112,6 +214,14 @@ pub enum EditWords<'a> {
     Set(&'a str, &'a str),
     /// `--set-text PATH TEXT`: puts a text in place of each value that the path selects.
     SetText(&'a str, &'a str),
+    /// `--add PATH JSON`: puts the value of a JSON text at a plain path, and makes its last member if it isn't there.
+    Add(&'a str, &'a str),
+    /// `--add-text PATH TEXT`: the same with a text.
+    AddText(&'a str, &'a str),
+    /// `--append PATH JSON`: puts the value of a JSON text at the end of each list that the path selects.
+    Append(&'a str, &'a str),
+    /// `--rename PATH NAME`: gives each member that the path selects another name.
+    Rename(&'a str, &'a str),
     /// `--null PATH`: puts null in place of each value that the path selects.
     Null(&'a str),
     /// `--remove PATH`: removes each value that the path selects.
@@ -125,7 +235,47 @@ impl<'a> EditWords<'a> {
     {
         match self {
             EditWords::Set(path, _) | EditWords::SetText(path, _) => *path,
+            EditWords::Add(path, _) | EditWords::AddText(path, _) => *path,
+            EditWords::Append(path, _) | EditWords::Rename(path, _) => *path,
             EditWords::Null(path) | EditWords::Remove(path) => *path,
+        }
+    }
+
+    // The same edit by another path text.
+    pub(crate) fn with_path<'b>(&self, path: &'b str) -> EditWords<'b>
+    where
+        'a: 'b,
+        ensures path { path_of result ≡ path.now }
+    {
+        match self {
+            EditWords::Set(_, json) => EditWords::Set(path, *json),
+            EditWords::SetText(_, text) => EditWords::SetText(path, *text),
+            EditWords::Add(_, json) => EditWords::Add(path, *json),
+            EditWords::AddText(_, text) => EditWords::AddText(path, *text),
+            EditWords::Append(_, json) => EditWords::Append(path, *json),
+            EditWords::Rename(_, name) => EditWords::Rename(path, *name),
+            EditWords::Null(_) => EditWords::Null(path),
+            EditWords::Remove(_) => EditWords::Remove(path),
+        }
+    }
+}
+
+/// An argument of the command line, which is put into paths: its name, and what is put.
+#[derive(Clone, Copy, Debug, Drop)]
+pub enum ArgumentWords<'a> {
+    /// `--arg NAME TEXT`: puts a text in quotes.
+    Text(&'a str, &'a str),
+    /// `--argjson NAME NUMBER`: puts a number.
+    Number(&'a str, &'a str),
+}
+
+impl<'a> ArgumentWords<'a> {
+    /// The argument's name, which a path has in braces.
+    pub fn name(&self) -> &'a str
+        ensures { result.now ≡ argument_name self.now }
+    {
+        match self {
+            ArgumentWords::Text(name, _) | ArgumentWords::Number(name, _) => *name,
         }
     }
 }
@@ -166,6 +316,8 @@ pub struct Words<'a> {
     /// The path texts of the options `-e`, in the order of the command line.
     pub paths: Vec<&'a str>,
     pub rows: Option<&'a str>,
+    /// The arguments that are put into paths: those of `--arg` first.
+    pub arguments: Vec<ArgumentWords<'a>>,
     /// The edit options with their arguments, in the order of the command line.
     pub edits: Vec<EditWords<'a>>,
     /// The words on the command line that belong to no option: the path and the files.
@@ -190,12 +342,69 @@ pub fn parse_words<'a>(
 ) -> Result<ParseOutcome<'a>, AllocError> {
     let command = clap_command(rt.alloc())?;
     match command.try_get_matches_from(&*words) {
-        Ok(matches) => Ok(ParseOutcome::Words(words_of_clap_matches(rt.alloc(), &matches)?)),
+        Ok(matches) => match matches.get_str("completions") {
+            Some(shell) => {
+                print_completions(rt, shell)?;
+                Ok(ParseOutcome::Ended(0))
+            }
+            None => Ok(ParseOutcome::Words(words_of_clap_matches(rt.alloc(), &matches)?)),
+        },
         Err(error) => {
             let _ = error.print(rt);
             Ok(ParseOutcome::Ended(if error.use_stderr() { 2 } else { 0 }))
         }
     }
+}
+
+// Prints the completions of the options for this shell.
+fn print_completions(rt: &(impl Print + Alloc<A = Global>), shell: &str) -> Result<(), AllocError> {
+    let text = completions(rt.alloc(), described_options(rt.alloc())?.as_slice(), shell)?;
+    let text = text.as_str();
+    let _ = print!(rt; "{text}");
+    Ok(())
+}
+
+// All options, as completions need them.
+fn described_options(alloc: Global) -> Result<Vec<Described>, AllocError> {
+    let mut options = Vec::new(alloc);
+    for flags in [
+        FORMS.as_slice(),
+        OTHERS.as_slice(),
+        IN_PLACE.as_slice(),
+        OF_CLAP.as_slice(),
+    ] {
+        for (letter, name, help) in flags {
+            options.push(Described {
+                letter: *letter,
+                name: *name,
+                values: &[],
+                choices: &[],
+                help: *help,
+            })?;
+        }
+    }
+    for one in [COLOR, PATHS, ROWS, COMPLETIONS] {
+        let (letter, name, _, choices, help) = one;
+        options.push(Described {
+            letter,
+            name,
+            values: &ONE_VALUE,
+            choices,
+            help,
+        })?;
+    }
+    for many in [ARGUMENTS.as_slice(), EDITS.as_slice()] {
+        for (name, values, help) in many {
+            options.push(Described {
+                letter: None,
+                name: *name,
+                values: *values,
+                choices: &[],
+                help: *help,
+            })?;
+        }
+    }
+    Ok(options)
 }
 
 // `jpath` as `clap` is told of it: its name, version, purpose and options.
@@ -204,6 +413,7 @@ fn clap_command<'a>(alloc: Global) -> Result<Command<'a>, AllocError> {
     Command::new(alloc, "jpath")
         .version("0.1.0")
         .about("Selects values of JSON documents by JSONPath: jpath [OPTIONS] PATH [FILE..]")
+        .after_help(EXAMPLES)
         .args(arguments)
 }
 
@@ -213,10 +423,12 @@ fn clap_arguments<'a>(alloc: Global) -> Result<Vec<Arg<'a>>, AllocError> {
     add_flags(alloc, FORMS.as_slice(), &mut arguments)?;
     add_argument(color_option(alloc), &mut arguments)?;
     add_argument(path_option(alloc), &mut arguments)?;
-    add_argument(rows_option(alloc), &mut arguments)?;
+    add_argument(one_value_option(alloc, ROWS), &mut arguments)?;
     add_flags(alloc, OTHERS.as_slice(), &mut arguments)?;
-    add_edit_options(alloc, EDITS.as_slice(), &mut arguments)?;
+    add_value_options(alloc, ARGUMENTS.as_slice(), &mut arguments)?;
+    add_value_options(alloc, EDITS.as_slice(), &mut arguments)?;
     add_flags(alloc, IN_PLACE.as_slice(), &mut arguments)?;
+    add_argument(completions_option(alloc), &mut arguments)?;
     add_argument(path_and_files_argument(alloc), &mut arguments)?;
     Ok(arguments)
 }
@@ -242,15 +454,15 @@ fn add_flags<'a>(
     Ok(())
 }
 
-// Adds an option for each of these edits, as `--set PATH JSON`.
-fn add_edit_options<'a>(
+// Adds each of these options with values, as `--set PATH JSON`.
+fn add_value_options<'a>(
     alloc: Global,
-    edits: &[EditOption],
+    options: &[ValueOption],
     arguments: &mut Vec<Arg<'a>>,
 ) -> Result<(), AllocError> {
-    for (name, values, help) in edits {
+    for (name, values, help) in options {
         add_argument(
-            as_edit_option(named_option(alloc, *name, *help), *values),
+            as_value_option(named_option(alloc, *name, *help), *values),
             arguments,
         )?;
     }
@@ -271,8 +483,8 @@ fn as_flag<'a>(argument: Arg<'a>, letter: Option<char>) -> Arg<'a> {
     }
 }
 
-// Makes an option an edit: these values stand behind it, and it may stand several times. A value may begin with `-`.
-fn as_edit_option<'a>(argument: Arg<'a>, values: &'a [&'a str]) -> Arg<'a> {
+// Puts these values behind an option, which may stand several times. A value may begin with `-`.
+fn as_value_option<'a>(argument: Arg<'a>, values: &'a [&'a str]) -> Arg<'a> {
     argument
         .action(ArgAction::Append)
         .allow_hyphen_values(true)
@@ -282,30 +494,29 @@ fn as_edit_option<'a>(argument: Arg<'a>, values: &'a [&'a str]) -> Arg<'a> {
 
 // The option `--color`, which says when lines are coloured.
 fn color_option<'a>(alloc: Global) -> Arg<'a> {
-    Arg::new(alloc, "color")
-        .short('C')
-        .long("color")
-        .value_name("WHEN")
+    one_value_option(alloc, COLOR)
         .value_parser(COLORS.as_slice())
         .default_value("auto")
-        .help("Colours: auto is on a terminal alone")
+}
+
+// The option `--completions`, which writes the completions of a shell.
+fn completions_option<'a>(alloc: Global) -> Arg<'a> {
+    one_value_option(alloc, COMPLETIONS).value_parser(SHELLS.as_slice())
 }
 
 // The option `-e`, which gives a path, or with `--rows` a column.
 fn path_option<'a>(alloc: Global) -> Arg<'a> {
-    Arg::new(alloc, "path")
-        .short('e')
-        .long("path")
-        .action(ArgAction::Append)
-        .value_name("PATH")
-        .help("A path, or with --rows a column; may be given several times")
+    one_value_option(alloc, PATHS).action(ArgAction::Append)
 }
 
-// The option `--rows`, which gives the path whose matches are the rows of a table.
-fn rows_option<'a>(alloc: Global) -> Arg<'a> {
-    Arg::new(alloc, "rows").long("rows").value_name("PATH").help(
-        "A row for each value that PATH selects, a field for each -e",
-    )
+// The option with one value that is described so.
+fn one_value_option<'a>(alloc: Global, described: OneValue) -> Arg<'a> {
+    let (letter, name, value, _, help) = described;
+    let argument = named_option(alloc, name, help).value_name(value);
+    match letter {
+        Some(letter) => argument.short(letter),
+        None => argument,
+    }
 }
 
 // The words that belong to no option: the path, where no option gives one, and the files.
@@ -325,6 +536,7 @@ fn words_of_clap_matches<'a>(
         flags: read_flags(matches),
         paths: option_values(alloc, matches, "path")?,
         rows: matches.get_str("rows"),
+        arguments: read_argument_words(alloc, matches)?,
         edits: read_edit_words(alloc, matches)?,
         rest: option_values(alloc, matches, "words")?,
     })
@@ -372,7 +584,26 @@ fn option_values<'a>(
     Ok(found)
 }
 
-// The edits that `clap` found, of all four options, in the order in which they are written.
+// The arguments that `clap` found, those of `--arg` first.
+fn read_argument_words<'a>(
+    alloc: Global,
+    matches: &ArgMatches<'a>,
+) -> Result<Vec<ArgumentWords<'a>>, AllocError> {
+    let mut arguments = Vec::new(alloc);
+    for pair in option_values(alloc, matches, "arg")?.chunks(2) {
+        if let [name, text] = pair {
+            arguments.push(ArgumentWords::Text(*name, *text))?;
+        }
+    }
+    for pair in option_values(alloc, matches, "argjson")?.chunks(2) {
+        if let [name, number] = pair {
+            arguments.push(ArgumentWords::Number(*name, *number))?;
+        }
+    }
+    Ok(arguments)
+}
+
+// The edits that `clap` found, of all options, in the order in which they are written.
 fn read_edit_words<'a>(
     alloc: Global,
     matches: &ArgMatches<'a>,
@@ -418,7 +649,7 @@ fn add_edits_of_option<'a>(
     Ok(())
 }
 
-// The edit that an option of this name (`set`, `set-text`, `null` or `remove`) asks for by these values, and the
+// The edit that an option of this name (`set` and so on) asks for by these values, and the
 // position of the first value among the words. `None` where there are no values.
 fn edit_with_position<'a>(
     name: &str,
@@ -430,6 +661,10 @@ fn edit_with_position<'a>(
     let edit = match name {
         "set" => EditWords::Set(*path, second),
         "set-text" => EditWords::SetText(*path, second),
+        "add" => EditWords::Add(*path, second),
+        "add-text" => EditWords::AddText(*path, second),
+        "append" => EditWords::Append(*path, second),
+        "rename" => EditWords::Rename(*path, second),
         "null" => EditWords::Null(*path),
         _ => EditWords::Remove(*path),
     };

@@ -17,6 +17,13 @@ const NO_MATCH: &str =
 
 const NO_FUNCTION: &str = "there are no functions in a path; jpath -c counts the matches";
 
+const NO_PIPE: &str =
+    "a path has no | to functions: jpath -c '$.a[*]' counts, jpath -l '$.*' lists the members";
+
+const NO_LIST: &str = "several paths are given by -e: jpath -e '$.a' -e '$.b'";
+
+const NO_IN: &str = "there is no `in`: write == for each text, joined by ||";
+
 const NO_SUM: &str = "a path computes nothing: write the number itself";
 
 const NO_BACKWARDS: &str = "a range has no negative step: it never runs backwards";
@@ -30,7 +37,7 @@ const NOT_CLOSED: &str = "the quoted text isn't closed";
 const PARENTHESES: &str = "a filter's condition is written in parentheses: [?(@.price < 10)]";
 
 // What is written instead of a wrong text, and why.
-const REPLACEMENTS: [(&str, &str, &str); 12] = [
+const REPLACEMENTS: [(&str, &str, &str); 13] = [
     ("=>", ">=", "greater or equal is >="),
     ("=<", "<=", "less or equal is <="),
     ("=", "==", "a comparison has two equals signs"),
@@ -39,6 +46,11 @@ const REPLACEMENTS: [(&str, &str, &str); 12] = [
     ("&", "&&", "conditions are joined by &&"),
     ("|", "||", "conditions are joined by ||"),
     ("]", "*]", "all children are [*]"),
+    (
+        "?",
+        "",
+        "a member that is missing is passed over, without a ?",
+    ),
     (
         "(@.length-1)",
         "-1",
@@ -82,6 +94,9 @@ fn hint_with_path(
         return Ok(Some(hint));
     }
     if let Some(hint) = hint_to_replace(alloc, before, rest)? {
+        return Ok(Some(hint));
+    }
+    if let Some(hint) = hint_to_quote_text(alloc, before, rest)? {
         return Ok(Some(hint));
     }
     let front = before.trim_end();
@@ -149,6 +164,38 @@ fn hint_to_quote_names(
     )
 }
 
+// The hint for a text without quotes behind a comparison sign, `== cod` or `> 10.day`: to write it in quotes.
+fn hint_to_quote_text(alloc: Global, before: &str, rest: &str) -> Result<Option<String>, AllocError>
+    ensures { IfOk result (λ o. IfSome o (λ hint. EndsWithPath (string_bytes hint))) }
+{
+    let front = before.trim_end_matches(|c: char| !is_end_of_text(c));
+    if rest.starts_with("null")
+        || !front
+            .trim_end()
+            .ends_with(|c: char| c == '=' || c == '<' || c == '>')
+    {
+        return Ok(None);
+    }
+    let begun = before.get(front.len()..).unwrap_or("");
+    let tail = rest.trim_start_matches(|c: char| !is_end_of_text(c));
+    let ended = rest
+        .get(..rest.len().saturating_sub(tail.len()))
+        .unwrap_or("");
+    let quoted = format!(in alloc; "'{begun}{ended}'")?;
+    hint_if_path(
+        alloc,
+        "a text in a filter needs quotes",
+        front,
+        quoted.as_str(),
+        tail,
+    )
+}
+
+// Whether a text without quotes that is compared ends before this character, or begins behind it.
+fn is_end_of_text(c: char) -> bool {
+    c.is_whitespace() || matches!(c, '=' | '<' | '>' | '&' | '|' | '(' | ')' | '\'' | '"')
+}
+
 // Whether a text in brackets can be bare names: it has a letter, and no sign of another form.
 fn is_bare(names: &str) -> bool {
     names.chars().any(|c| c.is_alphabetic() || c == '_')
@@ -180,21 +227,16 @@ fn hint_if_path(
     }
 }
 
-// The sentence for a text that begins with no `$`: to write it with `$` in front, if it is a path then.
+// The sentence for a text that begins with no `$`: to write it with `$` in front, if it is a path then, or what is written
+// for it.
 fn hint_to_begin_with_root(alloc: Global, path: &str) -> Result<String, AllocError>
     ensures { IfOk result (λ hint. BeginsWithRoot (string_bytes hint)) }
 {
-    let dot = if path.starts_with('.') || path.starts_with('[') {
-        ""
-    } else {
-        "."
-    };
-    let fixed = if path == "." {
-        String::from_str(alloc, "$")?
-    } else {
-        format!(in alloc; "${dot}{path}")?
-    };
-    let is_sign = path.starts_with('/') || path.starts_with('{') || path.starts_with('@');
+    if let Some(more) = more_for_other_tool(path) {
+        return format!(in alloc; "a path begins with ${more}");
+    }
+    let fixed = path_from_root(alloc, path)?;
+    let is_sign = path.starts_with('{') || path.starts_with('@');
     if !is_sign && PathParser::compile(alloc, fixed.as_str()).is_ok() {
         let fixed = fixed.as_str();
         return format!(in alloc; "a path begins with $: write {fixed}");
@@ -203,6 +245,49 @@ fn hint_to_begin_with_root(alloc: Global, path: &str) -> Result<String, AllocErr
         alloc,
         "a path begins with $, the document: $.name, $[0], $..name",
     )
+}
+
+// The text with `$` in front, `[*]` for each `[]`, and no `?` at its end.
+fn path_from_root(alloc: Global, path: &str) -> Result<String, AllocError> {
+    let mut fixed = String::from_str(alloc, "$")?;
+    if path == "." {
+        return Ok(fixed);
+    }
+    if !path.starts_with('.') && !path.starts_with('[') {
+        fixed.push('.')?;
+    }
+    let mut is_first = true;
+    for part in path.trim_end_matches('?').split("[]") {
+        if !is_first {
+            fixed.push_str("[*]")?;
+        }
+        fixed.push_str(part)?;
+        is_first = false;
+    }
+    Ok(fixed)
+}
+
+// What follows "a path begins with $" where a file, a filter of jq or several are in the place of a path.
+fn more_for_other_tool(path: &str) -> Option<&'static str> {
+    if path.contains("/") || (path.ends_with(".json") && !path.starts_with('.')) {
+        return Some(" and comes before the FILE: jpath '$.name' file.json");
+    }
+    if path == "keys" || path.starts_with("keys[") || path.contains("| keys") {
+        return Some(", and has no functions: jpath -l '$.*' lists the members");
+    }
+    if path == "length" || path.contains("| length") || path.contains("|length") {
+        return Some(", and has no functions: jpath -c '$.a[*]' counts the items of a");
+    }
+    if path.contains("select(") {
+        return Some(", and a filter is written $[?(@.price < 10)]");
+    }
+    if path.contains("|") {
+        return Some(", and has no | to functions: write several commands between pipes");
+    }
+    if path.contains(", ") {
+        return Some("; several are given by -e: jpath -e '$.a' -e '$.b'");
+    }
+    None
 }
 
 // The path text with parentheses about the condition of its first filter, as `[?(..)]`. `None` where it has no filter,
@@ -250,6 +335,15 @@ fn hint_for_unsupported_syntax(path: &str, before: &str, rest: &str) -> Option<&
         || (rest.starts_with('(') && !has_filter)
     {
         return Some(NO_FUNCTION);
+    }
+    if rest.starts_with("in ") {
+        return Some(NO_IN);
+    }
+    if !has_filter && rest.starts_with('|') {
+        return Some(NO_PIPE);
+    }
+    if !has_filter && rest.starts_with(',') && !before.ends_with(|c: char| c.is_ascii_digit()) {
+        return Some(NO_LIST);
     }
     if rest.starts_with('!') || rest.starts_with("not ") {
         return Some(NO_NOT);

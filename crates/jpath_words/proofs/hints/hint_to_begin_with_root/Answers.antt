@@ -6,4 +6,7 @@ pub returns-then-is_ok : goal.returns-then-is_ok
 returns-then-is_ok c = IfOk-weaker c.format-then-is_ok.result _ _ (λ hint e. record { more = codes ": write " ++ c.as_str-fixed.result.now; says = e }) c.format-then-is_ok.ensures.ok
 
 pub returns : goal.returns
-returns c = IfOk-weaker c.from_str-2.result _ _ (λ hint e. record { more = codes ", the document: $.name, $[0], $..name"; says = e }) c.from_str-2.ensures.ok
+returns c = IfOk-weaker c.from_str.result _ _ (λ hint e. record { more = codes ", the document: $.name, $[0], $..name"; says = e }) c.from_str.ensures.ok
+
+pub returns-in-Some : goal.returns-in-Some
+returns-in-Some c = IfOk-weaker c.format.result _ _ (λ hint e. record { more = c.in-Some.more.now; says = e }) c.format.ensures.ok
