@@ -67,8 +67,8 @@ fault_of_jpath_words() {
             --arg=* | --argjson=*) wants=1 ;;
             --path | --rows | --null | --remove) has_path=yes wants=1 ;;
             --path=* | --rows=* | --null=* | --remove=*) has_path=yes ;;
-            --set | --set-text) has_path=yes wants=2 ;;
-            --set=* | --set-text=*) has_path=yes wants=1 ;;
+            --set | --set-text | --add | --add-text | --append | --rename) has_path=yes wants=2 ;;
+            --set=* | --set-text=* | --add=* | --add-text=* | --append=* | --rename=*) has_path=yes wants=1 ;;
             --*) printf "jpath has no option '%s'" "$word" && return ;;
             -C) wants=1 ;;
             -e) has_path=yes wants=1 ;;

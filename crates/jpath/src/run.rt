@@ -2,6 +2,7 @@
 //! status is returned.
 
 mod document_visitor;
+mod edited_document;
 mod one_document;
 
 use document_visitor::{DocumentVisitor, Stop};
@@ -51,7 +52,27 @@ pub fn run_over_files<'r>(rt: &'r HostRuntime, wanted: &'r Wanted<'_>) -> u8 {
     if flushed.is_err() {
         return if is_pipe_closed.get() { 0 } else { 4 };
     }
+    tell_edits_made_nowhere(rt, wanted, &run);
     exit_status(&run)
+}
+
+// Tells each edit that was made in no document. Nothing is told where a file failed or a document was refused.
+fn tell_edits_made_nowhere<W: Output>(
+    rt: &HostRuntime,
+    wanted: &Wanted<'_>,
+    run: &Progress<'_, '_, W>,
+) {
+    let Task::Edits(edits) = &wanted.task else {
+        return;
+    };
+    if run.has_failed || run.visit.has_refused {
+        return;
+    }
+    for (at, edit) in edits.iter().enumerate() {
+        if run.visit.kept.has_made_nothing(at) {
+            let _ = eprintln!(rt; "jpath: {}: nothing is edited: no value is there for it", edit.words.path());
+        }
+    }
 }
 
 // The exit status of a run whose output was written: 4 where a file failed, else 3 where a document was refused, else 0

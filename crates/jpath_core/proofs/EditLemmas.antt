@@ -1,6 +1,6 @@
 -- Edited texts, read again.
-use Rattle.std.proofs.Common.{◌≡◌, ℕ, List, sym, subst, ◌∙◌}
-use Rattle.std.specs.Prelude.{Option, Some}
+use Rattle.std.proofs.Common.{◌≡◌, ℕ, List, true, sym, subst, ◌∙◌}
+use Rattle.std.specs.Prelude.{Option, Some, IfSome}
 use Rattle.serde_json.specs.Data.{Data}
 use Rattle.serde_json.specs.Read.{read}
 use Rattle.serde_json.specs.View.{view}
@@ -11,7 +11,11 @@ use Rattle.jpath_texts.specs.NumberPlaces.{is_as_read}
 use Rattle.jpath_texts.specs.declared.document.Document.{Document}
 use Rattle.jpath_edits.specs.Changed.{ReadsChanged}
 use Rattle.jpath_edits.specs.declared.change.Change.{Change}
-use Rattle.jpath_core.specs.Edited.{HasImage, IsEdited, IsEditedAt}
+use Rattle.json.specs.Value.{value_view}
+use Rattle.jpath_edits.specs.Grown.{IsGrownAt}
+use Rattle.jpath_edits.specs.declared.growth.Growth.{Growth}
+use Rattle.jpath_edits.specs.declared.growth.Grown.{Grown}
+use Rattle.jpath_core.specs.Edited.{HasImage, IsAppended, IsEdited, IsEditedAt, IsItemOf}
 
 pub read_again : (change : Change) (places locations : List Location) (before : Data) (bytes written : List ℕ) → places ≡ locations → bytes ≡ written
     → ReadsChanged change places before bytes → ReadsChanged change locations before written
@@ -26,4 +30,19 @@ edited_of path change document text written edited has before is = record {
       let same : view document.image ≡ before = let both : (let o : Option Data = Some (view document.image) in o) ≡ Some before = sym (has as_read) ∙ is in cc in
       subst (λ (d : Data). AreTargets path (document_of d) edited.locations) same (edited.targets as_read);
   reads = edited.reads has before is;
+}
+
+-- items at the ends of selected lists, from what was found of the text
+pub appended : (path value : List ℕ) (document : Document) (text : List ℕ) (growth : Growth) (places lent : List Location) (found : Option Grown) (grown : Grown) → found ≡ Some grown → lent ≡ places
+    → IfSome found (λ g. IsGrownAt growth (value_view document.exact) lent text g.text.items) → (is_as_read document.numbers ≡ true → AreTargets path (document_of (view document.image)) places) → IsItemOf value growth
+    → IsAppended path value document text grown.text.items
+appended path value document text growth places lent found grown is same made targets item = record {
+  growth = growth;
+  is_item = item;
+  grown = record {
+    locations = places;
+    targets = targets;
+    grown = subst (λ (ls : List Location). IsGrownAt growth (value_view document.exact) ls text grown.text.items) same
+        (subst (λ (o : Option Grown). IfSome o (λ g. IsGrownAt growth (value_view document.exact) lent text g.text.items)) is made);
+  };
 }

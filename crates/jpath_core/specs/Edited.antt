@@ -1,5 +1,5 @@
 -- A text that was edited at the targets of a path.
-use Rattle.std.specs.Prelude.{◌≡◌, ℕ, List, Bool, true, Some}
+use Rattle.std.specs.Prelude.{◌≡◌, ℕ, List, [], ◌∷◌, Bool, true, Some}
 use Rattle.std.specs.List.Sorted.{IsStrictlySortedBy}
 use Rattle.json.specs.Value.{value_view}
 use Rattle.serde_json.specs.Data.{Data}
@@ -11,7 +11,13 @@ use Rattle.jsonpath_select.specs.Targets.{AreTargets}
 use Rattle.jpath_texts.specs.NumberPlaces.{is_as_read}
 use Rattle.jpath_texts.specs.declared.document.Document.{Document}
 use Rattle.jpath_edits.specs.Changed.{IsChangedAt, ReadsChanged}
+use Rattle.jpath_edits.specs.Grown.{IsGrownAt}
 use Rattle.jpath_edits.specs.declared.change.Change.{Change}
+use Rattle.jpath_edits.specs.declared.growth.Growth.{Growth}
+use Rattle.jpath_edits.specs.declared.growth.Growth.TheVariants.{Member, Item, Name}
+use Rattle.json.specs.Json.{Json}
+use Rattle.jpath_texts.specs.Exact.{exact_of}
+use Rattle.jpath_core.specs.declared.grow.NewMember.{NewMember}
 
 -- Read again, the text is the document changed at locations that were selected. Where numbers are compared as they are read, these are the targets of the path.
 pub record IsEdited (path : List ℕ) (change : Change) (as_read : Bool) (before : Data) (written : List ℕ) : Type 0 where
@@ -30,3 +36,33 @@ pub record IsEditedAt (path : List ℕ) (change : Change) (document : Document) 
   pub targets : is_as_read document.numbers ≡ true → AreTargets path (document_of (view document.image)) locations
   pub changed : IsChangedAt change (value_view document.exact) locations text written
   pub reads : HasImage text document → (before : Data) → read text ≡ Some before → ReadsChanged change locations before written
+
+-- Something was made at locations that were selected. Where numbers are compared as they are read, these are the targets of the path.
+pub record IsGrownByPath (path : List ℕ) (growth : Growth) (document : Document) (text written : List ℕ) : Type 0 where
+  pub locations : List Location
+  pub targets : is_as_read document.numbers ≡ true → AreTargets path (document_of (view document.image)) locations
+  pub grown : IsGrownAt growth (value_view document.exact) locations text written
+
+-- what is made is an item with the value of this JSON text
+abbrev pub IsItemOf : List ℕ → Growth → Type 0
+IsItemOf value (Member k v) = ⊥
+IsItemOf value (Item v) = exact_of value ≡ Some (value_view v.now)
+IsItemOf value (Name k n) = ⊥
+
+-- what is made is a member of this name with the value of this JSON text
+abbrev pub IsMemberOf : List ℕ → List ℕ → Growth → Type 0
+IsMemberOf name value (Member k v) = (k.now ≡ name) × (exact_of value ≡ Some (value_view v.now))
+IsMemberOf name value (Item v) = ⊥
+IsMemberOf name value (Name k n) = ⊥
+
+-- An item with the value of this JSON text went to the end of the lists that the path selects.
+pub record IsAppended (path value : List ℕ) (document : Document) (text written : List ℕ) : Type 0 where
+  pub growth : Growth
+  pub is_item : IsItemOf value growth
+  pub grown : IsGrownByPath path growth document text written
+
+-- The member was made in the object above it.
+pub record IsMade (member : NewMember) (tree : Json) (text written : List ℕ) : Type 0 where
+  pub growth : Growth
+  pub is_member : IsMemberOf member.name.now member.value.now growth
+  pub grown : IsGrownAt growth tree (member.above.now ∷ []) text written

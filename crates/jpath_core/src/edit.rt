@@ -72,7 +72,7 @@ pub fn edit_text(
 }
 
 // Where the path leads in the document, each place once, in document order.
-fn select_locations_in_document_order(
+pub(crate) fn select_locations_in_document_order(
     alloc: Global,
     document: &Document<'_>,
     query: &Query<'_>,

@@ -4,6 +4,7 @@
 mod edit;
 mod exact_at_steps;
 mod exact_tree;
+mod grow;
 pub mod laws;
 mod output;
 mod selection;
@@ -13,6 +14,7 @@ pub use exact_at_steps::exact_value_at_steps;
 pub use exact_tree::exact_evaluator::{
     ExactOutcome, add_lines_by_exact_tree, may_answer_by_exact_tree,
 };
+pub use grow::{NewMember, add_member_text, append_text, rename_text};
 pub use jpath_edits::{Change, exact_value_at_location};
 pub use jpath_texts::{
     Compared, Document, DocumentRefusal, Ended, How, Kind, Line, LineColumn, LineEnd, Look, MARK, NumberKey,

@@ -6,7 +6,7 @@ use Rattle.std.proofs.lemmas.List.{map-append}
 use Rattle.jpath_edits.specs.Changed.{Cut, whole, replaced, part_text, IsSplicedAt}
 use Rattle.jpath_edits.specs.declared.parts.part.Part.{Part}
 
-take_on : (xs : List ℕ) (i j : ℕ) → i ≤ j → take j xs ≡ take i xs ++ take (j - i) (drop i xs)
+pub take_on : (xs : List ℕ) (i j : ℕ) → i ≤ j → take j xs ≡ take i xs ++ take (j - i) (drop i xs)
 take_on xs i j le = let sum : j ≡ i + (j - i) = omega arith in ap (λ n. take n xs) sum ∙ take-add i (j - i) xs
 
 -- the stretch from a place up to the part, and the part

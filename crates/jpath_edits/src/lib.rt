@@ -5,6 +5,7 @@
 mod change;
 mod check_edited_text;
 mod exact_at_location;
+mod growth;
 mod parts;
 mod same_document;
 mod same_exact_tree;
@@ -14,5 +15,6 @@ mod target_locations;
 pub use change::{Change, changed_text};
 pub use check_edited_text::are_bytes_of_changed_document;
 pub use exact_at_location::exact_value_at_location;
+pub use growth::{Grown, Growth, grown_text};
 pub use serde_value::serde_value_of_text;
 pub use target_locations::locations_below_root;

@@ -5,4 +5,5 @@ pub(crate) mod check_taken_parts;
 pub(crate) mod find_parts;
 pub(crate) mod part;
 pub(crate) mod part_texts;
+pub(crate) mod positions;
 pub(crate) mod splice;

@@ -8,7 +8,7 @@ use Rattle.jpath_words.specs.declared.command_line.Color.TheVariants.{Auto, Alwa
 use Rattle.jpath_words.specs.declared.command_line.Flags.{Flags}
 use Rattle.jpath_words.specs.declared.command_line.Words.{Words}
 use Rattle.jpath_words.specs.declared.command_line.EditWords.{EditWords}
-use Rattle.jpath_words.specs.declared.command_line.EditWords.TheVariants.{Set, SetText, Null, Remove}
+use Rattle.jpath_words.specs.declared.command_line.EditWords.TheVariants.{Set, SetText, Add, AddText, Append, Rename, Null, Remove}
 use Rattle.jpath_texts.specs.Exact.{exact_of}
 use Rattle.jpath_texts.specs.Lines.{compact}
 use Rattle.jpath_texts.specs.declared.output.match_line.LineEnd.{LineEnd}
@@ -60,10 +60,14 @@ AreOf queries texts = map (λ q. q.path) queries ≡ map (λ t. t.now) texts
 
 -- ---- edits
 
--- the text that an edit puts: of the value that its JSON is, of its text as a string, or of null
+-- the text that an edit puts: of the value that its JSON is, of its text or name as a string, or of null
 abbrev pub IsValueText : EditWords → List ℕ → Type 0
 IsValueText (Set path json) text = (tree : Json) × (exact_of json.now ≡ Some tree) × (text ≡ compact tree)
 IsValueText (SetText path words) text = text ≡ compact (string words.now)
+IsValueText (Add path json) text = (tree : Json) × (exact_of json.now ≡ Some tree) × (text ≡ compact tree)
+IsValueText (AddText path words) text = text ≡ compact (string words.now)
+IsValueText (Append path json) text = (tree : Json) × (exact_of json.now ≡ Some tree) × (text ≡ compact tree)
+IsValueText (Rename path new) text = text ≡ compact (string new.now)
 IsValueText (Null path) text = text ≡ compact null
 IsValueText (Remove path) text = text ≡ compact null
 

@@ -1,7 +1,7 @@
 -- The words of an edit, and of an argument.
 use Rattle.std.specs.Prelude.{ℕ, List}
 use Rattle.jpath_words.specs.declared.command_line.EditWords.{EditWords}
-use Rattle.jpath_words.specs.declared.command_line.EditWords.TheVariants.{Set, SetText, Null, Remove}
+use Rattle.jpath_words.specs.declared.command_line.EditWords.TheVariants.{Set, SetText, Add, AddText, Append, Rename, Null, Remove}
 use Rattle.jpath_words.specs.declared.command_line.ArgumentWords.{ArgumentWords}
 use Rattle.jpath_words.specs.declared.command_line.ArgumentWords.TheVariants.{Text, Number}
 
@@ -9,6 +9,10 @@ use Rattle.jpath_words.specs.declared.command_line.ArgumentWords.TheVariants.{Te
 abbrev pub path_of : EditWords → List ℕ
 path_of (Set path json) = path.now
 path_of (SetText path text) = path.now
+path_of (Add path json) = path.now
+path_of (AddText path text) = path.now
+path_of (Append path json) = path.now
+path_of (Rename path new) = path.now
 path_of (Null path) = path.now
 path_of (Remove path) = path.now
 

@@ -23,12 +23,14 @@ const EXAMPLES: &str = "Examples:
 Status: 0 something was selected or changed; 1 nothing was; 2 wrong words or path;
 3 a document has an error; 4 a file can't be read or written, or memory ran out.";
 
-// What help shows behind an option that takes a path alone; the next two have a second value.
+// What help shows behind an option that takes a path alone; the next three have a second value.
 const PATH: [&str; 1] = ["PATH"];
 
 const PATH_AND_JSON: [&str; 2] = ["PATH", "JSON"];
 
 const PATH_AND_TEXT: [&str; 2] = ["PATH", "TEXT"];
+
+const PATH_AND_NAME: [&str; 2] = ["PATH", "NAME"];
 
 const NAME_AND_TEXT: [&str; 2] = ["NAME", "TEXT"];
 
@@ -180,8 +182,8 @@ const ARGUMENTS: [ValueOption; 2] = [
     ),
 ];
 
-// The four options that edit.
-const EDITS: [ValueOption; 4] = [
+// The options that edit.
+const EDITS: [ValueOption; 8] = [
     (
         "set",
         &PATH_AND_JSON,
@@ -191,6 +193,22 @@ const EDITS: [ValueOption; 4] = [
         "set-text",
         &PATH_AND_TEXT,
         "TEXT in place of each value that PATH selects",
+    ),
+    (
+        "add",
+        &PATH_AND_JSON,
+        "The same, or a new member with it, as PATH's last name says",
+    ),
+    ("add-text", &PATH_AND_TEXT, "The same with TEXT"),
+    (
+        "append",
+        &PATH_AND_JSON,
+        "The value of JSON at the end of each list that PATH selects",
+    ),
+    (
+        "rename",
+        &PATH_AND_NAME,
+        "NAME in place of PATH's last name",
     ),
     (
         "null",
@@ -207,6 +225,14 @@ pub enum EditWords<'a> {
     Set(&'a str, &'a str),
     /// `--set-text PATH TEXT`: puts a text in place of each value that the path selects.
     SetText(&'a str, &'a str),
+    /// `--add PATH JSON`: puts the value of a JSON text at a plain path, and makes its last member if it isn't there.
+    Add(&'a str, &'a str),
+    /// `--add-text PATH TEXT`: the same with a text.
+    AddText(&'a str, &'a str),
+    /// `--append PATH JSON`: puts the value of a JSON text at the end of each list that the path selects.
+    Append(&'a str, &'a str),
+    /// `--rename PATH NAME`: gives each member that the path selects another name.
+    Rename(&'a str, &'a str),
     /// `--null PATH`: puts null in place of each value that the path selects.
     Null(&'a str),
     /// `--remove PATH`: removes each value that the path selects.
@@ -220,6 +246,8 @@ impl<'a> EditWords<'a> {
     {
         match self {
             EditWords::Set(path, _) | EditWords::SetText(path, _) => *path,
+            EditWords::Add(path, _) | EditWords::AddText(path, _) => *path,
+            EditWords::Append(path, _) | EditWords::Rename(path, _) => *path,
             EditWords::Null(path) | EditWords::Remove(path) => *path,
         }
     }
@@ -233,6 +261,10 @@ impl<'a> EditWords<'a> {
         match self {
             EditWords::Set(_, json) => EditWords::Set(path, *json),
             EditWords::SetText(_, text) => EditWords::SetText(path, *text),
+            EditWords::Add(_, json) => EditWords::Add(path, *json),
+            EditWords::AddText(_, text) => EditWords::AddText(path, *text),
+            EditWords::Append(_, json) => EditWords::Append(path, *json),
+            EditWords::Rename(_, name) => EditWords::Rename(path, *name),
             EditWords::Null(_) => EditWords::Null(path),
             EditWords::Remove(_) => EditWords::Remove(path),
         }
@@ -590,7 +622,7 @@ fn read_argument_words<'a>(
     Ok(arguments)
 }
 
-// The edits that `clap` found, of all four options, in the order in which they are written.
+// The edits that `clap` found, of all options, in the order in which they are written.
 fn read_edit_words<'a>(
     alloc: Global,
     matches: &ArgMatches<'a>,
@@ -636,7 +668,7 @@ fn add_edits_of_option<'a>(
     Ok(())
 }
 
-// The edit that an option of this name (`set`, `set-text`, `null` or `remove`) asks for by these values, and the
+// The edit that an option of this name (`set` and so on) asks for by these values, and the
 // position of the first value among the words. `None` where there are no values.
 fn edit_with_position<'a>(
     name: &str,
@@ -648,6 +680,10 @@ fn edit_with_position<'a>(
     let edit = match name {
         "set" => EditWords::Set(*path, second),
         "set-text" => EditWords::SetText(*path, second),
+        "add" => EditWords::Add(*path, second),
+        "add-text" => EditWords::AddText(*path, second),
+        "append" => EditWords::Append(*path, second),
+        "rename" => EditWords::Rename(*path, second),
         "null" => EditWords::Null(*path),
         _ => EditWords::Remove(*path),
     };

@@ -11,6 +11,7 @@ ghost use Rattle.jpath_words.specs.Asked.{is_edit, colored_by, end_by, paths_of,
 
 use crate::command_line::{Color, EditWords, Flags, Words};
 use crate::hints::warn_of_mixed_connectives;
+use crate::plain_path::{NamedMember, last_name_of_path, member_of_plain_path};
 use crate::refused_path::tell_refused_path;
 use crate::word_faults::words_fault;
 use jpath_texts::{
@@ -54,8 +55,10 @@ pub struct Edit<'a> {
     pub query: Query<'a>,
     pub compared: Compared,
     pub words: EditWords<'a>,
-    /// The JSON text that replaces each value that the edit's path selects.
+    /// The JSON text that replaces each value that the edit's path selects, or that is made there.
     pub value: Vec<u8>,
+    /// The member that the edit makes, or the name that it changes, with no place; `None` for other edits.
+    pub member: Option<NamedMember>,
 }
 
 /// Everything that the command line of `jpath` asks for: the task, how lines look, and the files.
@@ -315,12 +318,40 @@ fn read_edit<'a>(
     let query = compile_or_tell(rt, words.path())?;
     let compared = compared_by_queries(rt.alloc(), slice::from_ref(&query))?;
     let value = text_of_edit_value(rt, words)?;
+    let member = member_of_edit(rt, words, &query)?;
     Ok(Edit {
         query,
         compared,
         words,
         value,
+        member,
     })
+}
+
+// The member that an edit makes, or the name that it changes; `None` for other edits. Where its path can't say it, that
+// is told.
+fn member_of_edit(
+    rt: &(impl Eprint + Alloc<A = Global>),
+    edit: EditWords<'_>,
+    query: &Query<'_>,
+) -> Result<Option<NamedMember>, Refused> {
+    let alloc = rt.alloc();
+    let (found, sentence) = match edit {
+        EditWords::Add(_, _) | EditWords::AddText(_, _) => (
+            member_of_plain_path(alloc, query)?,
+            "--add makes a member by names and indexes alone, a name last",
+        ),
+        EditWords::Rename(_, _) => (
+            last_name_of_path(alloc, query)?,
+            "--rename wants a path that ends with one name",
+        ),
+        _ => return Ok(None),
+    };
+    if found.is_none() {
+        let _ = eprintln!(rt; "jpath: {}: {sentence}", edit.path());
+        return Err(Refused::Told);
+    }
+    Ok(found)
 }
 
 // The compact text of the JSON value that an edit puts at each place; that of null where it removes, which puts none.
@@ -332,15 +363,20 @@ fn text_of_edit_value(
 {
     let alloc = rt.alloc();
     match edit {
-        EditWords::Set(_, json) => text_of_json_value(rt, json),
-        EditWords::SetText(_, text) => compact_value_text(alloc, &Exact::String(text)),
+        EditWords::Set(_, json) => text_of_json_value(rt, "--set", json),
+        EditWords::Add(_, json) => text_of_json_value(rt, "--add", json),
+        EditWords::Append(_, json) => text_of_json_value(rt, "--append", json),
+        EditWords::SetText(_, text) | EditWords::AddText(_, text) | EditWords::Rename(_, text) => {
+            compact_value_text(alloc, &Exact::String(text))
+        }
         EditWords::Null(_) | EditWords::Remove(_) => compact_value_text(alloc, &Exact::Null),
     }
 }
 
-// The compact text of the value of `--set`, whose JSON text this is. Where it is no JSON, that is told and refused.
+// The compact text of the value of an option, whose JSON text this is. Where it is no JSON, that is told and refused.
 fn text_of_json_value(
     rt: &(impl Eprint + Alloc<A = Global>),
+    option: &str,
     json: &str,
 ) -> Result<Vec<u8>, Refused>
     ensures { IfOk result (λ text. (tree : Json) × (exact_of json.now ≡ Some tree) × (text.items ≡ compact tree)) }
@@ -351,8 +387,8 @@ fn text_of_json_value(
         Ok(exact) => compact_value_text(alloc, &exact),
         Err(DocumentRefusal::OutOfMemory) => Err(Refused::OutOfMemory),
         Err(_) => {
-            let _ = eprintln!(rt; "jpath: --set wants JSON, and this is none: {json}");
-            let _ = eprintln!(rt; "hint: --set-text takes a text as it is");
+            let _ = eprintln!(rt; "jpath: {option} wants JSON, and this is none: {json}");
+            let _ = eprintln!(rt; "hint: --set-text and --add-text take a text as it is");
             Err(Refused::Told)
         }
     }

@@ -106,7 +106,7 @@ fn in_place_fault(words: &Words<'_>) -> Option<&'static str> {
         };
     }
     if words.edits.is_empty() {
-        return Some("-i goes with an edit: --set, --set-text, --null or --remove");
+        return Some("-i goes with an edit, as --set, --add or --remove");
     }
     if words.rest.is_empty() {
         return Some("-i wants a FILE: name the files to be edited");

@@ -3,11 +3,11 @@
 ghost use Rattle.std.specs.Prelude.{◌≡◌, ◌≢◌, ◌++◌, false, true, IfOk, IfErr, OnOk, OnErr};
 ghost use Rattle.jpath.specs.Gives.{Gives, IsWhyStopped};
 
+use crate::run::edited_document::Kept;
 use crate::run::one_document::add_output_for_document;
 use jpath_core::{DocumentRefusal, Kind, MARK, Piece, Taken, Visitor};
 use jpath_files::{HeldOutput, RefusedDocument};
 use jpath_words::{Task, Wanted};
-use json::Scratch;
 use jsonpath_streams::{IoFailed, Output};
 use std::alloc::{AllocError, Global};
 
@@ -55,7 +55,7 @@ pub struct DocumentVisitor<'r, 'w, T, W> {
     pub name: &'r str,
     pub output: HeldOutput<W>,
     pub has_refused: bool,
-    scratch: Scratch,
+    pub kept: Kept,
     // What is written for the document at hand.
     text: Vec<u8>,
 }
@@ -69,7 +69,7 @@ impl<'r, 'w, T: Eprint + Alloc<A = Global>, W: Output> DocumentVisitor<'r, 'w, T
             name: "-",
             output: HeldOutput::new(rt.alloc(), writer),
             has_refused: false,
-            scratch: Scratch::new(rt.alloc()),
+            kept: Kept::new(rt.alloc()),
             text: Vec::new(rt.alloc()),
         }
     }
@@ -110,14 +110,7 @@ impl<'r, 'w, T: Eprint + Alloc<A = Global>, W: Output> Visitor for DocumentVisit
         self.flush_output_if_full()?;
         self.text.clear();
         let (wanted, name) = (self.wanted, self.name);
-        match add_output_for_piece(
-            self.rt,
-            wanted,
-            name,
-            piece,
-            &mut self.scratch,
-            &mut self.text,
-        ) {
+        match add_output_for_piece(self.rt, wanted, name, piece, &mut self.kept, &mut self.text) {
             Ok(count) => {
                 self.output.hold_text(&mut self.text)?;
                 Ok(Taken {
@@ -165,7 +158,7 @@ fn add_output_for_piece(
     wanted: &Wanted<'_>,
     name: &str,
     piece: &Piece<'_>,
-    scratch: &mut Scratch,
+    kept: &mut Kept,
     out: &mut Vec<u8>,
 ) -> Result<usize, DocumentRefusal>
     ensures document { OnOk result (piece.now.kind ≢ Kind.Refused) }
@@ -183,7 +176,7 @@ fn add_output_for_piece(
             if piece.is_marked && keeps_blanks {
                 out.extend_from_slice(&MARK)?;
             }
-            add_output_for_document(rt, wanted, name, piece.bytes, scratch, out)
+            add_output_for_document(rt, wanted, name, piece.bytes, kept, out)
         }
     }
 }

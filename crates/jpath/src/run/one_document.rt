@@ -3,13 +3,13 @@
 ghost use Rattle.json.specs.Tree.{HasNumbers};
 ghost use Rattle.json.specs.Value.{value_view};
 
+use crate::run::edited_document::{Kept, add_edited_document};
 use jpath_core::{
-    Change, Compared, Document, DocumentRefusal, Line, Look, Query, Shown, add_array,
-    add_lines_by_exact_tree, add_lines_for_path, add_rows, add_value_in_look, count_matches,
-    edit_text, may_answer_by_exact_tree, read_exact_tree,
+    Document, DocumentRefusal, Line, Query, Shown, add_array, add_lines_by_exact_tree,
+    add_lines_for_path, add_rows, count_matches, may_answer_by_exact_tree, read_exact_tree,
 };
-use jpath_words::{Edit, EditWords, Task, Wanted};
-use json::{Scratch, Value as Exact};
+use jpath_words::{Task, Wanted};
+use json::Value as Exact;
 use std::alloc::Global;
 use std::str;
 
@@ -22,7 +22,7 @@ pub fn add_output_for_document(
     wanted: &Wanted<'_>,
     name: &str,
     bytes: &[u8],
-    scratch: &mut Scratch,
+    kept: &mut Kept,
     out: &mut Vec<u8>,
 ) -> Result<usize, DocumentRefusal> {
     let alloc = rt.alloc();
@@ -30,9 +30,9 @@ pub fn add_output_for_document(
         return Err(DocumentRefusal::NotADocument);
     };
     if let Task::Edits(edits) = &wanted.task {
-        return add_edited_document(rt, edits.as_slice(), wanted.look, text, scratch, out);
+        return add_edited_document(rt, edits.as_slice(), wanted.look, text, kept, out);
     }
-    let exact = read_exact_tree(alloc, text, scratch)?;
+    let exact = read_exact_tree(alloc, text, &mut kept.scratch)?;
     let line = line_form_for_wanted(wanted, name);
     if let Some(found) = add_output_by_exact_tree(alloc, &exact, &wanted.task, &line, out)? {
         return Ok(found);
@@ -157,89 +157,4 @@ fn add_matches_by_exact_tree(
         }
     }
     Ok(Some(count))
-}
-
-// Writes the document as the edits leave it, in its own layout or indented anew, and answers how many places
-// their paths select below the root.
-fn add_edited_document(
-    rt: &(impl Eprint + Alloc<A = Global>),
-    edits: &[Edit<'_>],
-    look: Look,
-    text: &str,
-    scratch: &mut Scratch,
-    out: &mut Vec<u8>,
-) -> Result<usize, DocumentRefusal> {
-    let (bytes, count) = apply_edits(rt, edits, text, scratch)?;
-    if look.is_pretty {
-        add_pretty_document(rt.alloc(), bytes.as_slice(), look, scratch, out)?;
-    } else {
-        out.extend_from_slice(bytes.as_slice())?;
-    }
-    Ok(count)
-}
-
-// The text of the document as the edits leave it, one after another, and how many places their paths select below the
-// root.
-fn apply_edits(
-    rt: &(impl Eprint + Alloc<A = Global>),
-    edits: &[Edit<'_>],
-    text: &str,
-    scratch: &mut Scratch,
-) -> Result<(Vec<u8>, usize), DocumentRefusal> {
-    let mut count = 0usize;
-    let mut bytes = Vec::from_slice(rt.alloc(), text.as_bytes())?;
-    for edit in edits {
-        let (next, found) = apply_edit(rt, edit, bytes.as_slice(), scratch)?;
-        bytes = next;
-        count = count.saturating_add(found);
-    }
-    Ok((bytes, count))
-}
-
-// Writes an edited document, indented anew, and a line end.
-fn add_pretty_document(
-    alloc: Global,
-    bytes: &[u8],
-    look: Look,
-    scratch: &mut Scratch,
-    out: &mut Vec<u8>,
-) -> Result<(), DocumentRefusal> {
-    let Ok(text) = str::from_utf8(bytes) else {
-        return Err(DocumentRefusal::NotADocument);
-    };
-    let exact = read_exact_tree(alloc, text, scratch)?;
-    add_value_in_look(alloc, out, &exact, look)?;
-    Ok(out.push(b'\n')?)
-}
-
-// The text of the document as one edit leaves it, and how many places its path selects below the root. Where it selects
-// the root, that is told.
-fn apply_edit(
-    rt: &(impl Eprint + Alloc<A = Global>),
-    edit: &Edit<'_>,
-    bytes: &[u8],
-    scratch: &mut Scratch,
-) -> Result<(Vec<u8>, usize), DocumentRefusal> {
-    let alloc = rt.alloc();
-    let Ok(text) = str::from_utf8(bytes) else {
-        return Err(DocumentRefusal::NotADocument);
-    };
-    let Ok(value) = str::from_utf8(edit.value.as_slice()) else {
-        return Err(DocumentRefusal::NotADocument);
-    };
-    let change = match edit.words {
-        EditWords::Remove(_) => Change::Take,
-        _ => Change::Put(value),
-    };
-    let document = Document::read(alloc, text, scratch, &edit.compared)?;
-    let done = edit_text(alloc, text, document, &edit.query, change)?;
-    if done.selects_root {
-        tell_root_selected(rt, edit.words.path());
-    }
-    Ok((done.text, done.targets))
-}
-
-// Tells on standard error that the path of an edit selects the document itself, which no edit changes.
-fn tell_root_selected(rt: &(impl Eprint + Alloc<A = Global>), path: &str) {
-    let _ = eprintln!(rt; "jpath: {path}: the document itself is selected, which no edit changes");
 }

@@ -1,8 +1,8 @@
 //! Finds the parts of a document's text that an edit replaces.
 
 use crate::parts::part::Part;
+use crate::parts::positions::{ChildStart, Positions};
 use json::Value as Exact;
-use json_recognizer::first_document_len;
 use jsonpath_nodes::{LocStep, Location, PathStep};
 use std::alloc::{AllocError, Global};
 use std::cmp::Ordering;
@@ -19,13 +19,15 @@ pub(crate) fn find_parts(
     takes: bool,
 ) -> Result<Vec<Part>, AllocError> {
     let finder = Finder {
-        text: text.as_bytes(),
+        at: Positions {
+            text: text.as_bytes(),
+        },
         alloc,
         takes,
     };
     let share = TargetsAtOrBelow { targets, before: 0 };
     let mut parts = Vec::new(alloc);
-    finder.add_parts_in_value(exact, finder.blanks_end(0), share, 0, &mut parts)?;
+    finder.add_parts_in_value(exact, finder.at.blanks_end(0), share, 0, &mut parts)?;
     Ok(parts)
 }
 
@@ -41,7 +43,7 @@ struct TargetsAtOrBelow<'l> {
 #[derive(Clone, Copy)]
 struct Finder<'c> {
     alloc: Global,
-    text: &'c [u8],
+    at: Positions<'c>,
     // Whether what stands at the targets goes.
     takes: bool,
 }
@@ -68,7 +70,7 @@ impl<'c> Finder<'c> {
                 _ => (),
             }
         }
-        Ok(self.value_end(start))
+        Ok(self.at.value_end(start))
     }
 
     // Adds the parts that give way in the items of an array that begins at `start`, and answers where the array ends.
@@ -83,7 +85,7 @@ impl<'c> Finder<'c> {
     ) -> Result<usize, AllocError> {
         let mut here = ContainerPosition::new(start);
         for (index, item) in items.iter().enumerate() {
-            let begins = ChildStart::of_item(self.blanks_end(here.at));
+            let begins = ChildStart::of_item(self.at.blanks_end(here.at));
             let inside = targets_at_or_below_child(share, depth, PathStep::Index(index));
             self.add_parts_in_child(item, &mut here, begins, inside, depth, true, parts)?;
         }
@@ -104,7 +106,7 @@ impl<'c> Finder<'c> {
         let last = self.last_member_of_each_target_name(members, share.targets, depth)?;
         let mut here = ContainerPosition::new(start);
         for (index, member) in members.iter().enumerate() {
-            let begins = self.member_start(here.at);
+            let begins = self.at.member_start(here.at);
             let first = first_target_at_or_below_child(
                 share.targets,
                 depth,
@@ -145,14 +147,14 @@ impl<'c> Finder<'c> {
         let end = if is_last && !is_target {
             self.add_parts_in_value(exact, begins.value, share, depth.saturating_add(1), parts)?
         } else {
-            self.value_end(begins.value)
+            self.at.value_end(begins.value)
         };
         if is_last && is_target {
             parts.push(Part::of_value(begins.value, end, share.before))?;
         }
         here.kept_end = Some(end);
         here.taken = None;
-        here.at = self.position_behind_comma(end);
+        here.at = self.at.position_behind_comma(end);
         Ok(())
     }
 
@@ -164,8 +166,8 @@ impl<'c> Finder<'c> {
         target: usize,
         parts: &mut Vec<Part>,
     ) -> Result<(), AllocError> {
-        let value_end = self.value_end(begins.value);
-        let next = self.position_behind_comma(value_end);
+        let value_end = self.at.value_end(begins.value);
+        let next = self.at.position_behind_comma(value_end);
         if here.taken.is_none() {
             here.taken = Some(parts.len());
         }
@@ -190,7 +192,7 @@ impl<'c> Finder<'c> {
                 part.start = end;
             }
         }
-        self.blanks_end(here.at).saturating_add(1)
+        self.at.blanks_end(here.at).saturating_add(1)
     }
 
     // A list as long as the targets: at the first target at or below a name, the index of the last member of that name;
@@ -214,67 +216,6 @@ impl<'c> Finder<'c> {
         }
         Ok(last)
     }
-
-    // Where the member begins that stands behind the blanks from a position on, and where its value does.
-    fn member_start(&self, from: usize) -> ChildStart {
-        let label = self.blanks_end(from);
-        let colon = self.blanks_end(self.value_end(label));
-        ChildStart {
-            label,
-            value: self.blanks_end(colon.saturating_add(1)),
-        }
-    }
-
-    // The position behind the comma that follows a value, or that of the value's end where none follows.
-    fn position_behind_comma(&self, end: usize) -> usize {
-        let stop = self.blanks_end(end);
-        if self.text.get(stop) == Some(&b',') {
-            stop.saturating_add(1)
-        } else {
-            end
-        }
-    }
-
-    // The position where the blanks that begin at `from` end.
-    fn blanks_end(&self, from: usize) -> usize {
-        let mut end = from;
-        if let Some(rest) = self.text.get(from..) {
-            for byte in rest {
-                if !matches!(*byte, b' ' | b'\t' | b'\n' | b'\r') {
-                    break;
-                }
-                end = end.saturating_add(1);
-            }
-        }
-        end
-    }
-
-    // The position where the value that begins at `start` ends.
-    fn value_end(&self, start: usize) -> usize {
-        let rest = self.text.get(start..).unwrap_or(b"");
-        let len = match rest.first() {
-            Some(b'{' | b'[' | b'"') => first_document_len(rest),
-            _ => number_or_word_len(rest),
-        };
-        start.saturating_add(len)
-    }
-}
-
-// Where the name of a member begins, and where its value does. An item has no name.
-#[derive(Clone, Copy)]
-struct ChildStart {
-    label: usize,
-    value: usize,
-}
-
-impl ChildStart {
-    // The start of an item, which has no name: it begins with its value.
-    fn of_item(value: usize) -> ChildStart {
-        ChildStart {
-            label: value,
-            value,
-        }
-    }
 }
 
 // How far the finder went in an array or an object.
@@ -297,16 +238,6 @@ impl ContainerPosition {
             taken: None,
         }
     }
-}
-
-// How many bytes the number, the truth or the null takes with which the bytes begin.
-fn number_or_word_len(bytes: &[u8]) -> usize {
-    for (at, byte) in bytes.iter().enumerate() {
-        if matches!(*byte, b',' | b'}' | b']' | b' ' | b'\t' | b'\n' | b'\r') {
-            return at;
-        }
-    }
-    bytes.len()
 }
 
 // Those of the targets that are at or below one child, which is reached by this step at this depth.

@@ -1,0 +1,160 @@
+//! The text of a document as the edits of the command line leave it.
+
+use jpath_core::{
+    Change, Document, DocumentRefusal, Edited, Look, NewMember, add_member_text, add_value_in_look,
+    append_text, edit_text, read_exact_tree, rename_text,
+};
+use jpath_words::{Edit, EditWords};
+use json::Scratch;
+use std::alloc::{AllocError, Global};
+use std::str;
+
+/// What is kept from one document to the next: memory for reading, and which edits were made.
+#[derive(Drop)]
+pub struct Kept {
+    pub scratch: Scratch,
+    made_or_told: Vec<bool>,
+}
+
+impl Kept {
+    /// Nothing is kept yet: no edit was made.
+    pub fn new(alloc: Global) -> Kept {
+        Kept {
+            scratch: Scratch::new(alloc),
+            made_or_told: Vec::new(alloc),
+        }
+    }
+
+    // Notes that the edit at this place of the command line was made in a document, or that a message said why not.
+    fn note_made_or_told(&mut self, at: usize) -> Result<(), AllocError> {
+        if self.made_or_told.len() <= at {
+            self.made_or_told.resize(at.saturating_add(1), false)?;
+        }
+        if let Some(noted) = self.made_or_told.get_mut(at) {
+            *noted = true;
+        }
+        Ok(())
+    }
+
+    /// Whether the edit at this place of the command line was made in no document, and no message said why.
+    pub fn has_made_nothing(&self, at: usize) -> bool {
+        self.made_or_told.as_slice().get(at) != Some(&true)
+    }
+}
+
+/// Writes the document as the edits leave it, in its own layout or indented anew, and returns how often the edits were
+/// made.
+pub fn add_edited_document(
+    rt: &(impl Eprint + Alloc<A = Global>),
+    edits: &[Edit<'_>],
+    look: Look,
+    text: &str,
+    kept: &mut Kept,
+    out: &mut Vec<u8>,
+) -> Result<usize, DocumentRefusal> {
+    let (bytes, count) = apply_edits(rt, edits, text, kept)?;
+    if look.is_pretty {
+        add_pretty_document(rt.alloc(), bytes.as_slice(), look, &mut kept.scratch, out)?;
+    } else {
+        out.extend_from_slice(bytes.as_slice())?;
+    }
+    Ok(count)
+}
+
+// The text of the document as the edits leave it, one after another, and how many places their paths select below the
+// root.
+fn apply_edits(
+    rt: &(impl Eprint + Alloc<A = Global>),
+    edits: &[Edit<'_>],
+    text: &str,
+    kept: &mut Kept,
+) -> Result<(Vec<u8>, usize), DocumentRefusal> {
+    let mut count = 0usize;
+    let mut bytes = Vec::from_slice(rt.alloc(), text.as_bytes())?;
+    for (at, edit) in edits.iter().enumerate() {
+        let (next, found, is_told) = apply_edit(rt, edit, bytes.as_slice(), &mut kept.scratch)?;
+        bytes = next;
+        count = count.saturating_add(found);
+        if found > 0 || is_told {
+            kept.note_made_or_told(at)?;
+        }
+    }
+    Ok((bytes, count))
+}
+
+// Writes an edited document, indented anew, and a line end.
+fn add_pretty_document(
+    alloc: Global,
+    bytes: &[u8],
+    look: Look,
+    scratch: &mut Scratch,
+    out: &mut Vec<u8>,
+) -> Result<(), DocumentRefusal> {
+    let Ok(text) = str::from_utf8(bytes) else {
+        return Err(DocumentRefusal::NotADocument);
+    };
+    let exact = read_exact_tree(alloc, text, scratch)?;
+    add_value_in_look(alloc, out, &exact, look)?;
+    Ok(out.push(b'\n')?)
+}
+
+// The text of the document as one edit leaves it, how often it was made, and whether anything is told of it: that it
+// selects the root, or that a new name is taken.
+fn apply_edit(
+    rt: &(impl Eprint + Alloc<A = Global>),
+    edit: &Edit<'_>,
+    bytes: &[u8],
+    scratch: &mut Scratch,
+) -> Result<(Vec<u8>, usize, bool), DocumentRefusal> {
+    let alloc = rt.alloc();
+    let Ok(text) = str::from_utf8(bytes) else {
+        return Err(DocumentRefusal::NotADocument);
+    };
+    let path = edit.words.path();
+    let document = Document::read(alloc, text, scratch, &edit.compared)?;
+    let Some(done) = edited_text(alloc, text, document, edit)? else {
+        let _ = eprintln!(rt; "jpath: {path}: not renamed: a member of the new name is there already");
+        return Ok((Vec::from_slice(alloc, bytes)?, 0, true));
+    };
+    if done.selects_root {
+        let _ = eprintln!(rt; "jpath: {path}: the document itself is selected, which no edit changes");
+    }
+    Ok((done.text, done.targets, done.selects_root))
+}
+
+// The text of the document as one edit leaves it; `None` where a new name is taken.
+fn edited_text(
+    alloc: Global,
+    text: &str,
+    document: Document<'_>,
+    edit: &Edit<'_>,
+) -> Result<Option<Edited>, DocumentRefusal> {
+    let Ok(value) = str::from_utf8(edit.value.as_slice()) else {
+        return Err(DocumentRefusal::NotADocument);
+    };
+    let query = &edit.query;
+    match (edit.words, &edit.member) {
+        (EditWords::Rename(_, new), Some(member)) => {
+            rename_text(alloc, text, &document, query, member.name.as_str(), new)
+        }
+        (EditWords::Append(_, _), _) => Ok(Some(append_text(
+            alloc, text, &document, query, value,
+        )?)),
+        (EditWords::Remove(_), _) => Ok(Some(edit_text(
+            alloc,
+            text,
+            document,
+            query,
+            Change::Take,
+        )?)),
+        (_, Some(member)) => {
+            let member = NewMember {
+                above: &member.above,
+                name: member.name.as_str(),
+                value,
+            };
+            Ok(Some(add_member_text(alloc, text, document, query, &member)?))
+        }
+        (_, None) => Ok(Some(edit_text(alloc, text, document, query, Change::Put(value))?)),
+    }
+}

@@ -1,0 +1,139 @@
+//! Edits by a path that make something in a document, or give members another name.
+
+ghost use Rattle.std.specs.Prelude.{◌⊎◌, IfOk, IfSome};
+ghost use Rattle.json.specs.Value.{value_view};
+ghost use Rattle.jpath_edits.specs.declared.change.Change.TheVariants.{Put};
+ghost use Rattle.jpath_edits.specs.declared.growth.Growth.TheVariants.{Name};
+ghost use Rattle.jpath_core.specs.Edited.{IsAppended, IsEditedAt, IsGrownByPath, IsMade};
+
+use crate::edit::{Edited, edit_text, select_locations_in_document_order};
+use crate::selection::select_in_document;
+use jpath_edits::{Change, Growth, grown_text};
+use jpath_texts::{Document, DocumentRefusal, Query, read_exact_tree};
+use json::Scratch;
+use jsonpath_nodes::Location;
+use std::alloc::Global;
+use std::slice;
+
+/// A member to be made: the location of the object around it, its name, and the JSON text of its value.
+#[derive(Clone, Copy, Drop)]
+pub struct NewMember<'m> {
+    pub above: &'m Location,
+    pub name: &'m str,
+    pub value: &'m str,
+}
+
+/// The text of a document with a member made at the end of the object around it or, if `query`, the path to the member,
+/// selects it already, with its value replaced, as `edit_text` does. The document stays as it is if no object is there.
+/// Every other byte of the text stays.
+///
+/// The edited text is read again before it is returned. Errors: `EditNests` if it nests too deep to be read;
+/// `EditDiffers` if what is read is not the edited document, which would be a fault of this library; `NotADocument` if
+/// the value is no JSON; or `OutOfMemory`.
+pub fn add_member_text(
+    alloc: Global,
+    text: &str,
+    document: Document<'_>,
+    query: &Query<'_>,
+    member: &NewMember<'_>,
+) -> Result<Edited, DocumentRefusal>
+    ensures { IfOk result (λ edited. IsEditedAt query.now.path (Put member.now.value) document.entry text.now edited.text.items
+        ⊎ IsMade member.now (value_view document.entry.exact) text.now edited.text.items) }
+{
+    if is_there(alloc, &document, query)? {
+        return edit_text(alloc, text, document, query, Change::Put(member.value));
+    }
+    make_member_text(alloc, text, &document, member)
+}
+
+// Whether the path selects something.
+fn is_there(
+    alloc: Global,
+    document: &Document<'_>,
+    query: &Query<'_>,
+) -> Result<bool, DocumentRefusal> {
+    Ok(!select_in_document(alloc, document, query)?.is_empty())
+}
+
+// The text of a document with a member made that isn't there.
+fn make_member_text(
+    alloc: Global,
+    text: &str,
+    document: &Document<'_>,
+    member: &NewMember<'_>,
+) -> Result<Edited, DocumentRefusal>
+    ensures { IfOk result (λ edited. IsMade member.now (value_view document.now.exact) text.now edited.text.items) }
+{
+    let mut scratch = Scratch::new(alloc);
+    let value = read_exact_tree(alloc, member.value, &mut scratch)?;
+    let growth = Growth::Member(member.name, &value);
+    match grown_text(
+        alloc,
+        text,
+        &document.exact,
+        slice::from_ref(member.above),
+        &growth,
+    )? {
+        Some(grown) => Ok(Edited {
+            text: grown.text,
+            targets: grown.count,
+            selects_root: false,
+        }),
+        None => Err(DocumentRefusal::EditDiffers),
+    }
+}
+
+/// The text of a document with an item at the end of each list that a path selects, and that is in no other selected
+/// value. `value` is the item's JSON text. Every other byte of the text stays. Errors: as of `add_member_text`.
+pub fn append_text(
+    alloc: Global,
+    text: &str,
+    document: &Document<'_>,
+    query: &Query<'_>,
+    value: &str,
+) -> Result<Edited, DocumentRefusal>
+    ensures { IfOk result (λ edited. IsAppended query.now.path value.now document.now text.now edited.text.items) }
+{
+    let places = select_locations_in_document_order(alloc, document, query)?;
+    let mut scratch = Scratch::new(alloc);
+    let item = read_exact_tree(alloc, value, &mut scratch)?;
+    match grown_text(
+        alloc,
+        text,
+        &document.exact,
+        places.as_slice(),
+        &Growth::Item(&item),
+    )? {
+        Some(grown) => Ok(Edited {
+            text: grown.text,
+            targets: grown.count,
+            selects_root: false,
+        }),
+        None => Err(DocumentRefusal::EditDiffers),
+    }
+}
+
+/// The text of a document with another name for each member that a path selects, and that is in no other selected
+/// value. `old` is the name with which the path ends, `new` the other one. `None` if an object around such a member has
+/// a member of that name already. Every other byte of the text stays. Errors: as of `add_member_text`.
+pub fn rename_text(
+    alloc: Global,
+    text: &str,
+    document: &Document<'_>,
+    query: &Query<'_>,
+    old: &str,
+    new: &str,
+) -> Result<Option<Edited>, DocumentRefusal>
+    ensures { IfOk result (λ found. IfSome found (λ edited. IsGrownByPath query.now.path (Name old.entry new.entry) document.now text.now edited.text.items)) }
+{
+    let places = select_locations_in_document_order(alloc, document, query)?;
+    let growth = Growth::Name(old, new);
+    match grown_text(alloc, text, &document.exact, places.as_slice(), &growth)? {
+        Some(grown) => Ok(Some(Edited {
+            text: grown.text,
+            targets: grown.count,
+            selects_root: false,
+        })),
+        None => Ok(None),
+    }
+}

@@ -1,0 +1,149 @@
+//! Edits that make something: a member at the end of an object, an item at the end of a list, a name in place of
+//! another. Every other byte of the text stays.
+
+ghost use Rattle.std.specs.Prelude.{◌≡◌, map, IfOk, IfSome, IsTrue, Some};
+ghost use Rattle.json.specs.Value.{value_view};
+ghost use Rattle.jsonpath_nodes.specs.place.Owned.{owned_steps};
+ghost use Rattle.jpath_edits.specs.Grown.{container_of, containers_of, grown_all, CanBeWritten, IsGrownAt};
+ghost use Rattle.jpath_texts.specs.Exact.{exact_of};
+
+mod find_seams;
+mod is_grown_text;
+mod layout;
+mod seam;
+mod take_back;
+
+use crate::exact_at_location::exact_value_below;
+use crate::target_locations::topmost_locations;
+use find_seams::find_seams;
+use is_grown_text::is_grown_text;
+use jpath_texts::DocumentRefusal;
+use json::Value as Exact;
+use jsonpath_nodes::{LocStep, Location};
+use seam::{are_seams_of, fill_seams};
+use std::alloc::{AllocError, Global};
+use std::str;
+
+/// What an edit makes in a document.
+#[derive(Clone, Copy, Debug, Drop)]
+pub enum Growth<'c, 'v> {
+    /// A member of this name with this value at the end of an object that has no member of the name.
+    Member(&'c str, &'c Exact<'v>),
+    /// An item with this value at the end of a list.
+    Item(&'c Exact<'v>),
+    /// The second name in place of the first, in an object that has no member of the second.
+    Name(&'c str, &'c str),
+}
+
+/// A text in which something was made, and how often.
+#[derive(Drop)]
+pub struct Grown {
+    /// The edited text.
+    pub text: Vec<u8>,
+    /// How many members or items were made, or how many members have another name.
+    pub count: usize,
+}
+
+/// The text of a document with `growth` made at each location of `places` except those below another one: for a member
+/// or an item the locations are those of the objects or lists that get it, for a name those of the members that get it.
+/// A value that is no object or list stays as it is. A new member or item is separated from the one before it as that
+/// one is from its predecessor; if there are fewer, it is laid out like the document. `exact` is the document's exact
+/// tree, and `places` is in document order.
+///
+/// `None` if an object has a member of the new name already. Errors: `EditNests` if the edited text nests too deep to
+/// be read; `EditDiffers` if it is not the document with `growth` made, which would be a fault of this library; or
+/// `OutOfMemory`.
+pub fn grown_text(
+    alloc: Global,
+    text: &str,
+    exact: &Exact<'_>,
+    places: &[Location],
+    growth: &Growth<'_, '_>,
+) -> Result<Option<Grown>, DocumentRefusal>
+    requires { CanBeWritten growth.now }
+    ensures { IfOk result (λ found. IfSome found (λ grown. IsGrownAt growth.now (value_view exact.now) places.now text.now grown.text.items)) }
+{
+    let containers = containers(alloc, places, growth)?;
+    if is_name_taken(exact, containers.as_slice(), growth) {
+        return Ok(None);
+    }
+    let seams = find_seams(alloc, text, exact, places, growth)?;
+    let Some(bytes) = fill_seams(alloc, text.as_bytes(), seams.as_slice())? else {
+        return Err(DocumentRefusal::EditDiffers);
+    };
+    if !are_seams_of(alloc, text, seams.as_slice(), growth)?
+        || !is_grown(
+            alloc,
+            bytes.as_slice(),
+            exact,
+            containers.as_slice(),
+            growth,
+        )?
+    {
+        return Err(DocumentRefusal::EditDiffers);
+    }
+    Ok(Some(Grown {
+        text: bytes,
+        count: seams.len(),
+    }))
+}
+
+// Whether these bytes, read, are the document with the growth made in each of these containers; false if they are not
+// UTF-8.
+fn is_grown(
+    alloc: Global,
+    bytes: &[u8],
+    exact: &Exact<'_>,
+    containers: &[&[LocStep]],
+    growth: &Growth<'_, '_>,
+) -> Result<bool, DocumentRefusal>
+    ensures { IfOk result (λ right. IsTrue right → exact_of bytes.now ≡ Some (grown_all growth.now (map (λ c. owned_steps c.now) containers.now) (value_view exact.now))) }
+{
+    match str::from_utf8(bytes) {
+        Ok(written) => is_grown_text(alloc, written, exact, containers, growth),
+        Err(_) => Ok(false),
+    }
+}
+
+// Where the objects and lists stand in which something is made, for the topmost of these places.
+fn containers<'l>(
+    alloc: Global,
+    places: &'l [Location],
+    growth: &Growth<'_, '_>,
+) -> Result<Vec<&'l [LocStep]>, AllocError>
+    ensures { IfOk result (λ found. map (λ c. owned_steps c.now) found.items ≡ containers_of growth.now places.now) }
+{
+    let tops = topmost_locations(alloc, places)?;
+    let mut found = Vec::new(alloc);
+    for location in tops.as_slice() {
+        found.push(container(location, growth))?;
+    }
+    Ok(found)
+}
+
+// Where the object or list stands in which something is made: at a location itself, or above a member that gets
+// another name.
+fn container<'l>(location: &'l Location, growth: &Growth<'_, '_>) -> &'l [LocStep]
+    ensures { owned_steps result.now ≡ container_of growth.now location.now }
+{
+    match growth {
+        Growth::Name(_, _) => match location.steps().split_last() {
+            Some((_, above)) => above,
+            None => location.steps(),
+        },
+        _ => location.steps(),
+    }
+}
+
+// Whether a name is to be given to a member of an object that has one of that name already.
+fn is_name_taken(exact: &Exact<'_>, containers: &[&[LocStep]], growth: &Growth<'_, '_>) -> bool {
+    match growth {
+        Growth::Name(_, new) => containers.iter().any(|container| {
+            match exact_value_below(exact, *container) {
+                Some(object) => object.get(*new).is_some(),
+                None => false,
+            }
+        }),
+        _ => false,
+    }
+}
