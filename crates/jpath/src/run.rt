@@ -6,7 +6,7 @@ mod edited_document;
 mod one_document;
 
 use document_visitor::{DocumentVisitor, Stop};
-use jpath_core::{Ended, How, ReadFailure, add_header, visit_documents};
+use jpath_core::{Ended, How, ReadFailure, add_header, add_line_end, visit_documents};
 use jpath_files::{
     FaultTellingReader, FaultTellingWriter, FileToEdit, Way, open_to_edit, put_in_place,
 };
@@ -250,10 +250,10 @@ fn add_count_line(
     out: &mut Vec<u8>,
 ) -> Result<(), Stop> {
     let line = if wanted.has_names {
-        format!(in alloc; "{name}:{count}\n")?
+        format!(in alloc; "{name}:{count}")?
     } else {
-        format!(in alloc; "{count}\n")?
+        format!(in alloc; "{count}")?
     };
     out.extend_from_slice(line.as_bytes())?;
-    Ok(())
+    Ok(add_line_end(out, wanted.line_end)?)
 }

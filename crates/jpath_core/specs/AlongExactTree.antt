@@ -17,7 +17,7 @@ use Rattle.jsonpath_nodes.specs.compare.Comparisons.{Seen, null_value, truth, te
 use Rattle.jsonpath_select.specs.Meaning.{sel}
 use Rattle.jsonpath_select.specs.Parts.{name_at, literals, has_pair, joined}
 use Rattle.jpath_edits.specs.ExactAt.{exact_at}
-use Rattle.jpath_texts.specs.Lines.{named, shown}
+use Rattle.jpath_texts.specs.Lines.{named, shown, record_start, line_end}
 use Rattle.jpath_texts.specs.declared.output.match_line.Line.{Line}
 use Rattle.jpath_core.specs.declared.exact_tree.exact_evaluator.Lines.{Lines}
 
@@ -168,7 +168,7 @@ is_plain_line (Some line) = not line.now.look.is_colored
 
 -- the line of a value, without its place
 abbrev pub value_line : Line → Json → List ℕ
-value_line line j = named line.name ++ (shown line.look.is_raw line.look.is_pretty j ++ 10 ∷ [])
+value_line line j = record_start line.is_record ++ (named line.name ++ (shown line.look.is_raw line.look.is_pretty j ++ line_end line.end))
 
 abbrev pub value_lines : Option (Bor Line) → List Json → List ℕ
 value_lines None js = []

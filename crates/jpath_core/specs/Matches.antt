@@ -8,7 +8,7 @@ use Rattle.jsonpath_nodes.specs.place.Location.{Location}
 use Rattle.jsonpath_nodes.specs.place.LocationText.{location_text}
 use Rattle.jsonpath_select.specs.Meaning.{sel}
 use Rattle.jpath_edits.specs.ExactAt.{exact_at}
-use Rattle.jpath_texts.specs.Lines.{named, shown}
+use Rattle.jpath_texts.specs.Lines.{named, shown, record_start, line_end}
 use Rattle.jpath_texts.specs.declared.output.match_line.Line.{Line}
 use Rattle.jpath_texts.specs.declared.output.match_line.Shown.{Shown}
 use Rattle.jpath_texts.specs.declared.output.match_line.Shown.TheVariants.{Values, Places, PlacesAndValues}
@@ -21,7 +21,7 @@ content PlacesAndValues place text = place ++ (9 ∷ [] ++ text)
 
 -- the line of a value at a place
 abbrev pub line_text : Line → Location → Json → List ℕ
-line_text line l j = named line.name ++ (content line.shown (location_text l) (shown line.look.is_raw line.look.is_pretty j) ++ 10 ∷ [])
+line_text line l j = record_start line.is_record ++ (named line.name ++ (content line.shown (location_text l) (shown line.look.is_raw line.look.is_pretty j) ++ line_end line.end))
 
 abbrev pub line_text_if : Line → Location → Option Json → List ℕ
 line_text_if line l None = []

@@ -1,5 +1,5 @@
 -- The text of a value, and why a text is refused.
-use Rattle.std.specs.Prelude.{◌≡◌, ℕ, Bool, cond, List, [], ◌∷◌, ◌++◌, Option, Some, None, option_and_then}
+use Rattle.std.specs.Prelude.{◌≡◌, ℕ, Bool, cond, if◌then◌else◌, List, [], ◌∷◌, ◌++◌, Option, Some, None, option_and_then}
 use Rattle.std.specs.Borrow.{Bor}
 use Rattle.json.specs.Json.{Json, null, boolean, number, string, array, object}
 use Rattle.json.specs.Layout.{pretty}
@@ -8,6 +8,8 @@ use Rattle.json.specs.Tree.{json_tokens}
 use Rattle.serde_json.specs.Read.{of_json}
 use Rattle.jpath_texts.specs.Exact.{exact_of}
 use Rattle.jpath_texts.specs.NamesOnce.{names_once}
+use Rattle.jpath_texts.specs.declared.output.match_line.LineEnd.{LineEnd}
+use Rattle.jpath_texts.specs.declared.output.match_line.LineEnd.TheVariants.{LineFeed, Nul, Nothing}
 use Rattle.jpath_texts.specs.declared.refusal.DocumentRefusal.{DocumentRefusal}
 use Rattle.jpath_texts.specs.declared.refusal.DocumentRefusal.TheVariants.{NotADocument, HugeExponent, EditNests, EditDiffers, OutOfMemory}
 
@@ -36,6 +38,16 @@ shown is_raw is_pretty j = let text = laid_out is_pretty (names_once j) in cond 
 abbrev pub named : Option (Bor (List ℕ)) → List ℕ
 named None = []
 named (Some name) = name.now ++ 58 ∷ []
+
+-- what begins a text of a JSON text sequence
+abbrev pub record_start : Bool → List ℕ
+record_start is_record = if is_record then 30 ∷ [] else []
+
+-- what follows a line
+abbrev pub line_end : LineEnd → List ℕ
+line_end LineFeed = 10 ∷ []
+line_end Nul = 0 ∷ []
+line_end Nothing = []
 
 -- the text is no document
 abbrev pub IsRefusedText : List ℕ → Type 0

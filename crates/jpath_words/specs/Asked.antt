@@ -11,6 +11,8 @@ use Rattle.jpath_words.specs.declared.command_line.EditWords.{EditWords}
 use Rattle.jpath_words.specs.declared.command_line.EditWords.TheVariants.{Set, SetText, Add, AddText, Append, Rename, Null, Remove}
 use Rattle.jpath_texts.specs.Exact.{exact_of}
 use Rattle.jpath_texts.specs.Lines.{compact}
+use Rattle.jpath_texts.specs.declared.output.match_line.LineEnd.{LineEnd}
+use Rattle.jpath_texts.specs.declared.output.match_line.LineEnd.TheVariants.{LineFeed, Nul, Nothing}
 use Rattle.jpath_texts.specs.declared.output.match_line.Shown.{Shown}
 use Rattle.jpath_texts.specs.declared.output.match_line.Shown.TheVariants.{Values, Places, PlacesAndValues}
 use Rattle.jpath_texts.specs.NumberPlaces.{HasSides}
@@ -35,6 +37,10 @@ abbrev pub colored_by : Color → Bool → Bool → Bool
 colored_by Always is_terminal has_no_color = true
 colored_by Never is_terminal has_no_color = false
 colored_by Auto is_terminal has_no_color = is_terminal && not has_no_color
+
+-- what follows a value
+abbrev pub end_by : Flags → LineEnd
+end_by flags = if flags.join then Nothing else (if flags.nul then Nul else LineFeed)
 
 -- ---- paths and files
 

@@ -39,6 +39,17 @@ const NAME_AND_NUMBER: [&str; 2] = ["NAME", "NUMBER"];
 // A flag: its letter, its name, and what help says of it.
 type Flag = (Option<char>, &'static str, &'static str);
 
+// What follows a value, and what begins it.
+const ENDS: [Flag; 3] = [
+    (Some('j'), "join", "Nothing between values: no line ends"),
+    (Some('0'), "nul", "The byte 0 in place of line ends"),
+    (
+        None,
+        "seq",
+        "A JSON text sequence: the byte 30 (RS) before each value",
+    ),
+];
+
 // What is written of a match, and of a document.
 const FORMS: [Flag; 9] = [
     (Some('r'), "raw", "Texts without quotes and escapes"),
@@ -306,6 +317,9 @@ pub struct Flags {
     pub tsv: bool,
     pub header: bool,
     pub check: bool,
+    pub join: bool,
+    pub nul: bool,
+    pub seq: bool,
     pub color: Color,
 }
 
@@ -369,6 +383,7 @@ fn described_options(alloc: Global) -> Result<Vec<Described>, AllocError> {
     let mut options = Vec::new(alloc);
     for flags in [
         FORMS.as_slice(),
+        ENDS.as_slice(),
         OTHERS.as_slice(),
         IN_PLACE.as_slice(),
         OF_CLAP.as_slice(),
@@ -421,6 +436,7 @@ fn clap_command<'a>(alloc: Global) -> Result<Command<'a>, AllocError> {
 fn clap_arguments<'a>(alloc: Global) -> Result<Vec<Arg<'a>>, AllocError> {
     let mut arguments = Vec::new(alloc);
     add_flags(alloc, FORMS.as_slice(), &mut arguments)?;
+    add_flags(alloc, ENDS.as_slice(), &mut arguments)?;
     add_argument(color_option(alloc), &mut arguments)?;
     add_argument(path_option(alloc), &mut arguments)?;
     add_argument(one_value_option(alloc, ROWS), &mut arguments)?;
@@ -565,6 +581,9 @@ fn read_flags(matches: &ArgMatches<'_>) -> Flags {
         tsv: matches.get_flag("tsv"),
         header: matches.get_flag("header"),
         check: matches.get_flag("check"),
+        join: matches.get_flag("join"),
+        nul: matches.get_flag("nul"),
+        seq: matches.get_flag("seq"),
         color,
     }
 }

@@ -12,6 +12,6 @@ mod task;
 mod word_faults;
 
 pub use arguments::filled_words::{FilledPaths, fill_paths, words_with_paths};
-pub use command_line::{ArgumentWords, EditWords, Flags, ParseOutcome, Words, parse_words};
+pub use command_line::{EditWords, Flags, ParseOutcome, Words, parse_words};
 pub use plain_path::NamedMember;
 pub use task::{Edit, Refused, Table, Task, Wanted, wanted_of_words, wants_color};

@@ -7,7 +7,7 @@ ghost use Rattle.json.specs.Tree.{HasNumbers};
 ghost use Rattle.json.specs.Value.{value_view};
 ghost use Rattle.jpath_texts.specs.Exact.{exact_of};
 ghost use Rattle.jpath_texts.specs.Lines.{compact};
-ghost use Rattle.jpath_words.specs.Asked.{is_edit, colored_by, paths_of, files_of, shown_by, queries_of, AreOf, AreEditsOf, Covers, IsAsked, IsEditOf, IsOfMatches, IsValueText};
+ghost use Rattle.jpath_words.specs.Asked.{is_edit, colored_by, end_by, paths_of, files_of, shown_by, queries_of, AreOf, AreEditsOf, Covers, IsAsked, IsEditOf, IsOfMatches, IsValueText};
 
 use crate::command_line::{Color, EditWords, Flags, Words};
 use crate::hints::warn_of_mixed_connectives;
@@ -15,7 +15,8 @@ use crate::plain_path::{NamedMember, last_name_of_path, member_of_plain_path};
 use crate::refused_path::tell_refused_path;
 use crate::word_faults::words_fault;
 use jpath_texts::{
-    Compared, DocumentRefusal, Look, Query, Separated, Shown, add_compact_value, read_exact_tree,
+    Compared, DocumentRefusal, LineEnd, Look, Query, Separated, Shown, add_compact_value,
+    read_exact_tree,
 };
 use json::{Scratch, Value as Exact};
 use std::alloc::{AllocError, AllocFailed, Global};
@@ -70,6 +71,9 @@ pub struct Wanted<'a> {
     pub look: Look,
     pub files: Vec<&'a str>,
     pub has_names: bool,
+    /// Whether each value begins with the byte 30 (RS).
+    pub is_sequence: bool,
+    pub line_end: LineEnd,
     pub keeps_going: bool,
     pub is_in_place: bool,
     /// Whether the edited text is written into the file itself (`--copy`), instead of a new file that replaces it.
@@ -131,6 +135,8 @@ pub fn wanted_of_words<'a>(
 ) -> Result<Wanted<'a>, Refused>
     ensures look { IfOk result (λ wanted. wanted.look ≡ record { is_raw = words.now.flags.raw; is_pretty = words.now.flags.pretty; is_colored = is_colored }) }
     ensures names { IfOk result (λ wanted. wanted.has_names ≡ words.now.flags.with_filename) }
+    ensures sequence { IfOk result (λ wanted. wanted.is_sequence ≡ words.now.flags.seq) }
+    ensures ends { IfOk result (λ wanted. wanted.line_end ≡ end_by words.now.flags) }
     ensures goes_on { IfOk result (λ wanted. wanted.keeps_going ≡ words.now.flags.keep_going) }
     ensures in_place { IfOk result (λ wanted. wanted.is_in_place ≡ words.now.flags.in_place) }
     ensures copied { IfOk result (λ wanted. wanted.is_copied ≡ words.now.flags.copy) }
@@ -163,6 +169,8 @@ fn wanted_with_task<'a>(
 ) -> Result<Wanted<'a>, Refused>
     ensures look { IfOk result (λ wanted. wanted.look ≡ record { is_raw = flags.now.raw; is_pretty = flags.now.pretty; is_colored = is_colored }) }
     ensures names { IfOk result (λ wanted. wanted.has_names ≡ flags.now.with_filename) }
+    ensures sequence { IfOk result (λ wanted. wanted.is_sequence ≡ flags.now.seq) }
+    ensures ends { IfOk result (λ wanted. wanted.line_end ≡ end_by flags.now) }
     ensures goes_on { IfOk result (λ wanted. wanted.keeps_going ≡ flags.now.keep_going) }
     ensures in_place { IfOk result (λ wanted. wanted.is_in_place ≡ flags.now.in_place) }
     ensures files { IfOk result (λ wanted. wanted.files.items ≡ files.entry.items) }
@@ -181,10 +189,25 @@ fn wanted_with_task<'a>(
         },
         files,
         has_names: flags.with_filename,
+        is_sequence: flags.seq,
+        line_end: line_end(flags),
         keeps_going: flags.keep_going,
         is_in_place: flags.in_place,
         is_copied: flags.copy,
     })
+}
+
+// What follows a value, by the flags.
+fn line_end(flags: &Flags) -> LineEnd
+    ensures { result ≡ end_by flags.now }
+{
+    if flags.join {
+        LineEnd::Nothing
+    } else if flags.nul {
+        LineEnd::Nul
+    } else {
+        LineEnd::LineFeed
+    }
 }
 
 /// Whether `jpath` writes its lines in colours: as `--color` says or, if that is `auto`, if the output is a terminal

@@ -43,7 +43,35 @@ pub(crate) fn words_fault(words: &Words<'_>) -> Option<&'static str> {
     if flags.array && flags.count {
         return Some("-a writes arrays and -c numbers: leave one of them out");
     }
-    table_fault(words, has_form).or(in_place_fault(words))
+    ends_fault(words)
+        .or(table_fault(words, has_form))
+        .or(in_place_fault(words))
+}
+
+// The sentence for `-j`, `-0` and `--seq` where they do not go with the other words, or `None`.
+fn ends_fault(words: &Words<'_>) -> Option<&'static str> {
+    let flags = words.flags;
+    if !flags.join && !flags.nul && !flags.seq {
+        return None;
+    }
+    if (flags.join && flags.nul) || (flags.seq && (flags.join || flags.nul)) {
+        return Some("-j, -0 and --seq say what is between values: leave one of them");
+    }
+    if words.rows.is_some() || !words.edits.is_empty() || flags.quiet {
+        return Some("-j, -0 and --seq go with values: leave them, or --rows, -q and edits, out");
+    }
+    if flags.join && flags.count {
+        return Some("-j has nothing between the numbers of -c: leave one of them out");
+    }
+    let has_other = flags.raw
+        || flags.count
+        || flags.with_filename
+        || flags.locations
+        || flags.with_locations;
+    if flags.seq && has_other {
+        return Some("--seq writes JSON texts: leave -r -l -L -c -H out");
+    }
+    None
 }
 
 // The sentence for words about a table (`--rows`, `--csv`, `--tsv`, `--header`) that do not go together, or `None`.

@@ -50,6 +50,8 @@ fn line_form_for_wanted<'n>(wanted: &Wanted<'_>, name: &'n str) -> Line<'n> {
             _ => Shown::Values,
         },
         name: if wanted.has_names { Some(name) } else { None },
+        is_record: wanted.is_sequence,
+        end: wanted.line_end,
     }
 }
 

@@ -18,7 +18,7 @@ use crate::exact_at_steps::printable_value_at_steps;
 use crate::selection::select_in_document;
 use jpath_texts::{
     Document, DocumentRefusal, Line, Look, Query, Shown, add_array_end, add_array_item,
-    add_file_name, add_value_in_look, write_with_names_once,
+    add_file_name, add_line_end, add_record_start, add_value_in_look, write_with_names_once,
 };
 use json::{Value as Exact, Writer};
 use jsonpath_nodes::{Location, Spot};
@@ -81,6 +81,7 @@ pub fn add_array(
 ) -> Result<usize, DocumentRefusal>
     requires { HasNumbers (value_view document.now.exact) }
 {
+    add_record_start(out, line.is_record)?;
     add_file_name(out, line.name)?;
     let count = if line.look.is_pretty || line.look.is_colored {
         add_pretty_or_colored_array(alloc, document, queries, line.look, out)?
@@ -90,7 +91,7 @@ pub fn add_array(
         *out = writer.into_inner();
         written?
     };
-    out.push(b'\n')?;
+    add_line_end(out, line.end)?;
     Ok(count)
 }
 
@@ -211,6 +212,7 @@ fn add_line(
     requires { HasNumbers (value_view value.now) }
     ensures { line.now.look.is_colored ≡ false → OnOk result (out.new.items ≡ out.old.items ++ line_text line.now (location_of spot.now) (value_view value.now)) }
 {
+    add_record_start(out, line.is_record)?;
     add_file_name(out, line.name)?;
     match line.shown {
         Shown::Values => add_value_in_look(alloc, out, value, line.look)?,
@@ -221,7 +223,7 @@ fn add_line(
             add_value_in_look(alloc, out, value, line.look)?;
         }
     }
-    Ok(out.push(b'\n')?)
+    add_line_end(out, line.end)
 }
 
 // Writes where a spot stands, as the path that selects just that.
@@ -253,7 +255,8 @@ pub(crate) fn add_value_line(
     requires { HasNumbers (value_view value.now) }
     ensures { line.now.look.is_colored ≡ false → OnOk result (out.new.items ≡ out.old.items ++ value_line line.now (value_view value.now)) }
 {
+    add_record_start(out, line.is_record)?;
     add_file_name(out, line.name)?;
     add_value_in_look(alloc, out, value, line.look)?;
-    Ok(out.push(b'\n')?)
+    add_line_end(out, line.end)
 }

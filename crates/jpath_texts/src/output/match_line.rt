@@ -2,7 +2,7 @@
 //! `jpath_core`.
 
 ghost use Rattle.std.specs.Prelude.{◌≡◌, ◌++◌, OnOk};
-ghost use Rattle.jpath_texts.specs.Lines.{named};
+ghost use Rattle.jpath_texts.specs.Lines.{named, record_start, line_end};
 
 use crate::output::value_text::Look;
 use std::alloc::AllocError;
@@ -18,6 +18,17 @@ pub enum Shown {
     PlacesAndValues,
 }
 
+/// What follows a selected value that is printed.
+#[derive(Clone, Copy, Debug, Drop, PartialEq, Eq)]
+pub enum LineEnd {
+    /// A line end.
+    LineFeed,
+    /// The byte 0.
+    Nul,
+    /// Nothing: the next value follows at once.
+    Nothing,
+}
+
 /// How a line for a selected value is printed: which file name comes before it, if any, whether value, location or
 /// both, in which layout.
 #[derive(Clone, Copy, Debug, Drop)]
@@ -29,6 +40,32 @@ pub struct Line<'n> {
     pub shown: Shown,
     /// The name of a file to print at the front of the line, with a colon; `None` for no name.
     pub name: Option<&'n str>,
+    /// Whether the byte 30 (RS) comes first, as before each text of a JSON text sequence.
+    pub is_record: bool,
+    /// What follows.
+    pub end: LineEnd,
+}
+
+/// Appends the byte 30 (RS) to `out` if `is_record` is set.
+pub fn add_record_start(out: &mut Vec<u8>, is_record: bool) -> Result<(), AllocError>
+    ensures { OnOk result (out.new.items ≡ out.old.items ++ record_start is_record) }
+{
+    if is_record {
+        out.push(30)?;
+    }
+    Ok(())
+}
+
+/// Appends what follows a line to `out`: a line end, the byte 0, or nothing.
+pub fn add_line_end(out: &mut Vec<u8>, end: LineEnd) -> Result<(), AllocError>
+    ensures { OnOk result (out.new.items ≡ out.old.items ++ line_end end) }
+{
+    match end {
+        LineEnd::LineFeed => out.push(b'\n')?,
+        LineEnd::Nul => out.push(0)?,
+        LineEnd::Nothing => (),
+    }
+    Ok(())
 }
 
 /// Appends a file's name and a colon to `out`, or nothing if `name` is `None`.
