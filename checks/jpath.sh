@@ -58,7 +58,7 @@ for line in page:
             it.write(text)
     status, output, error = shell(command, f"{work}/rows")
     judge(output == wanted and error == "", f"row '{cells[1].strip()}': '{output}', error '{error}'")
-judge(rows >= 20, f"docs/JPATH.md has {rows} rows")
+judge(rows >= 40, f"docs/JPATH.md has {rows} rows")
 
 # ---- words, statuses and refusals: wants(command, status, output, error), where '*' in an error stands for anything
 
