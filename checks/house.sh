@@ -371,6 +371,21 @@ printf '%s\n' 'It stands in `src/lib.rt`, in `nothing.rt` and in `library/guide.
 [ "$(sources_nowhere "$work/page.md")" = 'nothing.rt' ]
 judge $? 'the rule on sources that pages name does not find one that is nowhere'
 
+# Each of the two evaluators goes by itself: neither the machine nor the walk names a file of the other.
+evaluators_mixed() {
+    grep -rlE '\bcrate::walk\b' "$1/machine" "$1/filters"
+    grep -rlE '\bcrate::(machine|filters)\b' "$1/walk"
+}
+
+found=$(evaluators_mixed crates/jsonpath_select/src)
+judge "$([ -z "$found" ]; echo $?)" "an evaluator goes by the other: $found"
+mkdir -p "$work/evaluators"/{machine,filters,walk}
+echo 'use crate::walk::tree_walk::Walk;' > "$work/evaluators/filters/list.rt"
+echo 'use crate::machine::machine::Machine;' > "$work/evaluators/walk/tree_walk.rt"
+echo 'use crate::tagged::moves::Move;' | tee "$work/evaluators/machine/one.rt" > "$work/evaluators/walk/two.rt"
+[ "$(evaluators_mixed "$work/evaluators" | wc -l)" = 2 ]
+judge $? 'the rule on evaluators does not find one that goes by the other'
+
 # Public types that contracts see as something else, by `impl Model`, and have no line in the page.
 found=$(for crate in "${PRODUCT[@]}"; do
     grep -rhoE 'impl.* Model for [A-Za-z]+' "crates/$crate/src" | sed 's/.* //' | while read -r type; do
