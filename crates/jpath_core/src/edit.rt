@@ -26,9 +26,11 @@ use std::alloc::Global;
 pub struct Edited {
     /// The text of the edited document.
     pub text: Vec<u8>,
-    /// How many locations below the root the path of the edit selects.
+    /// How many locations below the root the path of the edit selects; for an edit that adds or renames members or
+    /// items, how many of them.
     pub targets: usize,
-    /// Whether the path of the edit selects the root, which no edit changes.
+    /// Whether the path of the edit selects the root, which can be neither replaced nor removed; false for an edit that
+    /// adds or renames members or items.
     pub selects_root: bool,
 }
 

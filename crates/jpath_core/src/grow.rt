@@ -23,13 +23,14 @@ pub struct NewMember<'m> {
     pub value: &'m str,
 }
 
-/// The text of a document with a member made at the end of the object around it or, if `query`, the path to the member,
-/// selects it already, with its value replaced, as `edit_text` does. The document stays as it is if no object is there.
-/// Every other byte of the text stays.
+/// The text of a document in which one member has a new value. `query` is the path to the member. If it selects a
+/// value, that value is replaced, as `edit_text` does; else the member is added at the end of the object at
+/// `member.above`. If that location has no object, the text is returned unchanged. Every other byte of the text stays.
 ///
-/// The edited text is read again before it is returned. Errors: `EditNests` if it nests too deep to be read;
-/// `EditDiffers` if what is read is not the edited document, which would be a fault of this library; `NotADocument` if
-/// the value is no JSON; or `OutOfMemory`.
+/// The edited text is read again before it is returned. Errors: `EditNests` if it nests too deep to be read, or if a
+/// value is to be replaced and the new one is no JSON; `EditDiffers` if what is read is not the edited document, which
+/// would be a fault of this library; `NotADocument` if a member is to be added and its value is no JSON or nests deeper
+/// than 127 levels; or `OutOfMemory`.
 pub fn add_member_text(
     alloc: Global,
     text: &str,
@@ -83,8 +84,13 @@ fn make_member_text(
     }
 }
 
-/// The text of a document with an item at the end of each list that a path selects, and that is in no other selected
-/// value. `value` is the item's JSON text. Every other byte of the text stays. Errors: as of `add_member_text`.
+/// The text of a document with an item added at the end of each array that a path selects, except arrays inside another
+/// selected value. Selected values that are no arrays stay as they are. `value` is the item's JSON text. Every other
+/// byte of the text stays.
+///
+/// The edited text is read again before it is returned. Errors: `NotADocument` if `value` is no JSON or nests deeper
+/// than 127 levels; `EditNests` if the edited text nests too deep to be read; `EditDiffers` if what is read is not the
+/// edited document, which would be a fault of this library; or `OutOfMemory`.
 pub fn append_text(
     alloc: Global,
     text: &str,
@@ -113,9 +119,12 @@ pub fn append_text(
     }
 }
 
-/// The text of a document with another name for each member that a path selects, and that is in no other selected
-/// value. `old` is the name with which the path ends, `new` the other one. `None` if an object around such a member has
-/// a member of that name already. Every other byte of the text stays. Errors: as of `add_member_text`.
+/// The text of a document in which each member that a path selects is renamed, except members inside another selected
+/// value. `old` is the name with which the path ends, `new` the members' new name. Returns `None`, and renames nothing,
+/// if one of the objects around these members has a member named `new` already. Every other byte of the text stays.
+///
+/// The edited text is read again before it is returned. Errors: `EditNests` if it nests too deep to be read;
+/// `EditDiffers` if what is read is not the edited document, which would be a fault of this library; or `OutOfMemory`.
 pub fn rename_text(
     alloc: Global,
     text: &str,

@@ -24,35 +24,40 @@ use seam::{are_seams_of, fill_seams};
 use std::alloc::{AllocError, Global};
 use std::str;
 
-/// What an edit makes in a document.
+/// What an edit adds or renames in a document: it adds a member to an object or an item to an array, or renames a
+/// member.
 #[derive(Clone, Copy, Debug, Drop)]
 pub enum Growth<'c, 'v> {
-    /// A member of this name with this value at the end of an object that has no member of the name.
+    /// Adds a member with this name and this value at the end of an object that has no member of that name.
     Member(&'c str, &'c Exact<'v>),
-    /// An item with this value at the end of a list.
+    /// Adds an item with this value at the end of an array.
     Item(&'c Exact<'v>),
-    /// The second name in place of the first, in an object that has no member of the second.
+    /// Renames a member from the first name to the second, in an object that has no member of the second name.
     Name(&'c str, &'c str),
 }
 
-/// A text in which something was made, and how often.
+/// The text of a document in which members or items were added or members renamed, and how many.
 #[derive(Drop)]
 pub struct Grown {
     /// The edited text.
     pub text: Vec<u8>,
-    /// How many members or items were made, or how many members have another name.
+    /// How many members or items were added, or how many members were renamed.
     pub count: usize,
 }
 
-/// The text of a document with `growth` made at each location of `places` except those below another one: for a member
-/// or an item the locations are those of the objects or lists that get it, for a name those of the members that get it.
-/// A value that is no object or list stays as it is. A new member or item is separated from the one before it as that
-/// one is from its predecessor; if there are fewer, it is laid out like the document. `exact` is the document's exact
-/// tree, and `places` is in document order.
+/// The text of a document with members or items added or members renamed, as `growth` says, at each location of
+/// `places` that is not below another one of them. `exact` is the document's exact tree, which keeps numbers as
+/// written, and `places` is in document order. To add a member or an item, the locations are those of the objects or
+/// arrays to which it is added; a value of another type stays as it is. To rename, they are the locations of the
+/// members.
 ///
-/// `None` if an object has a member of the new name already. Errors: `EditNests` if the edited text nests too deep to
-/// be read; `EditDiffers` if it is not the document with `growth` made, which would be a fault of this library; or
-/// `OutOfMemory`.
+/// A new member or item has the same blanks before it as the one before it; if that one is alone and has none, one
+/// blank if the document has a blank after its first colon. If the new member or item is the first, it is laid out like
+/// the rest of the document: on an indented line of its own if the document has several lines.
+///
+/// Returns `None` if one of the members to be renamed is in an object that has a member of the new name already.
+/// Errors: `EditNests` if the edited text nests too deep to be read; `EditDiffers` if, read again, it is not the
+/// document with these changes, which would be a fault of this library; or `OutOfMemory`.
 pub fn grown_text(
     alloc: Global,
     text: &str,

@@ -218,20 +218,23 @@ const EDITS: [ValueOption; 8] = [
     ("remove", &PATH, "Removes each value that PATH selects"),
 ];
 
-/// An edit option of the command line, with its arguments.
+/// An edit option of the command line, with the words after it: its path and, for most options, a second word.
 #[derive(Clone, Copy, Debug, Drop)]
 pub enum EditWords<'a> {
     /// `--set PATH JSON`: puts the value of a JSON text in place of each value that the path selects.
     Set(&'a str, &'a str),
     /// `--set-text PATH TEXT`: puts a text in place of each value that the path selects.
     SetText(&'a str, &'a str),
-    /// `--add PATH JSON`: puts the value of a JSON text at a plain path, and makes its last member if it isn't there.
+    /// `--add PATH JSON`: makes the value of a JSON text the value of the member that the path names, and adds the
+    /// member if its object has none of that name. The path has only names and indexes that are not negative, a name
+    /// last.
     Add(&'a str, &'a str),
-    /// `--add-text PATH TEXT`: the same with a text.
+    /// `--add-text PATH TEXT`: makes a text the value of the member that the path names, and adds the member if its
+    /// object has none of that name. The path has only names and indexes that are not negative, a name last.
     AddText(&'a str, &'a str),
-    /// `--append PATH JSON`: puts the value of a JSON text at the end of each list that the path selects.
+    /// `--append PATH JSON`: adds the value of a JSON text at the end of each array that the path selects.
     Append(&'a str, &'a str),
-    /// `--rename PATH NAME`: gives each member that the path selects another name.
+    /// `--rename PATH NAME`: renames each member that the path selects to NAME.
     Rename(&'a str, &'a str),
     /// `--null PATH`: puts null in place of each value that the path selects.
     Null(&'a str),
@@ -271,17 +274,17 @@ impl<'a> EditWords<'a> {
     }
 }
 
-/// An argument of the command line, which is put into paths: its name, and what is put.
+/// An option `--arg` or `--argjson`: a name, and the text or number by which `{NAME}` is replaced in paths.
 #[derive(Clone, Copy, Debug, Drop)]
 pub enum ArgumentWords<'a> {
-    /// `--arg NAME TEXT`: puts a text in quotes.
+    /// `--arg NAME TEXT`: in paths, `{NAME}` is replaced by this text, written in quotes.
     Text(&'a str, &'a str),
-    /// `--argjson NAME NUMBER`: puts a number.
+    /// `--argjson NAME NUMBER`: in paths, `{NAME}` is replaced by this number.
     Number(&'a str, &'a str),
 }
 
 impl<'a> ArgumentWords<'a> {
-    /// The argument's name, which a path has in braces.
+    /// The name that the option sets, without the braces that are around it in a path.
     pub fn name(&self) -> &'a str
         ensures { result.now ≡ argument_name self.now }
     {
@@ -330,9 +333,9 @@ pub struct Words<'a> {
     /// The path texts of the options `-e`, in the order of the command line.
     pub paths: Vec<&'a str>,
     pub rows: Option<&'a str>,
-    /// The arguments that are put into paths: those of `--arg` first.
+    /// The options that set a name to be replaced in paths: first each `--arg`, then each `--argjson`.
     pub arguments: Vec<ArgumentWords<'a>>,
-    /// The edit options with their arguments, in the order of the command line.
+    /// The edit options, each with the words after it, in the order of the command line.
     pub edits: Vec<EditWords<'a>>,
     /// The words on the command line that belong to no option: the path and the files.
     pub rest: Vec<&'a str>,

@@ -62,8 +62,8 @@ const REPLACEMENTS: [(&str, &str, &str); 13] = [
 ];
 
 /// A sentence on what to write instead of a path text with a syntax error, or an empty text if no hint is known; `at`
-/// is the number of bytes before the wrong token. A path that it proposes is a text of the grammar. The only error is
-/// that memory runs out.
+/// is the number of bytes before the wrong token. If the sentence proposes a path, that path has no syntax error. The
+/// only error is that memory runs out.
 pub fn hint_for_refused_path(alloc: Global, path: &str, at: usize) -> Result<String, AllocError>
     ensures { IfOk result (λ hint. slice_index path.now 0 ≢ 36 → BeginsWithRoot (string_bytes hint)) }
 {

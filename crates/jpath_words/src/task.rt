@@ -49,15 +49,18 @@ pub struct Table<'a> {
     pub has_header: bool,
 }
 
-/// An edit by `jpath`: a path, and whether the values that it selects are removed or replaced, and by which JSON text.
+/// An edit by `jpath`: its path, compiled; what the path's filters compare; and the edit option, which says what is
+/// done with the values that the path selects.
 #[derive(Drop)]
 pub struct Edit<'a> {
     pub query: Query<'a>,
     pub compared: Compared,
     pub words: EditWords<'a>,
-    /// The JSON text that replaces each value that the edit's path selects, or that is made there.
+    /// The JSON text of the new value: the one that replaces each selected value, or that of the added member or item.
+    /// For a renaming it is the new name, in quotes; for a removal it is `null` and not used.
     pub value: Vec<u8>,
-    /// The member that the edit makes, or the name that it changes, with no place; `None` for other edits.
+    /// For `--add` and `--add-text`, the member that the path names. For `--rename`, only the field `name` is used: it
+    /// is the name with which the path ends. `None` for other edits.
     pub member: Option<NamedMember>,
 }
 

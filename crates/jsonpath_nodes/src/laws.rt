@@ -24,8 +24,8 @@ ghost use Rattle.jsonpath_nodes.specs.step.Separate.{ApartHasNoRepeatFlat, OneIs
 
 use serde_json::{Map, Value};
 
-/// Lemma: the document of a `Value`, as contracts call their description of its content (with each number as
-/// `serde_json` read it), leaves nothing of the content out: values with different content have different documents.
+/// Lemma: contracts describe a `Value` by a document, which has its content, with each number as `serde_json` read it.
+/// This description is complete: values with different content have different documents.
 ///
 /// ```text
 /// laws::documents_keep_data_apart();
@@ -142,10 +142,10 @@ pub fn nulling_and_taking_ignore_order()
     ensures { SetsAlone }
 {}
 
-/// Lemma: the set of nodes that a step or `..` selects, and the set of a filter's candidates, depend only on the set of
-/// locations from which they start, not on their order or on repeats. The same holds for the set of locations that pass
-/// a test, and for whether any passes. Two lists with the same set of locations become equal when they are put in
-/// document order, each location once.
+/// Lemma: the set of nodes that a step or `..` selects, and the set of values that a filter tests, depend only on the
+/// set of locations from which the step, `..` or the filter starts, not on their order or on repeats. The same holds
+/// for the set of those locations that meet a condition, and for whether any of them does. Two lists with the same set
+/// of locations become equal when they are put in document order, each location once.
 ///
 /// ```text
 /// laws::steps_ignore_order_and_repeats();
@@ -182,8 +182,9 @@ pub fn replacements_stay_in_place()
     ensures { RunsInPlace }
 {}
 
-/// Lemma: if no location of a list is equal to another or below it, then the candidates of a filter after `..` are
-/// found by one descent from each location in turn. Each is found once: no two descents find the same one.
+/// Lemma: let no location of a list be equal to another or below it. Then the values that a filter after `..` tests,
+/// such as `..[?(@.a)]`, whose `@` is followed by a segment, are found by searching the descendants of each location in
+/// turn. Each value is found once: no two of these searches find the same one.
 ///
 /// ```text
 /// laws::candidates_of_disjoint_in_descents();

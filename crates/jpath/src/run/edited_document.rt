@@ -36,14 +36,17 @@ impl Kept {
         Ok(())
     }
 
-    /// Whether the edit at this place of the command line was made in no document, and no message said why.
+    /// Whether the edit at this index, counted from 0 in the order of the command line, has changed no document so far,
+    /// and no message has said why.
     pub fn has_made_nothing(&self, at: usize) -> bool {
         self.made_or_told.as_slice().get(at) != Some(&true)
     }
 }
 
-/// Writes the document as the edits leave it, in its own layout or indented anew, and returns how often the edits were
-/// made.
+/// Appends to `out` the text of the document after all edits, which are made one after another: in its own layout or,
+/// if `look` is pretty, indented anew. Returns a total over the edits: for each, how many locations below the root its
+/// path selects or, if it adds or renames members or items, how many of them. If an edit would replace or remove the
+/// root, or a new name is in use already, a message on standard error says so.
 pub fn add_edited_document(
     rt: &(impl Eprint + Alloc<A = Global>),
     edits: &[Edit<'_>],

@@ -14,9 +14,9 @@ use std::alloc::Global;
 use std::str;
 
 /// Appends to `out` the output for one document, as the command line asks for it: lines, an array, a table or the
-/// edited text. Returns how many matches the document has or, for edits, how many locations below the root their paths
-/// select in it. `name` is the file's name. After an error `out` may end with a part of the output, or have lost all
-/// its content.
+/// edited text. Returns how many matches the document has. For edits it returns a total: for each, how many locations
+/// below the root its path selects or, if it adds or renames members or items, how many of them. `name` is the file's
+/// name. After an error `out` may end with a part of the output, or have lost all its content.
 pub fn add_output_for_document(
     rt: &(impl Eprint + Alloc<A = Global>),
     wanted: &Wanted<'_>,

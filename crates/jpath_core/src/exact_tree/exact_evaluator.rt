@@ -35,7 +35,8 @@ pub struct ExactOutcome {
 
 /// Whether a path can be evaluated on the exact tree of most documents, without an image (a copy with `serde_json`'s
 /// numbers): it begins at the root, and has only single names, `[*]`, and filters whose conditions use only literals
-/// and members of the candidate, such as `@.a`. Some documents need an image all the same; other paths always do.
+/// and members of the value that the filter tests, such as `@.a`. Some documents need an image all the same; other
+/// paths always do.
 pub fn may_answer_by_exact_tree(query: &Query<'_>) -> bool {
     let path = query.path().tree();
     for step in &path.steps {

@@ -12,27 +12,31 @@ use crate::command_line::{EditWords, Words};
 use crate::task::{Refused, paths_and_files};
 use std::alloc::{AllocError, Global};
 
-/// The path texts of a command line with its arguments put into them.
+/// The path texts of a command line, in which each placeholder `{NAME}` is replaced by the text or number that `--arg`
+/// or `--argjson` sets for NAME.
 #[derive(Drop)]
 pub struct FilledPaths<'a> {
-    /// The path texts of the options `-e`, or the one that belongs to no option.
+    /// The path texts of the options `-e` or, if there are neither such options nor edits, the first word that belongs
+    /// to no option.
     pub paths: Vec<String>,
     /// The path text of `--rows`, if there is one.
     pub rows: Vec<String>,
-    /// The edit options, each with its path text.
+    /// The edit options in the order of the command line, each with its path text.
     pub edits: Vec<FilledEdit<'a>>,
 }
 
-/// An edit option of the command line, and its path text with the arguments put into it.
+/// An edit option of the command line, and its path text, in which each placeholder `{NAME}` is replaced by the text or
+/// number that `--arg` or `--argjson` sets for NAME.
 #[derive(Drop)]
 pub struct FilledEdit<'a> {
     pub words: EditWords<'a>,
     pub path: String,
 }
 
-/// The path texts of the command line with its arguments (`--arg`, `--argjson`) put into them. Errors: an argument has no
-/// name or one that another has, is no number, or is used in no path, which is printed here; there is no path; or memory
-/// ran out.
+/// The path texts of the command line, in which each placeholder `{NAME}` is replaced by the text or number that
+/// `--arg` or `--argjson` sets for NAME. Errors: such an option has an empty name, the name of another one, or a name
+/// that no path uses, or what `--argjson` sets is no number (these errors are printed here); there is no path; or
+/// memory ran out.
 pub fn fill_paths<'a>(
     rt: &(impl Eprint + Alloc<A = Global>),
     words: &Words<'a>,
@@ -52,7 +56,7 @@ pub fn fill_paths<'a>(
     })
 }
 
-/// The command line with these path texts in place of its own, and no arguments.
+/// The command line with its path texts replaced by those of `filled`, and without its options `--arg` and `--argjson`.
 pub fn words_with_paths<'a>(
     alloc: Global,
     words: &Words<'a>,

@@ -11,7 +11,7 @@ use jsonpath_paths::Decimal;
 use serde_json::{Number, Value};
 
 /// What a comparison in a filter uses of a JSON value or of a literal of the path: its kind, and the content of a
-/// boolean, a number or a text. `N` is what a number is compared as: a `Decimal`, for a `Value` and a literal.
+/// boolean, a number or a text. `N` is the type of its numbers: `Decimal` if the path is run on a `Value`.
 ///
 /// ```text
 /// assert!(rt; matches!(Atom::of(&Value::Bool(true)), Atom::Bool(true)));
