@@ -16,7 +16,7 @@ use crate::step::plain_step::PlainStep;
 use crate::step::stride::{Stride, listed_names, plain_step_of_selection};
 use std::alloc::Global;
 
-/// Returns the children that a step without a condition, such as `[0]`, selects from each node.
+/// Returns the children that a step other than a filter, such as `[0]`, selects from each node.
 ///
 /// ```text
 /// let items = steps_on_marks::plain_step_from_each(alloc, &[&document], &PlainStep::Every)?;
@@ -107,7 +107,7 @@ pub fn add_named_member<'a, M: Mark<'a>>(
     Ok(())
 }
 
-/// Applies a step without a condition, such as `[0]`, to each node and to all its descendants, in preorder, as `..`
+/// Applies a step other than a filter, such as `[0]`, to each node and to all its descendants, in preorder, as `..`
 /// does. The only error is `NoMemory`.
 ///
 /// ```text
@@ -129,7 +129,7 @@ pub fn plain_step_from_all_below<'a, M: Mark<'a>>(
     Ok(found)
 }
 
-/// Returns what a `Stride`, a step without a condition, selects from each node or, if the `Stride` has `..` (its field
+/// Returns what a `Stride`, a step other than a filter, selects from each node or, if the `Stride` has `..` (its field
 /// `leaves` is true), from each node and all its descendants, in preorder.
 ///
 /// ```text

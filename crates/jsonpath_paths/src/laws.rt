@@ -55,7 +55,8 @@ pub fn one_tree_per_text()
     ensures { (text : List ℕ) (p q : Path) → Spells text p → Spells text q → p ≡ q }
 {}
 
-/// Lemma: no two syntax trees that the grammar allows have the same token list.
+/// Lemma: no two syntax trees that the grammar allows have the same token list (the tree written out as a list of
+/// `ParseToken`s).
 ///
 /// ```text
 /// laws::one_tree_per_token_list();

@@ -5,9 +5,9 @@ use serde::Deserialize;
 use std::alloc::{AllocError, Global};
 use std::fmt;
 
-/// A test of the program `jsonpath_run`: the words and the input of a run, and the exit status, the output and the
-/// error text that it must have (empty for a run that succeeds). If `error` is `None`, any error text whose first line
-/// is `serde error: ` will be right.
+/// A test of the program `jsonpath_run`: the arguments and the standard input of a run, and the exit status, the output
+/// and the error text that it must have (empty for a run that succeeds). If `error` is `None`, any error text whose
+/// first line is `serde error: ` is accepted.
 #[derive(Drop, Deserialize)]
 pub struct Row {
     pub words: Vec<String>,
@@ -55,7 +55,8 @@ impl fmt::Display for Outcome {
     }
 }
 
-/// Runs the program `jsonpath_run` on the words and the input of a test row, and returns what it wrote and its status.
+/// Runs the program `jsonpath_run` on the arguments and the input of a test row, and returns what it wrote and its
+/// status.
 pub fn outcome_of(alloc: Global, row: &Row) -> Result<Outcome, AllocError> {
     let words = row
         .words

@@ -8,8 +8,8 @@ use jsonpath_select::{
 use serde_json::Value;
 use std::alloc::Global;
 
-/// A way to select by a path in a document: by a selector, or by the token list of the compiled path. All have to give
-/// the same answer.
+/// A way to select by a path in a document: by an object such as a `Selector`, or by the path's token list (its syntax
+/// tree written out as a list). All have to give the same answer.
 #[derive(Clone, Copy)]
 pub enum Method {
     /// Selects values by a `JsonSelector`.

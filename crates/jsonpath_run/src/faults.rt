@@ -13,7 +13,8 @@ use std::fmt;
 /// ```
 #[derive(Debug, Drop)]
 pub enum Fault {
-    /// The command line is not valid: an unknown command, too few or too many words, or a word that is no UTF-8.
+    /// The command line is not valid: an unknown command, too few or too many arguments, or an argument that is not
+    /// UTF-8.
     Usage,
     /// A path or the input has an error, the output has a number that can't be printed, or memory ran out.
     Refused(JsonPathError),

@@ -2,7 +2,7 @@
 ghost use Rattle.std.specs.Prelude.{map, IfSome, IfNone, IsTrue, ◌↔◌};
 ghost use Rattle.jsonpath_run.specs.Words.{IsCall, IsUsage, IsCount};
 
-/// A command of the program `jsonpath_run`, its first word.
+/// A command of the program `jsonpath_run`, its first argument.
 ///
 /// ```text
 /// let call = parse_call(&["check", "$.a"]);
@@ -34,7 +34,7 @@ pub enum Command {
 /// ```
 #[derive(Clone, Copy)]
 pub struct Call<'w, 'a> {
-    /// The command that the first word of the command line names.
+    /// The command that the first argument names.
     pub command: Command,
     /// The texts of the paths, in the order of the command line. They may have syntax errors.
     pub paths: &'w [&'a str],

@@ -24,9 +24,9 @@ use std::fmt;
 /// ```
 #[derive(Drop)]
 pub enum JsonPathError {
-    /// No path is set in the selector, whether or not a value is set. Printed as `path not set`.
+    /// No path is set in the selector (a `Selector`, say); a value may be set or not. Printed as `path not set`.
     EmptyPath,
-    /// A path is set in the selector, but no value. Printed as `json value not set`.
+    /// A path is set in the selector (a `Selector`, say), but no value. Printed as `json value not set`.
     EmptyValue,
     /// A text is no path. The message is `Eof` if the text ends too early, else `Position:` and the byte position
     /// after the wrong token. For an error of `Parser` it is the path text and a line of `^`, one for each byte up to

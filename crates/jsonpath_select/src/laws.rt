@@ -13,7 +13,8 @@ use jsonpath_paths::laws::{
     connective_joins_conditions, longest_front, one_tree_per_text, word_is_first_token,
 };
 
-/// Lemma: a path text always selects the same list in a document, whichever type of selector is used.
+/// Lemma: a path text always selects the same list in a document, whichever type, such as `Selector` or `JsonSelector`,
+/// is used to select.
 ///
 /// ```text
 /// laws::one_selection_per_text();
@@ -92,8 +93,8 @@ pub fn dotted_names_select_one_location()
     longest_front();
 }
 
-/// Lemma: if a path selects at most one location, always the same, it selects the value there, or nothing if the
-/// document has no such location.
+/// Lemma: for a document and a location, if the path selects in the document this location alone or, where there is no
+/// such location, nothing, then it selects the value at the location alone, or nothing.
 ///
 /// ```text
 /// laws::one_location_answers_one_value();
@@ -160,10 +161,10 @@ pub fn extremes_and_sets_decide_pairs()
     ensures { EndsDecidePairs }
 {}
 
-/// Lemma: a path selects the same set of nodes, and each condition holds at the same candidates, if duplicates are
-/// dropped after each step, also inside conditions, and if, before each step with `..`, every node that has an ancestor
-/// in the same list is dropped from the list. Whether a condition holds depends on the location and the document alone,
-/// so it can be decided once for each location.
+/// Lemma: a path selects the same set of nodes, and the condition of each filter holds at the same locations, if
+/// duplicates are dropped after each step, also inside conditions, and if, before each step with `..`, every node that
+/// has an ancestor in the same list is dropped from the list. Whether a condition holds depends on the location and the
+/// document alone, so it can be decided once for each location.
 ///
 /// ```text
 /// laws::dropping_repeats_keeps_the_set();

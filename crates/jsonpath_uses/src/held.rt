@@ -40,7 +40,7 @@ pub fn set_path_in_pair<P: OfNode + Drop, V: HeldValue>(
     Ok(())
 }
 
-/// Sets two path texts in a selector, one after the other, and returns what the second selects.
+/// Sets two path texts in a `Selector`, one after the other, and returns what the second selects.
 pub fn select_by_second_path<'a>(
     alloc: Global,
     json: &'a Value,
@@ -56,7 +56,7 @@ pub fn select_by_second_path<'a>(
     held.select(alloc)
 }
 
-/// Sets a path in a selector, once, and returns what it selects in a first document and in a second one.
+/// Sets a path in a `Selector`, once, and returns what it selects in a first document and in a second one.
 pub fn select_in_two_documents<'a>(
     alloc: Global,
     path: &str,

@@ -176,28 +176,30 @@ pub fn try_replace_in<E, F: FnMut(&Value) -> Result<Option<Value>, E>>(
     path.try_replace_in(alloc, value, fun)
 }
 
-/// The text of a compiled path, which the contracts of its methods call its spelling.
+/// The text of a compiled path. The contracts (proved specifications) of its methods refer to this text as `spelling`.
 pub fn spelling_of<P: AnyPath>(path: &P) -> &str
     ensures { result.now ≡ P.spelling path.now }
 {
     path.parts().text
 }
 
-/// The text of a compiled path that owns its text; contracts call it the path's spelling.
+/// The text of a `Node`, which is a compiled path that owns its text. Contracts (proved specifications) refer to this
+/// text as `spelling`.
 pub fn spelling_of_node(path: &Node) -> &str
     ensures { result.now ≡ path.now }
 {
     spelling_of(path)
 }
 
-/// The text of a compiled path that is shared; contracts call it the path's spelling.
+/// The text of a compiled path behind an `Rc`. Contracts (proved specifications) refer to this text as `spelling`.
 pub fn spelling_of_shared<P: AnyPath>(path: &Rc<P>) -> &str
     ensures { result.now ≡ P.spelling path.now.value }
 {
     spelling_of(path)
 }
 
-/// The text from which a `Compiled` or a `PathCompiled` was compiled; contracts call it the path's spelling.
+/// The text from which a `Compiled` or a `PathCompiled` was compiled. Contracts (proved specifications) refer to this
+/// text as `spelling`.
 pub fn spelling_of_kept<P: AnyPath>(path: &KeptPath<P>) -> &str
     ensures { result.now ≡ path.now }
 {

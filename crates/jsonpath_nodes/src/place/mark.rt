@@ -76,14 +76,15 @@ pub trait Mark<'a>: Drop + Sized {
         ensures { OnOk result (MarksGain located stand content flat (stand self.now) (content self.now) out.old.items out.new.items) };
 
     /// For a filter after `..` that has a relative query with at least one segment, such as `@.a`, appends to `out` the
-    /// values that it tests when it is applied to this node: the node's descendants that are not arrays, each once. The
-    /// contract also ensures that in each object at or below this node the names ascend, as in every `Value`.
+    /// values that it tests when it is applied to this node: the node's descendants that are not arrays, each once. For
+    /// proofs, the postconditions also say that in each object at or below this node the member names are in ascending
+    /// order, as in every `Value`.
     fn add_candidates_below(&self, alloc: Global, out: &mut Vec<Self>) -> Result<(), NoMemory>
         ensures gains { OnOk result (MarksGain located stand content candidates_below (stand self.now) (content self.now) out.old.items out.new.items) }
         ensures document { OnOk result (IsOrderedDocument (content self.now)) };
 }
 
-/// A reference has no location: it is the value alone.
+/// A node as a `&Value` is the value alone, without its location.
 impl<'a> Mark<'a> for &'a Value {
     ghost located = { false };
 
@@ -141,7 +142,8 @@ impl<'a> Mark<'a> for &'a Value {
     }
 }
 
-/// A `Spot` has its whole location; the nodes of its children share its steps instead of copying them.
+/// A node as a `Spot` has its whole location, too. The `Spot`s of its children share the steps of this location instead
+/// of copying them.
 impl<'a> Mark<'a> for Spot<'a> {
     ghost located = { true };
 

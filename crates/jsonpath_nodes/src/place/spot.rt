@@ -208,7 +208,8 @@ impl<'a> Spot<'a> {
     }
 }
 
-/// A clone of a node has the same value and shares its location. It fails only if the count of sharers would overflow.
+/// A clone of a node has the same value and shares its location. Cloning fails only if the reference count of this
+/// location would overflow.
 impl<'a> Clone for Spot<'a> {
     ghost is_clone = { λ spot copy. sight_of copy ≡ sight_of spot };
 

@@ -10,7 +10,8 @@ use crate::step::plain_step::PlainStep;
 use std::alloc::Global;
 use std::borrow::CowStr;
 
-/// What a step without a condition selects among a value's children. Names are without the path's quotes and escapes.
+/// What a step of a path, other than a filter, selects among a value's children. Names are without the path's quotes
+/// and escapes.
 ///
 /// ```text
 /// let both = Stride {
@@ -32,12 +33,12 @@ pub enum Selection<'t> {
     Nth(i64),
     /// The items of an array at these indexes, in the list's order; a negative index counts from the end.
     Union(&'t [i64]),
-    /// A slice of an array: its from, to and step, each of which may be missing.
+    /// A slice of an array: its start, end and step, each of which may be missing.
     Range(Option<i64>, Option<i64>, Option<u64>),
 }
 
-/// A path's step that has no condition, with or without `..` before the step. The member names that are written in the
-/// step are owned by it or borrowed from the path's text.
+/// A step (a segment) of a path, other than a filter, with or without `..` before it. The member names that are written
+/// in the step are owned by it or borrowed from the path's text.
 ///
 /// ```text
 /// let every = Stride {

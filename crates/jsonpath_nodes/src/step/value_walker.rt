@@ -15,7 +15,7 @@ use crate::steps_on_marks::{
 };
 use std::alloc::Global;
 
-/// The steps of a path, each as a function that applies it to a list of nodes at once.
+/// The steps (segments) of a path, each as a function that applies it to a list of nodes at once.
 ///
 /// Every call returns what its step selects from each node, in the order of the nodes, with duplicates, except for
 /// `walk_dedup_all` and `candidates_below`, which return each location once. The only error is `NoMemory`.
@@ -195,9 +195,10 @@ impl ValueWalker {
         Ok(found)
     }
 
-    /// The candidates of a filter that uses a relative query with at least one segment: each of the given nodes that is
-    /// no array, and of each given array the non-array values left after flattening nested arrays. Each location is
-    /// returned once, at its first occurrence. Named as in the Rust crate `jsonpath_lib`.
+    /// The values that a filter tests when it is applied to the given nodes, if it has a relative query with at least
+    /// one segment, such as `@.a`: each of the nodes that is no array, and for each that is an array, the non-array
+    /// values left after flattening it and the arrays nested in it. Each location is returned once, at its first
+    /// occurrence. Named as in the Rust crate `jsonpath_lib`.
     ///
     /// ```text
     /// let candidates = ValueWalker::walk_dedup_all(alloc, &root)?;
@@ -213,9 +214,9 @@ impl ValueWalker {
         candidates::first_of_each_location(alloc, found)
     }
 
-    /// The candidates of a filter that comes after `..` and uses a relative query with at least one segment: of the
-    /// descendants of the nodes, those that are not arrays. They are found by flattening the arrays in the list that
-    /// `..*` selects; each location is returned once, at its first occurrence.
+    /// The values that a filter after `..` tests when it is applied to the nodes, if it has a relative query with at
+    /// least one segment, such as `@.a`: of the descendants of the nodes, those that are not arrays. They are found by
+    /// flattening the arrays in the list that `..*` selects; each location is returned once, at its first occurrence.
     ///
     /// ```text
     /// let candidates = ValueWalker::candidates_below(alloc, &root)?;

@@ -35,7 +35,7 @@ pub fn replace_at<F: FnMut(Value) -> Option<Value>>(
 }
 
 /// Puts null at each location of a list. The root is skipped, and so is each location that doesn't exist, or that is
-/// below another listed location (the root does not count as one). The locations may come in any order and repeat.
+/// below another location of the list, other than the root. The locations may come in any order and repeat.
 ///
 /// ```text
 /// let mut document = read_document(alloc, b"[1, [2, 3]]")?;

@@ -13,7 +13,8 @@ use crate::token::tokenizer::lexemes_up_to_refusal;
 use crate::token::tokens::{Kind, Lexeme};
 use std::alloc::{AllocError, Global};
 
-/// What a path could go on with at a syntax error: a token of some kind, or a word of some form, such as an index.
+/// What a path could go on with at a syntax error: a token of some kind, or a word (a name or number without quotes) of
+/// some form, such as an index.
 ///
 /// ```text
 /// let expected = expected_tokens(alloc, "$[0,a]")?;
@@ -21,15 +22,17 @@ use std::alloc::{AllocError, Global};
 /// ```
 #[derive(Clone, Copy, Debug, PartialEq, Eq)]
 pub enum Expected {
-    /// Any token of this kind. `Kind::Key` means that any word is allowed, as it is after a dot.
+    /// Any token of this kind. `Kind::Key` means that any word (name or number without quotes) is allowed, as it is
+    /// after a dot.
     Token(Kind),
-    /// A word that is an index.
+    /// A word (an unquoted token) that is an index, such as `0` or `-1`.
     Index,
-    /// A word that is the step of a slice.
+    /// A word (an unquoted token) that is the step of a slice, such as `2`.
     RangeStep,
-    /// A word that is `true`, `false`, a number, or the part of a number before its point.
+    /// A word (an unquoted token) that is `true` or `false` (in any letter case), an integer, or the part of a number
+    /// before its decimal point.
     Literal,
-    /// A word that is the digits after the point of a number.
+    /// A word (an unquoted token) that consists of the digits after the decimal point of a number.
     Fraction,
 }
 

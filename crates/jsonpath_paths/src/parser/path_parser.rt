@@ -25,7 +25,8 @@ use crate::tree::token_list::token_list;
 use std::alloc::{AllocError, Global};
 use std::marker::Model;
 
-/// A compiled path: a path text, its syntax tree, and the token list of that tree.
+/// A compiled path: a path text, its syntax tree, and its token list, which is that tree written out as a list of
+/// `ParseToken`s.
 ///
 /// ```text
 /// let path = PathParser::compile(alloc, "$.store['book'][0]")?;
@@ -157,7 +158,7 @@ impl<'a> PathParser<'a> {
         &self.tree
     }
 
-    /// The token list of this path's syntax tree. The call allocates no memory.
+    /// The token list of this path: its syntax tree, written out as a list. The call allocates no memory.
     ///
     /// ```text
     /// let path = PathParser::compile(alloc, "$..a")?;
@@ -183,7 +184,7 @@ impl<'a> PathParser<'a> {
         tree
     }
 
-    /// Turns the path into the syntax tree of its text and the token list of that tree.
+    /// Turns the path into the syntax tree of its text and its token list, which is that tree written out as a list.
     ///
     /// ```text
     /// let (tree, tokens) = PathParser::compile(alloc, "$.a[0]")?.into_tree_and_tokens();
@@ -205,7 +206,8 @@ impl<'a> PathParser<'a> {
 
 impl<'a> ParserNodeVisitor for PathParser<'a> {}
 
-/// A copy of a compiled path has the same text, tree and token list. The only error is `OutOfMemory`.
+/// A copy of a compiled path has the same text, syntax tree and token list (the tree written out as a list). The only
+/// error is `OutOfMemory`.
 impl<'a> Clone for PathParser<'a> {
     ghost is_clone = { λ parser copy. copy ≡ parser };
 

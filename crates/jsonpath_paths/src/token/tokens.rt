@@ -57,7 +57,8 @@ impl From<AllocError> for TokenError {
     }
 }
 
-/// The kind of a token of a path text, such as a word or `[`, without its position and length.
+/// The kind of a token of a path text, such as a word (an unquoted name or number) or `[`, without its position and
+/// length.
 ///
 /// ```text
 /// let expected = expected_tokens(alloc, "$[0")?;
@@ -88,7 +89,7 @@ pub enum Kind {
     OpenParenthesis,
     /// `)`
     CloseParenthesis,
-    /// A word, such as a name or a number without quotes.
+    /// A word: a run of characters without quotes, such as a name or a number.
     Key,
     /// A text in double quotes.
     DoubleQuoted,
@@ -129,7 +130,7 @@ pub struct Lexeme {
 /// ```
 #[derive(Clone, Copy, Debug, PartialEq, Eq)]
 pub enum Token {
-    /// The token `$`, outside words and quoted texts, with its span.
+    /// The token `$`, where it is no part of a name or a quoted text, with its span.
     Absolute(StrRange),
     /// The token `.`, with its span.
     Dot(StrRange),
@@ -151,7 +152,7 @@ pub enum Token {
     OpenParenthesis(StrRange),
     /// The token `)`, with its span.
     CloseParenthesis(StrRange),
-    /// A word, such as a name or a number without quotes, with its span.
+    /// A word, that is, a run of characters without quotes, such as a name or a number, with its span.
     Key(StrRange),
     /// A text in double quotes, with its span, quotes included.
     DoubleQuoted(StrRange),
@@ -278,7 +279,7 @@ impl Token {
         }
     }
 
-    /// Whether the two tokens are of one kind, such as two words, whatever their spans.
+    /// Whether the two tokens are of one kind, such as two commas, whatever their spans.
     ///
     /// ```text
     /// let dot = Token::Dot(StrRange::new(1, 1));
@@ -365,7 +366,7 @@ impl FilterToken {
 pub enum ParseToken {
     /// Begins a path from the document's root, `$`.
     Absolute,
-    /// Begins a path from the candidate of a filter, `@`.
+    /// Begins a path from the value that a filter tests, `@`.
     Relative,
     /// Begins a step after a single dot: it selects among the children of each node.
     In,
@@ -384,7 +385,7 @@ pub enum ParseToken {
     ArrayEof,
     /// A comparison or a connective of a filter, which follows the tokens of its two sides.
     Filter(FilterToken),
-    /// A slice that a step selects: its from, to and step, each of which may be missing.
+    /// A slice that a step selects: its start, end and step, each of which may be missing.
     Range(Option<i64>, Option<i64>, Option<u64>),
     /// The indexes that a step selects, two or more.
     Union(Items<i64>),

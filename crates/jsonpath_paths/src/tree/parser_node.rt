@@ -17,13 +17,13 @@ use crate::token::tokens::{FilterToken, ParseToken};
 #[cycle(tree)]
 #[derive(Drop)]
 pub struct ParserNode {
-    /// Whether the path begins with `$`, the document's root; else it begins with `@`, the candidate of a filter.
+    /// Whether the path begins with `$`, the document's root; else it begins with `@`, the value that a filter tests.
     pub absolute: bool,
     /// The steps of the path, in the order of the path text.
     pub steps: Vec<ParserStep>,
 }
 
-/// One step of a path in its syntax tree, such as `.a`, `[0]`, `..*` or `[?(@.a)]`.
+/// One step (segment) of a path in its syntax tree, such as `.a`, `[0]`, `..*` or `[?(@.a)]`.
 ///
 /// ```text
 /// let path = PathParser::compile(alloc, "$..[0]")?;
@@ -51,9 +51,9 @@ pub struct ParserStep {
 #[cycle(tree)]
 #[derive(Drop)]
 pub enum Inner {
-    /// A step without a condition: one token for its names, its indexes, its slice, or all children.
+    /// A step other than a filter: one token for its names, its indexes, its slice, or all children.
     Token(ParseToken),
-    /// A filter: of the values that it tests, its candidates, the step selects those that meet this condition.
+    /// A filter: of the values that it tests, the step selects those that meet this condition.
     Filter(Condition),
 }
 

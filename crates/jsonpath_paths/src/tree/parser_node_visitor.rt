@@ -13,7 +13,8 @@ use crate::tree::parser_node::{Condition, Inner, ParserNode, ParserStep, Term};
 use crate::tree::parser_token_handler::ParserTokenHandler;
 use crate::tree::token_list::root_token;
 
-/// A walk over a syntax tree that passes the tree's token list, token by token, to a receiver.
+/// A walk over a syntax tree that passes the tree's token list (the tree written out as a list of `ParseToken`s), token
+/// by token, to a receiver.
 ///
 /// ```text
 /// struct Walker;
@@ -23,7 +24,7 @@ use crate::tree::token_list::root_token;
 pub trait ParserNodeVisitor {
     /// Passes the token list of the syntax tree `node` to `handler`, in order, even after `handler` has failed. With
     /// each token it passes `reader`, which turns a span of the path text into a `V`, mostly a `&str`. What `reader`
-    /// returns for a span has to satisfy the handler's `takes`, a predicate for proofs.
+    /// returns for a span has to satisfy the handler's `takes`, a predicate that only proofs use.
     fn visit<V, H: ParserTokenHandler<V>, R: Fn(&StrRange) -> V>(
         &self,
         node: &ParserNode,

@@ -5,8 +5,8 @@ ghost use Rattle.std.specs.Prelude.{◌≡◌, ◌++◌, ◌∷◌, [], List, Bo
 use crate::text::str_reader::StrRange;
 use crate::token::tokens::ParseToken;
 
-/// Receives the token list of a syntax tree, one `ParseToken` at a time, each with a function that turns a span of the
-/// path text into a `V`, for example a `&str`.
+/// Receives the token list of a syntax tree (the tree written out as a list), one `ParseToken` at a time, each with a
+/// function that turns a span of the path text into a `V`, for example a `&str`.
 ///
 /// ```text
 /// impl<V> ParserTokenHandler<V> for Collector {

@@ -40,8 +40,8 @@ pub fn select_path<'a>(
     spots_by_parts(alloc, json, path.parts())
 }
 
-/// The nodes that the path with this token list selects in the value, in the order in which its steps find them, with
-/// duplicates. They borrow only the value. The only error is `OutOfMemory`.
+/// The nodes that the path with this token list (its syntax tree written out as a list) selects in the value, in the
+/// order in which its steps find them, with duplicates. They borrow only the value. The only error is `OutOfMemory`.
 ///
 /// Precondition, which holds if `tokens_fit` returned true: the tokens are the token list of some path, however deeply
 /// nested, and the text has an unquoted or a quoted name at the span of each name in them. The text itself need not be
@@ -76,7 +76,8 @@ pub fn select_tokens<'a>(
 
 /// The nodes that the path selects in the value: the same set as that of `select_path`, in any order, with or without
 /// duplicates. The time is at most the path's length times the document's size times the document's depth (the depth
-/// squared, if a condition has `..`), even if several `..` reach a node in many ways. The only error is `OutOfMemory`.
+/// squared, if the condition of a filter has `..`), even if several `..` reach a node in many ways. The only error is
+/// `OutOfMemory`.
 ///
 /// ```text
 /// let document = read_document(alloc, b"[[[1]]]")?;

@@ -25,7 +25,8 @@ use serde_json::Value;
 use std::alloc::Global;
 use std::rc::Rc;
 
-/// The parts of a compiled path, borrowed: its text, its syntax tree, and its token list.
+/// The parts of a compiled path, borrowed: its text, its syntax tree, and its token list, which is that tree written
+/// out as a list.
 ///
 /// ```text
 /// let path = Parser::compile(alloc, "$[0]")?;
@@ -39,7 +40,7 @@ pub struct PathParts<'p> {
     pub text: &'p str,
     /// The syntax tree of a compiled path.
     pub tree: &'p ParserNode,
-    /// The token list of a compiled path's syntax tree.
+    /// The token list of a compiled path: its syntax tree written out as a list.
     pub tokens: &'p [ParseToken],
 }
 
@@ -58,7 +59,8 @@ pub trait AnyPath {
     // The text of the path.
     ghost spelling: { Self → List ℕ };
 
-    /// The text, syntax tree and token list of this path, borrowed. The call allocates no memory.
+    /// The text, the syntax tree and the token list (the tree written out) of this path, borrowed. The call allocates
+    /// no memory.
     ///
     /// ```text
     /// let path = compile_path(alloc, "$.*")?;

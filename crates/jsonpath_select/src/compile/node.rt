@@ -8,8 +8,8 @@ use jsonpath_paths::{ParseToken, ParserNode};
 use std::alloc::{AllocError, Global};
 use std::marker::Model;
 
-/// A compiled path that owns its text, syntax tree and token list. Named as in the Rust crate `jsonpath_lib`; it is
-/// no node of a document.
+/// A compiled path that owns its text, syntax tree and token list (the tree written out as a list). Named as in the
+/// Rust crate `jsonpath_lib`; it is no node of a document.
 ///
 /// ```text
 /// let node = Parser::compile(alloc, "$[0]")?;
@@ -71,7 +71,8 @@ impl Node {
     }
 }
 
-/// A copy of a compiled path has the same text, tree and token list. The only error is out of memory.
+/// A copy of a compiled path has the same text, syntax tree and token list (the tree written out as a list). The only
+/// error is out of memory.
 impl Clone for Node {
     ghost is_clone = { λ node copy. copy ≡ node };
 

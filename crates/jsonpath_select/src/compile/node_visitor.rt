@@ -70,8 +70,8 @@ pub trait NodeVisitor {
     fn failed(&self) -> bool
         ensures { result ≡ has_failed self.now };
 
-    /// Passes the token list of the compiled path `node` to this receiver, token by token, even after the receiver has
-    /// failed.
+    /// Passes the token list of the compiled path `node`, its syntax tree written out as a list, to this receiver,
+    /// token by token, even after the receiver has failed.
     final fn visit(&mut self, node: &Node)
         ensures stays_failed { has_failed self.old ≡ true → has_failed self.new ≡ true }
         ensures given { has_failed self.new ≡ false → (p : Path) → Spells node.now p → tokens self.new ≡ tokens self.old ++ path_tokens p }

@@ -32,8 +32,9 @@ pub enum Entry {
     Logical,
 }
 
-/// Whether the tokens are some path's token list (the path may nest deeper than the parser allows), and the part of the
-/// text at each of their spans is a name, quoted or not. The text need not be a path. The only error is `OutOfMemory`.
+/// Whether the tokens are some path's token list, that is, its syntax tree written out as a list (the path may nest
+/// deeper than the parser allows), and the part of the text at each of their spans is a name, quoted or not. The text
+/// need not be a path. The only error is `OutOfMemory`.
 ///
 /// ```text
 /// let tokens = [ParseToken::Absolute, ParseToken::In, ParseToken::Key(StrRange::new(2, 1))];

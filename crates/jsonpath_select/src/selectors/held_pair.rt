@@ -14,7 +14,8 @@ use serde_json::Value;
 use std::alloc::Global;
 use std::marker::Model;
 
-/// What a selector stores as the value to search: an owned `Value`, which it can change, or a reference to one.
+/// What a selector type, such as `Selector` or `SelectorMut`, stores as the value to search: an owned `Value`, which it
+/// can change, or a reference to one.
 ///
 /// ```text
 /// let document = read_document(alloc, b"7")?;
@@ -25,7 +26,7 @@ pub trait HeldValue {
     // The value.
     ghost held: { Self → Value };
 
-    /// Borrows the value that a selector stores, whether the selector owns or borrows it.
+    /// Borrows the value that a selector type, such as `Selector`, stores, whether it owns or borrows the value.
     ///
     /// ```text
     /// let document = read_document(alloc, b"7")?;
@@ -51,8 +52,8 @@ impl<'a> HeldValue for &'a Value {
     }
 }
 
-/// A selector: an optional path and an optional value, each the one that was set last.
-/// [`JsonSelector`](crate::JsonSelector) and [`Selector`](crate::Selector) borrow the value;
+/// A selector, which is an object with an optional path and an optional value to search, each the one that was set
+/// last. [`JsonSelector`](crate::JsonSelector) and [`Selector`](crate::Selector) borrow the value;
 /// [`JsonSelectorMut`](crate::JsonSelectorMut) and [`SelectorMut`](crate::SelectorMut) own it and change it.
 ///
 /// ```text

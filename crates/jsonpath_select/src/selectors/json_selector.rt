@@ -10,8 +10,9 @@ use serde_json::Value;
 use std::alloc::Global;
 use std::rc::Rc;
 
-/// A selector with a compiled path and a borrowed value to search. Both are optional, and either can be set again,
-/// which replaces the earlier one. A select call changes neither, whether it succeeds or not, and stores no answer.
+/// A selector, which is an object with a compiled path and a borrowed value to search. Both are optional, and either
+/// can be set again, which replaces the earlier one. A select call changes neither, whether it succeeds or not, and
+/// stores no answer.
 ///
 /// ```text
 /// let document = read_document(alloc, b"[1, 2, 3]")?;
@@ -21,9 +22,9 @@ use std::rc::Rc;
 /// ```
 pub type JsonSelector<'a> = HeldPair<Rc<PathParser<'a>>, &'a Value>;
 
-/// A selector with a `PathParser`, which borrows its text and may be shared, and an owned document, which its updates
-/// change. Both are optional; each is the one set last. An update changes only the document; any error leaves it
-/// unchanged, except one that an update's closure returned.
+/// A selector, which is an object with a `PathParser` (a compiled path, which borrows its text and may be shared) and
+/// an owned document, which its updates change. Both are optional; each is the one set last. An update changes only the
+/// document; any error leaves it unchanged, except one that an update's closure returned.
 ///
 /// ```text
 /// let document = read_document(alloc, b"[1, 2, 3]")?;

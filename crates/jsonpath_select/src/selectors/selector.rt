@@ -13,9 +13,9 @@ use crate::selectors::walked_path::{OfNode, WalkedPath};
 use serde_json::Value;
 use std::alloc::Global;
 
-/// A selector with a compiled path, set as a path text or as a `Node` (a path that is compiled already), and a borrowed
-/// value to search. Both are optional; each is the one set last, by whichever call. A select call changes neither,
-/// successful or not, and stores no answer.
+/// A selector, which is an object with a compiled path, set as a path text or as a `Node` (a path that is compiled
+/// already), and a borrowed value to search. Both are optional; each is the one set last, by whichever call. A select
+/// call changes neither, successful or not, and stores no answer.
 ///
 /// ```text
 /// let document = read_document(alloc, b"[1, 2, 3]")?;
@@ -27,9 +27,9 @@ use std::alloc::Global;
 /// ```
 pub type Selector<'a, 'b> = HeldPair<WalkedPath<'b>, &'a Value>;
 
-/// A selector with a compiled path and an owned document, which its updates change. Both are optional; each is the one
-/// set last, by whichever call. An update changes only the document, and an error leaves it unchanged, unless a closure
-/// that makes the new values returned the error.
+/// A selector, which is an object with a compiled path and an owned document, which its updates change. Both are
+/// optional; each is the one set last, by whichever call. An update changes only the document, and an error leaves it
+/// unchanged, unless a closure that makes the new values returned the error.
 ///
 /// ```text
 /// let document = read_document(alloc, b"[1, 2, 3]")?;

@@ -10,7 +10,7 @@ use jsonpath_nodes::Spot;
 use serde_json::Value;
 use std::alloc::Global;
 
-/// The compiled path of a selector, owned or borrowed. What it selects is found by going through its syntax tree.
+/// The compiled path of a `Selector`, owned or borrowed. What it selects is found by going through its syntax tree.
 ///
 /// ```text
 /// let path = WalkedPath::Own(Parser::compile(alloc, "$.a")?);
@@ -19,9 +19,9 @@ use std::alloc::Global;
 /// ```
 #[derive(Drop)]
 pub enum WalkedPath<'b> {
-    /// A compiled path that the selector owns.
+    /// A compiled path that the `Selector` owns.
     Own(Node),
-    /// A compiled path that the selector borrows.
+    /// A compiled path that the `Selector` borrows.
     Lent(&'b Node),
 }
 
@@ -57,8 +57,8 @@ impl<'b> AnyPath for WalkedPath<'b> {
     }
 }
 
-/// A type of compiled path that can be made from a `Node`, the compiled path that owns its text. A selector whose path
-/// has such a type can compile path texts.
+/// A type of compiled path that can be made from a `Node`, the compiled path that owns its text. A selector type, such
+/// as `Selector`, whose path has such a type can compile path texts.
 ///
 /// ```text
 /// let path: WalkedPath<'_> = OfNode::of_node(Parser::compile(alloc, "$.a")?);

@@ -6,7 +6,7 @@ ghost use base.Fml.{ftrue};
 
 use std::marker::Model;
 
-/// The results of all calls on a reader or writer, in order, for proofs alone: at run time the type has no size.
+/// The results of all calls on a reader or writer, in order. Only proofs use them: at run time the type is zero-sized.
 #[derive(Drop)]
 pub struct History {
     ghost answers: { List CallAnswer } by { coded_list (coded_result (coded_list coded_ℕ) coded_bool) },

@@ -17,8 +17,8 @@ use serde_json::Value;
 use std::alloc::Global;
 
 /// Replaces the value at each location of a list by a copy of `new`, all at once. The root is skipped, and so is each
-/// location that doesn't exist, or that is below another listed location (the root does not count as one). The list
-/// must be in document order, each location once, as `compute_paths` returns it.
+/// location that doesn't exist, or that is below another location of the list, other than the root. The list must be in
+/// document order, each location once, as `compute_paths` returns it.
 ///
 /// The only error is `NoMemory`, and then the value is unchanged.
 ///
