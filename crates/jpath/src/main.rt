@@ -4,8 +4,8 @@
 mod run;
 
 use jpath_words::{
-    ParseOutcome, Refused, Words, fill_paths, parse_words, wanted_of_words, wants_color,
-    words_with_paths,
+    FilledPaths, ParseOutcome, Refused, Words, fill_paths, parse_words, wanted_of_words,
+    wants_color, words_with_paths,
 };
 use run::run_over_files;
 use std::alloc::AllocError;
@@ -57,7 +57,16 @@ fn run_with_arguments(rt: &HostRuntime, words: &Words<'_>) -> Result<u8, Refused
         return run_filled_words(rt, words);
     }
     let filled = fill_paths(rt, words)?;
-    let words = words_with_paths(rt.alloc(), words, &filled)?;
+    run_with_paths(rt, words, &filled)
+}
+
+// Does what the words ask for, with these path texts in place of their own.
+fn run_with_paths<'a>(
+    rt: &HostRuntime,
+    words: &Words<'a>,
+    filled: &'a FilledPaths<'a>,
+) -> Result<u8, Refused> {
+    let words = words_with_paths(rt.alloc(), words, filled)?;
     run_filled_words(rt, &words)
 }
 

@@ -17,9 +17,10 @@ pub use exact_tree::exact_evaluator::{
 pub use grow::{NewMember, add_member_text, append_text, rename_text};
 pub use jpath_edits::{Change, exact_value_at_location};
 pub use jpath_texts::{
-    Compared, Document, DocumentRefusal, Ended, How, Kind, Line, LineColumn, LineEnd, Look, MARK, NumberKey,
-    Numbers, Piece, Query, ReadFailure, Separated, Shown, Taken, Visitor, add_compact_value,
-    add_header, add_line_end, add_value_in_look, read_exact_tree, visit_documents,
+    Compared, Document, DocumentRefusal, Ended, How, Kind, Line, LineColumn, LineEnd, Look, MARK,
+    NumberKey, Numbers, Piece, Query, ReadFailure, Separated, Shown, Taken, Visitor,
+    add_compact_value, add_header, add_line_end, add_value_in_look, read_exact_tree,
+    visit_documents,
 };
 pub use output::matches::{add_array, add_lines_for_path, count_matches};
 pub use output::table::add_rows;

@@ -24,9 +24,7 @@ pub use ordered_tree::handle::OrderedValue;
 pub use ordered_tree::in_order::put_in_order;
 pub use output::array_items::{add_array_end, add_array_item};
 pub use output::csv_and_tsv::{Separated, add_header, add_row};
-pub use output::match_line::{
-    Line, LineEnd, Shown, add_file_name, add_line_end, add_record_start,
-};
+pub use output::match_line::{Line, LineEnd, Shown, add_file_name, add_line_end, add_record_start};
 pub use output::names_once::write_with_names_once;
 pub use output::value_text::{Look, add_compact_value, add_value_in_look};
 pub use query::{Compared, Query};

@@ -116,11 +116,15 @@ fn apply_edit(
     let path = edit.words.path();
     let document = Document::read(alloc, text, scratch, &edit.compared)?;
     let Some(done) = edited_text(alloc, text, document, edit)? else {
-        let _ = eprintln!(rt; "jpath: {path}: not renamed: a member of the new name is there already");
+        let _ = eprintln!(rt;
+            "jpath: {path}: not renamed: a member of the new name is there already"
+        );
         return Ok((Vec::from_slice(alloc, bytes)?, 0, true));
     };
     if done.selects_root {
-        let _ = eprintln!(rt; "jpath: {path}: the document itself is selected, which no edit changes");
+        let _ = eprintln!(rt;
+            "jpath: {path}: the document itself is selected, which no edit changes"
+        );
     }
     Ok((done.text, done.targets, done.selects_root))
 }
