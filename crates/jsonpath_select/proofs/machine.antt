@@ -5,7 +5,6 @@ pub mod SelectLemmas
 pub mod ScanningLemmas
 pub mod StepLemmas
 pub mod OrderedLemmas
-pub mod UnfilteredLemmas
 pub mod StandingLemmas
 pub mod TopLemmas
 pub mod LeadTopLemmas

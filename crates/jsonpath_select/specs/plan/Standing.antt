@@ -1,17 +1,15 @@
 -- How the locations stand that plain steps lead to, one after the other.
-use Rattle.std.specs.Prelude.{◌≡◌, ℕ, Bool, true, false, List, [], ◌∷◌, ◌++◌}
-use Rattle.std.specs.List.{list_all}
+use Rattle.std.specs.Prelude.{ℕ, Bool, true, List, [], ◌∷◌}
 use Rattle.jsonpath_nodes.specs.document.Document.{Document}
 use Rattle.jsonpath_nodes.specs.place.Location.{Location}
 use Rattle.jsonpath_nodes.specs.place.Mark.{MarksStandAt}
 use Rattle.jsonpath_nodes.specs.step.Separate.{HasNoRepeat, IsApart, IsDisjoint}
 use Rattle.jsonpath_select.specs.plan.Machine.{Found, tagged, stepped}
-use Rattle.jsonpath_select.specs.plan.Unfiltered.{is_plain_step}
 use Rattle.jsonpath_select.specs.declared.machine.standing.Standing.{Standing}
 use Rattle.jsonpath_select.specs.declared.machine.standing.StandingMarks.{StandingMarks}
 use Rattle.jsonpath_select.specs.declared.machine.standing.Standing.TheVariants.{Disjoint, Apart, Distinct, Unknown}
 use Rattle.jsonpath_select.specs.declared.machine.instruction.Instruction.{Instruction}
-use Rattle.jsonpath_select.specs.declared.machine.instruction.Instruction.TheVariants.{Start, Step, Enter}
+use Rattle.jsonpath_select.specs.declared.machine.instruction.Instruction.TheVariants.{Step}
 
 -- where plain steps lead, each in turn
 abbrev pub along : List ℕ → Document → List Instruction → List Location → List Location
@@ -33,11 +31,3 @@ IsStanding Unknown ls = Unit {0}
 -- the marks stand at these locations of the document, of which this is known
 abbrev pub AreStanding : {M : Type 0} → Bool → (M → Location) → (M → Document) → Document → List Location → StandingMarks M → Type 0
 AreStanding b stand content doc ls found = MarksStandAt b stand content doc ls found.marks.items × IsStanding found.standing ls
-
--- plain steps lead to a filter whose own `@` has a step
-abbrev pub LeadsOn : List Instruction → List Instruction → Type 0
-LeadsOn left steps = (rest : List Instruction) × (left ≡ steps ++ Enter false true ∷ rest) × (list_all is_plain_step steps ≡ true)
-
--- .. from the root
-abbrev pub LeadsToFilter : List Instruction → List Instruction → Type 0
-LeadsToFilter left steps = (rest : List Instruction) × (left ≡ Start true ∷ steps ++ Enter false true ∷ rest) × (list_all is_plain_step steps ≡ true)

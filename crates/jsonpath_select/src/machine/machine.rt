@@ -14,7 +14,6 @@ ghost use Rattle.jsonpath_select.specs.plan.Standing.{for_all};
 use crate::laws::dropping_repeats_keeps_the_set;
 use crate::machine::by_sets::{condition_by_sets, instructions_by_sets};
 use crate::machine::instruction::Instruction;
-use crate::machine::plain_steps::root_steps_to_filter_with_own_step;
 use crate::machine::stacks::{Stacks, pop_marks, push_top};
 use crate::step::carried_mark::Carried;
 use crate::tagged::marks::Found;
@@ -126,10 +125,8 @@ impl<'a, 't> Machine<'a, 't> {
         Ok(pop_marks(&mut stacks.operands).pairs.marks)
     }
 
-    // Executes the instruction at an index, or a few together, and answers the index of the next one. A path from `@`
-    // that begins with a name is looked up at once, with no list of where it begins. Plain steps from the root and the
-    // beginning of the filter behind them are taken together, since it is followed step by step how the places
-    // stand to each other.
+    // Executes the instruction at an index, and answers the index of the next one. A path from `@` that begins with a
+    // name is looked up at once, with no list of where it begins.
     fn execute_next<'c, M: Carried<'a>>(
         &self,
         code: &[Instruction<'c>],
@@ -143,11 +140,6 @@ impl<'a, 't> Machine<'a, 't> {
         if let Some(span) = leading_name_span(&code[at..]) {
             self.start_at_member(span, stacks)?;
             return Ok(at + 2);
-        }
-        if let Some(steps) = root_steps_to_filter_with_own_step(&code[at..]) {
-            let found = self.candidates_behind_steps_from_root(steps)?;
-            push_top(&mut stacks.frames, found)?;
-            return Ok(at + steps.len() + 2);
         }
         self.execute_instruction(code[at], stacks)?;
         Ok(at + 1)

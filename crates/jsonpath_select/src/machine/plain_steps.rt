@@ -1,7 +1,6 @@
-//! Plain steps, one after the other: what they select, how the selected locations are related, and the filter after the
-//! steps, for all its candidates at once.
+//! Plain steps, one after the other: what they select, and how the selected locations are related.
 
-ghost use Rattle.std.specs.Prelude.{List, [], ◌∷◌, true, IfOk, IfSome, IsTrue};
+ghost use Rattle.std.specs.Prelude.{List, [], ◌∷◌, IfOk, IsTrue};
 ghost use Rattle.std.specs.List.{list_all};
 ghost use Rattle.serde_json.specs.View.{view};
 ghost use Rattle.jsonpath_nodes.specs.document.OfData.{document_of};
@@ -9,8 +8,7 @@ ghost use Rattle.jsonpath_nodes.specs.place.Location.{Location};
 ghost use Rattle.jsonpath_nodes.specs.place.Mark.{MarksStandAt};
 ghost use Rattle.jsonpath_nodes.specs.step.Steps.{flattened};
 ghost use Rattle.jsonpath_select.specs.plan.Machine.{stepped};
-ghost use Rattle.jsonpath_select.specs.plan.Stack.{ShowsFound};
-ghost use Rattle.jsonpath_select.specs.plan.Standing.{along, for_all, AreStanding, IsStanding, LeadsToFilter, LeadsOn};
+ghost use Rattle.jsonpath_select.specs.plan.Standing.{along, AreStanding, IsStanding};
 ghost use Rattle.jsonpath_select.specs.plan.Unfiltered.{is_plain_step};
 
 use crate::machine::instruction::Instruction;
@@ -18,44 +16,10 @@ use crate::machine::machine::Machine;
 use crate::machine::standing::{Standing, StandingMarks};
 use crate::step::carried_mark::Carried;
 use crate::step::plain::marks_after_plain_step;
-use crate::tagged::marks::Found;
-use crate::tagged::shared_lists::marks_shared_by_candidates;
 use jsonpath_nodes::NoMemory;
 use jsonpath_nodes::laws::apart_locations_meet_candidates_once;
 use jsonpath_nodes::steps_on_marks::flattened_from_each;
 use jsonpath_paths::ParseToken;
-
-// The plain steps, if the instructions begin with a path from the root on which such steps lead to a filter whose own
-// `@` has a step and that no `..` stands before; else None.
-pub(crate) fn root_steps_to_filter_with_own_step<'c, 't>(
-    left: &'c [Instruction<'t>],
-) -> Option<&'c [Instruction<'t>]>
-    ensures { IfSome result (λ steps. LeadsToFilter left.now steps.now) }
-{
-    match left {
-        [Instruction::Start { absolute: true }, rest @ ..] => plain_steps_to_filter_with_own_step(
-            rest,
-        ),
-        _ => None,
-    }
-}
-
-// The plain steps, if the instructions begin with such steps and then a filter whose own `@` has a step and that no
-// `..` stands before; else None.
-fn plain_steps_to_filter_with_own_step<'c, 't>(
-    rest: &'c [Instruction<'t>],
-) -> Option<&'c [Instruction<'t>]>
-    ensures { IfSome result (λ steps. LeadsOn rest.now steps.now) }
-{
-    for (end, instruction) in rest.iter().enumerate() {
-        match instruction {
-            Instruction::Step { .. } => {}
-            Instruction::Enter { leaves, deep } if !*leaves && *deep => return Some(&rest[..end]),
-            _ => return None,
-        }
-    }
-    None
-}
 
 impl<'a, 't> Machine<'a, 't> {
     // Where plain steps, one after the other, lead from these marks, and, where `asks_standing` is set, how the places
@@ -119,23 +83,6 @@ impl<'a, 't> Machine<'a, 't> {
             count,
         )?;
         Ok(StandingMarks { standing, marks })
-    }
-
-    // The candidates of a filter whose own `@` has a step, to which plain steps lead from the root: one list, which all
-    // candidates outside the filter share. It is followed on the way how the places stand to
-    // each other, so that repeats are looked for only where there can be some.
-    pub(crate) fn candidates_behind_steps_from_root<M: Carried<'a>>(
-        &self,
-        steps: &[Instruction<'_>],
-    ) -> Result<Found<M>, M::Stop>
-        requires { IsTrue (list_all is_plain_step steps.now) }
-        ensures { IfOk result (λ found. ShowsFound M.located M.stand M.content (document_of (view self.now.root.now)) (for_all (flattened (document_of (view self.now.root.now)) (along self.now.text.now (document_of (view self.now.root.now)) steps.now ([] ∷ [])))) found) }
-    {
-        let root = self.root_marks()?;
-        let led = self.follow_steps(steps, true, root)?;
-        let marks = self.candidates_once_at(led.standing, led.marks.as_slice())?;
-        let found = marks_shared_by_candidates(self.alloc, marks)?;
-        Ok(found)
     }
 
     // The candidates of a filter whose own `@` has a step, each place once, from marks that stand to each other as

@@ -1,11 +1,10 @@
-use Rattle.std.proofs.Common.{[], ◌∷◌, ◌++◌, refl, sym, ◌∙◌, arith, false, true}
+use Rattle.std.proofs.Common.{[], ◌∷◌, refl, sym, ◌∙◌, arith, false}
 use Rattle.std.proofs.lemmas.List.{take_rest}
 use Rattle.jsonpath_nodes.specs.document.OfData.{value_document}
 use Rattle.jsonpath_select.specs.plan.Code as code
 use Rattle.jsonpath_select.specs.plan.Ordered.{instruction_of}
-use Rattle.jsonpath_select.specs.declared.machine.instruction.Instruction.TheVariants.{Start, Enter}
+use Rattle.jsonpath_select.specs.declared.machine.instruction.Instruction.TheVariants.{Start}
 use Rattle.jsonpath_select.proofs.machine.OrderedLemmas.{one_taken, two_taken, first_there, by_name, alone}
-use Rattle.jsonpath_select.proofs.walk.StandApartLemmas.{many_taken, shown_there}
 use Rattle.jsonpath_select.proofs.machine.StepLemmas.{inside_frames}
 use Rattle.jsonpath_select.proofs.machine.machine.Machine.execute_next.Goals as goal
 
@@ -47,18 +46,4 @@ returns g c =
       c.index-code-at.result ∷ [],
       one_taken c.args.code.now c.args.at c.index-code-at.result c.index-code-at.is c.requires.some,
       λ s t h e. c.in_ok-execute_instruction.ensures s t h (alone text doc (instruction_of c.index-code-at.result) s t e),
-    )
-
-pub returns-in-Some-root_steps_to_filter_with_own_step : goal.returns-in-Some-root_steps_to_filter_with_own_step
-returns-in-Some-root_steps_to_filter_with_own_step g c =
-    let steps = c.in-Some-root_steps_to_filter_with_own_step.steps.now in
-    let leads = c.in-Some-root_steps_to_filter_with_own_step.ensures in
-    let text = c.args.self.now.text.now in
-    let doc = value_document c.args.self.now.root.now in (
-      omega arith,
-      Start true ∷ steps ++ Enter false true ∷ [],
-      many_taken c.args.code.now c.args.at (Start true) (Enter false true) steps leads.0 (sym (take_rest c.args.code.now c.args.at) ∙ leads.1),
-      λ s t h e.
-          shown_there g.M.Mark.located g.M.Mark.stand g.M.Mark.content text doc steps s t c.args.stacks.now.frames.items c.push_top.new.stack.items c.args.stacks.now.operands.items c.in_ok-found.found
-          leads.2 h e c.in_ok-found.ensures c.in_ok-push_top.ensures,
     )
