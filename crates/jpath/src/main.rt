@@ -61,10 +61,10 @@ fn run_with_arguments(rt: &HostRuntime, words: &Words<'_>) -> Result<u8, Refused
 }
 
 // Does what the words ask for, with these path texts in place of their own.
-fn run_with_paths<'a>(
+fn run_with_paths<'a, 'w: 'a>(
     rt: &HostRuntime,
-    words: &Words<'a>,
-    filled: &'a FilledPaths<'a>,
+    words: &Words<'w>,
+    filled: &'a FilledPaths<'w>,
 ) -> Result<u8, Refused> {
     let words = words_with_paths(rt.alloc(), words, filled)?;
     run_filled_words(rt, &words)
