@@ -234,6 +234,13 @@ for path, caret, hint in [(".a[]", 0, "write $.a[*]"), (".users[].n", 0, "write 
                           ("$.a, .b", 3, "-e '$.a' -e '$.b'"), (".a, .b", 0, "-e '$.a' -e '$.b'"), ("$[?(@.a in ['x'])]", 8, "no `in`"), ("books.json", 0, "comes before the FILE"),
                           ("$[?(@.t == cod)].x", 11, "$[?(@.t == 'cod')].x"), ("$[?(@.t > 10.day && @.b)]", 13, "$[?(@.t > '10.day' && @.b)]"), (".[] | select(.a == 1)", 0, "$[?(")]:
     refused(path, caret, hint)
+for path, caret, hint in [("$.my key", 5, "$['first name']"), ("$[?(@.a > .5)]", 10, "0.5, 100"), ("$[?(@.a == 1e2)]", 11, "0.5, 100"), ("$[?(@.d > 2024-01-01)]", 10, "'2024-01-01'"),
+                          ("$[?(@.t == Moby Dick)]", 11, "needs quotes"), ("$[?(@.a == {x})]", 11, "--arg NAME TEXT"), ("$[{x}]", 2, "--arg NAME TEXT")]:
+    refused(path, caret, hint)
+for path, shown, error in [('$[?(@.a == {x} && @.b == "c)]', '$[?(@.a == \'v\' && @.b == "c)]', "isn't closed"), ("$[?(@.a = {x})]", "$[?(@.a = 'v')]", "signs: $[?(@.a == 'v')]\n"),
+                           ("$[?(@.a == {x} & {x} > @.b)]", "$[?(@.a == 'v' & 'v' > @.b)]", "&&: $[?(@.a == 'v' && 'v' > @.b)]\n")]:
+    done = subprocess.run(["jpath", "--arg", "x", "v", path, "a.json"], cwd=folder, capture_output=True, stdin=subprocess.DEVNULL)
+    judge(done.returncode == 2 and done.stdout == b"" and f"  {shown}\n" in done.stderr.decode() and error in done.stderr.decode(), f"path {path} with an argument: {done.stderr.decode()}")
 wants("jpath '$[?(@.a && @.b || @.c)]' a.json", 1, "", "jpath: warning: *")
 wants("jpath '$[?((@.a && @.b) || @.c)]' a.json", 1, "")
 

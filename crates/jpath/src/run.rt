@@ -71,7 +71,7 @@ fn tell_edits_made_nowhere<W: Output>(
     for (at, edit) in edits.iter().enumerate() {
         if run.visit.kept.has_made_nothing(at) {
             let _ = eprintln!(rt;
-                "jpath: {}: nothing is edited: no value is there for it",
+                "jpath: {}: nothing is edited: no value is there, or for --append no list, for --add no object",
                 edit.words.path()
             );
         }

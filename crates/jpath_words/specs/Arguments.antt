@@ -6,7 +6,7 @@ use Rattle.std.specs.Option.{option_to_list}
 use Rattle.std.specs.Str.{chars}
 use Rattle.jsonpath_paths.specs.text.Characters.{backslash, single_quote, name_of, bytes_at}
 use Rattle.jsonpath_paths.specs.text.TextPlace.{Place, ahead}
-use Rattle.jsonpath_paths.specs.token.Kinds.{is_quoted, same_kind}
+use Rattle.jsonpath_paths.specs.token.Kinds.{HasNone, is_quoted, same_kind}
 use Rattle.jsonpath_paths.specs.token.Tokens.{TakesToken, kind_of, span_of}
 use Rattle.jsonpath_paths.specs.declared.token.tokens.Kind.{Kind}
 use Rattle.jsonpath_paths.specs.declared.token.tokens.Kind.TheVariants as k
@@ -79,10 +79,12 @@ pub data Fills (arguments : List Argument) : Bool → Place → Place → Type 0
   next : {b : Bool} {p q to behind : Place} (kind : Kind) (text : List ℕ) → TakesText kind text p to → TakesKeptOrPut arguments b kind text q behind → Fills arguments (is_dot kind) to behind
       → Fills arguments b p q
 
--- a path text with arguments put in; as it was typed it is no path
-pub data IsFilled (arguments : List Argument) (path made : List ℕ) : Type 0 where
-  filled : Fills arguments false (start_of path) (start_of made) → IsFilled arguments path made
-  as_typed : made ≡ path → IsFilled arguments path made
+-- A path text with arguments put in: into the tokens with which it begins, and into what is behind the next part, with
+-- which no token begins. In a path there is no such part. What is left may be as it was typed.
+pub data IsFilled (arguments : List Argument) : List ℕ → List ℕ → Type 0 where
+  filled : {path made : List ℕ} (tokens between behind tokens_made behind_made : List ℕ) → path ≡ tokens ++ (between ++ behind) → made ≡ tokens_made ++ (between ++ behind_made)
+      → Fills arguments false (start_of tokens) (start_of tokens_made) → HasNone (ahead (start_of (between ++ behind))) → IsFilled arguments behind behind_made → IsFilled arguments path made
+  as_typed : {path made : List ℕ} → made ≡ path → IsFilled arguments path made
 
 -- the same for the text of a column, whose path may have a name before it
 pub record IsFilledText (arguments : List Argument) (text made : List ℕ) : Type 0 where

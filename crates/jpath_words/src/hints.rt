@@ -34,6 +34,15 @@ const NO_SUCH_INDEX: &str = "an index is a whole number of 64 bits";
 
 const NOT_CLOSED: &str = "the quoted text isn't closed";
 
+const NO_ARGUMENT: &str =
+    "--arg NAME TEXT puts a text in place of {NAME}, --argjson NAME NUMBER a number";
+
+const NO_NUMBER: &str = "a number has digits on both sides of its point, and no exponent: 0.5, 100";
+
+const NO_QUOTES: &str = "a text in a filter needs quotes: @.name == 'Moby Dick'";
+
+const NO_BRACKETS: &str = "a name with a blank needs brackets and quotes: $['first name']";
+
 const PARENTHESES: &str = "a filter's condition is written in parentheses: [?(@.price < 10)]";
 
 // What is written instead of a wrong text, and why.
@@ -100,7 +109,7 @@ fn hint_with_path(
         return Ok(Some(hint));
     }
     let front = before.trim_end();
-    if front.len() < before.len() {
+    if front.len() < before.len() && !is_name_with_blank(before, rest) {
         return hint_if_path(alloc, "no blank is allowed here", front, "", rest);
     }
     match path_with_parentheses(alloc, path)? {
@@ -169,18 +178,15 @@ fn hint_to_quote_text(alloc: Global, before: &str, rest: &str) -> Result<Option<
     ensures { IfOk result (λ o. IfSome o (λ hint. EndsWithPath (string_bytes hint))) }
 {
     let front = before.trim_end_matches(|c: char| !is_end_of_text(c));
+    let (ended, tail) = split_compared_text(rest);
     if rest.starts_with("null")
-        || !front
-            .trim_end()
-            .ends_with(|c: char| c == '=' || c == '<' || c == '>')
+        || rest.starts_with('{')
+        || !ends_with_comparison(front)
+        || is_number_of_json(ended)
     {
         return Ok(None);
     }
     let begun = before.get(front.len()..).unwrap_or("");
-    let tail = rest.trim_start_matches(|c: char| !is_end_of_text(c));
-    let ended = rest
-        .get(..rest.len().saturating_sub(tail.len()))
-        .unwrap_or("");
     let quoted = format!(in alloc; "'{begun}{ended}'")?;
     hint_if_path(
         alloc,
@@ -189,6 +195,37 @@ fn hint_to_quote_text(alloc: Global, before: &str, rest: &str) -> Result<Option<
         quoted.as_str(),
         tail,
     )
+}
+
+// Whether the text ends with a comparison sign, and blanks behind it at most.
+fn ends_with_comparison(text: &str) -> bool {
+    text.trim_end()
+        .ends_with(|c: char| c == '=' || c == '<' || c == '>')
+}
+
+// The text up to where a text without quotes ends that is compared, and from there.
+fn split_compared_text(text: &str) -> (&str, &str) {
+    let tail = text.trim_start_matches(|c: char| !is_end_of_text(c));
+    let length = text.len().saturating_sub(tail.len());
+    (text.get(..length).unwrap_or(""), tail)
+}
+
+// Whether the text looks like a number that JSON or other languages have, and a path has not: `.5`, `1e2`.
+fn is_number_of_json(text: &str) -> bool {
+    text.starts_with(|c: char| c.is_ascii_digit() || c == '.')
+        && text.chars().all(|c| c.is_ascii_digit() || matches!(c, '.' | 'e' | 'E' | '+'))
+}
+
+// Whether a word ends before blanks at the end of `before`, and another begins `rest`.
+fn is_name_with_blank(before: &str, rest: &str) -> bool {
+    let front = before.trim_end();
+    front.len() < before.len()
+        && front.ends_with(|c: char| is_of_name(c))
+        && rest.starts_with(|c: char| is_of_name(c))
+}
+
+fn is_of_name(c: char) -> bool {
+    c.is_alphanumeric() || c == '_'
 }
 
 // Whether a text without quotes that is compared ends before this character, or begins behind it.
@@ -203,6 +240,7 @@ fn is_bare(names: &str) -> bool {
         && !names.contains("\"")
         && !names.contains("(")
         && !names.contains("$")
+        && !names.contains("{")
         && !names.contains("@")
 }
 
@@ -323,6 +361,9 @@ fn hint_for_unsupported_syntax(path: &str, before: &str, rest: &str) -> Option<&
     if rest.starts_with("null") {
         return Some(NO_NULL);
     }
+    if rest.starts_with('{') {
+        return Some(NO_ARGUMENT);
+    }
     if path.contains("=~")
         || path.contains("~=")
         || path.contains("match(")
@@ -360,8 +401,26 @@ fn hint_for_unsupported_syntax(path: &str, before: &str, rest: &str) -> Option<&
     if rest.starts_with('\'') || rest.starts_with('"') {
         return sentence_at_quote(before, rest);
     }
+    if ends_with_comparison(before) {
+        return sentence_behind_comparison(rest);
+    }
+    if is_name_with_blank(before, rest) {
+        return Some(NO_BRACKETS);
+    }
     if before.ends_with('[') && rest.starts_with(|c: char| c.is_ascii_digit() || c == '-') {
         return Some(NO_SUCH_INDEX);
+    }
+    None
+}
+
+// The sentence where what is compared with is refused: it is a number or a text that a path writes otherwise.
+fn sentence_behind_comparison(rest: &str) -> Option<&'static str> {
+    let (compared, _) = split_compared_text(rest);
+    if is_number_of_json(compared) {
+        return Some(NO_NUMBER);
+    }
+    if rest.starts_with(|c: char| is_of_name(c)) {
+        return Some(NO_QUOTES);
     }
     None
 }

@@ -342,7 +342,7 @@ fn member_of_edit(
     let (found, sentence) = match edit {
         EditWords::Add(_, _) | EditWords::AddText(_, _) => (
             member_of_plain_path(alloc, query)?,
-            "--add makes a member by names and indexes alone, a name last",
+            "--add makes a member by names and indexes from 0 alone, a name last",
         ),
         EditWords::Rename(_, _) => (
             last_name_of_path(alloc, query)?,
@@ -391,7 +391,9 @@ fn text_of_json_value(
         Err(DocumentRefusal::OutOfMemory) => Err(Refused::OutOfMemory),
         Err(_) => {
             let _ = eprintln!(rt; "jpath: {option} wants JSON, and this is none: {json}");
-            let _ = eprintln!(rt; "hint: --set-text and --add-text take a text as it is");
+            let _ = eprintln!(rt;
+                "hint: a text has quotes here, as '\"Ada\"'; --set-text and --add-text take it without"
+            );
             Err(Refused::Told)
         }
     }

@@ -33,7 +33,7 @@ pub(crate) fn read_arguments(
         let name = words.name();
         if name.is_empty() {
             let _ = eprintln!(rt;
-                "jpath: --arg and --argjson want a name, as in --arg id 7 '$.users[?(@.id == {{id}})]'"
+                "jpath: --arg and --argjson want a name, as in --arg n Ada '$.users[?(@.name == {{n}})]'"
             );
             return Err(Refused::Told);
         }
@@ -78,7 +78,9 @@ fn number_text(rt: &(impl Eprint + Alloc<A = Global>), number: &str) -> Result<S
         let _ = eprintln!(rt;
             "jpath: --argjson wants a number as a path has it, and this is none: {number}"
         );
-        let _ = eprintln!(rt; "hint: --arg takes a text as it is");
+        let _ = eprintln!(rt;
+            "hint: a number has digits on both sides of its point, and no exponent; --arg takes a text as it is"
+        );
         return Err(Refused::Told);
     }
     Ok(String::from_str(alloc, number)?)

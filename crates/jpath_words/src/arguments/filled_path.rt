@@ -1,7 +1,9 @@
 //! A path text with arguments in place of their placeholders: how it is made, and that its other tokens stay.
 
 ghost use Rattle.std.specs.Prelude.{◌≡◌, ◌++◌, false, [], All, Contains, IfOk, IfSome, None, IsTrue, string_bytes};
+ghost use Rattle.std.specs.Str.{IsUtf8};
 ghost use Rattle.jsonpath_paths.specs.text.TextPlace.{ahead};
+ghost use Rattle.jsonpath_paths.specs.token.Kinds.{HasNone};
 ghost use Rattle.jsonpath_paths.specs.token.Tokens.{kind_of};
 ghost use Rattle.jpath_words.specs.Arguments.{start_of, is_dot, IsPlaceholder, TakesText, TakesPut, TakesKeptOrPut, Fills, IsFilled};
 
@@ -11,7 +13,7 @@ use std::alloc::{AllocError, Global};
 use std::slice;
 
 // The path text with what these arguments put in place of their placeholders: each placeholder becomes one quoted text or
-// one number, and each other token stays. A text that can't be read to its end, which is no path, stays as it is.
+// one number, and each other token stays. So does what is between tokens in a text that is no path.
 pub(crate) fn filled_path(
     alloc: Global,
     path: &str,
@@ -19,23 +21,59 @@ pub(crate) fn filled_path(
 ) -> Result<String, AllocError>
     ensures { IfOk result (λ made. IsFilled arguments.now path.now (string_bytes made)) }
 {
-    let made = path_with_arguments(alloc, path, arguments)?;
-    if keeps_tokens(path, made.as_str(), arguments) {
-        return Ok(made);
+    let mut made = String::new(alloc);
+    let mut rest = path;
+    for _ in 0..path.len() {
+        let (tokens, behind) = split_text(rest, end_of_tokens(rest));
+        let filled = tokens_with_arguments(alloc, tokens, arguments)?;
+        if begins_with_token(behind) || !keeps_tokens(tokens, filled.as_str(), arguments) {
+            break;
+        }
+        let (between, further) = split_text(behind, end_of_character(behind));
+        made.push_str(filled.as_str())?;
+        made.push_str(between)?;
+        rest = further;
     }
-    String::from_str(alloc, path)
+    made.push_str(rest)?;
+    Ok(made)
 }
 
-// The tokens of a path text, one behind the other, with what arguments put in place of their placeholders.
-fn path_with_arguments(
+// The byte behind the tokens with which the text begins.
+fn end_of_tokens(text: &str) -> usize {
+    let mut tokens = TokenReader::new(text);
+    let mut end = 0usize;
+    for _ in 0..text.len() {
+        let Ok(token) = tokens.next_token() else {
+            break;
+        };
+        let span = token.span();
+        end = span.pos.saturating_add(span.offset);
+    }
+    end
+}
+
+// The byte behind the text's first character.
+fn end_of_character(text: &str) -> usize {
+    text.chars().next().map_or(0, |c| c.len_utf8())
+}
+
+// Whether a token begins the text.
+fn begins_with_token(text: &str) -> bool
+    ensures { result ≡ false → HasNone (ahead (start_of text.now)) }
+{
+    TokenReader::new(text).next_token().is_ok()
+}
+
+// These tokens, one behind the other, with what arguments put in place of their placeholders.
+fn tokens_with_arguments(
     alloc: Global,
-    path: &str,
+    text: &str,
     arguments: &[Argument],
 ) -> Result<String, AllocError> {
     let mut made = String::new(alloc);
-    let mut typed = TokenReader::new(path);
+    let mut typed = TokenReader::new(text);
     let mut is_behind_dot = false;
-    for _ in 0..path.len() {
+    for _ in 0..text.len() {
         let Ok(token) = typed.next_token() else {
             break;
         };
@@ -185,7 +223,8 @@ fn takes_words_about_point(tokens: &mut TokenReader<'_>, whole: &str, behind: &s
 
 // The text up to this byte and from there on; all of it behind nothing where it can't be cut there.
 pub(crate) fn split_text(text: &str, at: usize) -> (&str, &str)
-    ensures { text.now ≡ result.0.now ++ result.1.now }
+    ensures whole { text.now ≡ result.0.now ++ result.1.now }
+    ensures text { IsUtf8 result.1.now }
 {
     match (text.get(..at), text.get(at..)) {
         (Some(front), Some(behind)) => (front, behind),

@@ -4,4 +4,4 @@ use Rattle.jpath_words.proofs.arguments.filled_path.takes_number.Goals as goal
 
 pub returns-in-Some : goal.returns-in-Some
 returns-in-Some c = λ h.
-    subst (λ (bs : List ℕ). TakesPut bs c.args.tokens.now.place c.takes_words_about_point.new.tokens.place) (sym c.split_text.ensures) (c.takes_words_about_point.ensures h)
+    subst (λ (bs : List ℕ). TakesPut bs c.args.tokens.now.place c.takes_words_about_point.new.tokens.place) (sym c.split_text.ensures.whole) (c.takes_words_about_point.ensures h)
