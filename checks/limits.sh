@@ -62,6 +62,7 @@ awk 'BEGIN {
     printf "]}"
 }' > "$work/records"
 printf '{}' > "$work/none"
+printf '[1]' > "$work/one"
 
 # A filter after '..', where the document is deep.
 answers 60 8192 'a filter after .. in 120 arrays around 20,000 numbers' items '[]' select '$..[?(@.a)]'
@@ -83,14 +84,15 @@ answers 50 8192 'a filter with ..* four times in 120 objects' objects120 '[]' se
 nested=$(around '..[?(@' 6 .zz ')]')
 answers 50 8192 'mask by six filters, each in the one before, in 60 objects' objects60 "$(cat "$work/objects60")" mask "\$$nested"
 
-# As many levels as a path may have: read with 1 MB of stack, gone by with 8 MB.
+# As many levels as a path may have: read and evaluated with 1 MB of stack.
 answers 60 1024 '1,000 levels of filters' none ok check "\$$(around '[?(@' 1000 '' ')]')"
 answers 60 1024 '1,000 levels of parentheses' none ok check "\$[?$(around '(' 1000 @ ')')]"
 answers 60 1024 '1,000 conditions joined by &&' none ok check "\$[?(@$(times '&&@' 999))]"
 answers 60 1024 '1,000 levels of comparisons' none ok check "\$$(around '[?(1==$' 1000 '' ')]')"
 answers 60 1024 'select by 1,000 levels of parentheses' none '[]' select "\$[?$(around '(' 1000 @.a ')')]"
-answers 60 8192 'select by 1,000 levels of filters' none '[{}]' select "\$$(around '[?(@' 1000 '' ')]')"
-answers 60 8192 'delete by 1,000 levels of filters after ..' none '{}' delete "\$$(around '..[?(@.a' 1000 '' ')]')"
+answers 60 1024 'select by 1,000 levels of compared filters' one '[1]' select "\$$(around '[?(@==@' 1000 '' ')]')"
+answers 60 1024 'select by 1,000 levels of filters' none '[{}]' select "\$$(around '[?(@' 1000 '' ')]')"
+answers 60 1024 'delete by 1,000 levels of filters after ..' none '{}' delete "\$$(around '..[?(@.a' 1000 '' ')]')"
 
 echo "$passed passed, $failed failed"
 [ "$failed" = 0 ]
