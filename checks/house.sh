@@ -247,7 +247,8 @@ room.rt: given cites place of made_up Place
 room.rt: given cites way of made_up plan.Way' ]
 judge $? "the rule on citations does not tell its own cases apart: $found"
 
-# The rows of docs/DEFINITIONS.md, as 'CRATE MODULE': in the sections whose heads name the definitions of crates.
+# The rows of docs/DEFINITIONS.md, as 'CRATE MODULE': in the sections whose heads name the definitions of crates. Where a row names
+# one of these itself, as `crate/Module`, its modules are of that one.
 defined() {
     awk '
         /^## / {
@@ -255,15 +256,19 @@ defined() {
             split("", crates)
             for (i = 2; i <= n; i += 2) {
                 sub(/\/specs$/, "", words[i])
-                crates[i] = words[i]
+                crates[words[i]]
             }
         }
         /^\| `/ {
             split($0, cells, / \| /)
             n = split(cells[1], words, /`/)
+            own = ""
             for (i = 2; i <= n; i += 2) {
+                split(words[i], parts, /\//)
+                if (parts[1] in crates) own = parts[1]
+                if (parts[1] == own) sub(/^[^\/]*\//, "", words[i])
                 gsub(/\//, ".", words[i])
-                for (c in crates) print crates[c] " " words[i]
+                for (c in crates) if (own == "" || c == own) print c " " words[i]
             }
         }
     ' "$1"
