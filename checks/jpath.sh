@@ -36,13 +36,11 @@ def shell(command, folder, given=None):
 # ---- the rows of docs/JPATH.md, in a folder with the files that it shows
 
 page = lines_of("docs/JPATH.md")
-for number, line in enumerate(page):
-    named = re.match(r"`([a-z]+\.json)`", line)
-    if named and line.rstrip().endswith(":"):
-        start = page.index("```json", number) + 1
-        end = page.index("```", start)
+for line in page:
+    named = re.fullmatch(r"\| `([a-z]+\.json)` \| (.*) \|", line)
+    if named:
         with open(f"{work}/rows/{named[1]}", "w", encoding="utf-8") as it:
-            it.write("\n".join(page[start:end]) + "\n")
+            it.write("".join(part + "\n" for part in re.findall(r"`([^`]*)`", named[2])))
 
 files = {name: open(f"{work}/rows/{name}").read() for name in os.listdir(f"{work}/rows")}
 rows = 0
@@ -234,7 +232,8 @@ for path, caret, hint in [(".a[]", 0, "write $.a[*]"), (".users[].n", 0, "write 
                           ("$.a, .b", 3, "-e '$.a' -e '$.b'"), (".a, .b", 0, "-e '$.a' -e '$.b'"), ("$[?(@.a in ['x'])]", 8, "no `in`"), ("books.json", 0, "comes before the FILE"),
                           ("$[?(@.t == cod)].x", 11, "$[?(@.t == 'cod')].x"), ("$[?(@.t > 10.day && @.b)]", 13, "$[?(@.t > '10.day' && @.b)]"), (".[] | select(.a == 1)", 0, "$[?(")]:
     refused(path, caret, hint)
-for path, caret, hint in [("$.my key", 5, "$['first name']"), ("$[?(@.a > .5)]", 10, "0.5, 100"), ("$[?(@.a == 1e2)]", 11, "0.5, 100"), ("$[?(@.d > 2024-01-01)]", 10, "'2024-01-01'"),
+for path, caret, hint in [("$.my key", 5, "$['first name']"), ("$[?(@.a > .5)]", 10, "0.5, 100"), ("$[?(@.a == 1e2)]", 11, "0.5, 100"), ("$[?(@.d > 2024-01-01)]", 10, "'2024-01-01'"), ("$[?(@.ip == 10.0.0.1)]", 16, "'10.0.0.1'"),
+                          ("$[?(@.a > 1.5e3)]", 12, "0.5, 100"), ("$[?(@.a > 5.)]", 12, "0.5, 100"),
                           ("$[?(@.t == Moby Dick)]", 11, "needs quotes"), ("$[?(@.a == {x})]", 11, "--arg NAME TEXT"), ("$[{x}]", 2, "--arg NAME TEXT")]:
     refused(path, caret, hint)
 for path, shown, error in [('$[?(@.a == {x} && @.b == "c)]', '$[?(@.a == \'v\' && @.b == "c)]', "isn't closed"), ("$[?(@.a = {x})]", "$[?(@.a = 'v')]", "signs: $[?(@.a == 'v')]\n"),

@@ -14,7 +14,7 @@ use Rattle.jpath_edits.specs.declared.change.Change.{Change}
 use Rattle.json.specs.Value.{value_view}
 use Rattle.jpath_edits.specs.Grown.{IsGrownAt}
 use Rattle.jpath_edits.specs.declared.growth.Growth.{Growth}
-use Rattle.jpath_edits.specs.declared.growth.Grown.{Grown}
+use Rattle.jpath_core.specs.declared.edit.Edited.{Edited}
 use Rattle.jpath_core.specs.Edited.{HasImage, IsAppended, IsEdited, IsEditedAt, IsItemOf}
 
 pub read_again : (change : Change) (places locations : List Location) (before : Data) (bytes written : List ℕ) → places ≡ locations → bytes ≡ written
@@ -33,16 +33,16 @@ edited_of path change document text written edited has before is = record {
 }
 
 -- items at the ends of selected lists, from what was found of the text
-pub appended : (path value : List ℕ) (document : Document) (text : List ℕ) (growth : Growth) (places lent : List Location) (found : Option Grown) (grown : Grown) → found ≡ Some grown → lent ≡ places
-    → IfSome found (λ g. IsGrownAt growth (value_view document.exact) lent text g.text.items) → (is_as_read document.numbers ≡ true → AreTargets path (document_of (view document.image)) places) → IsItemOf value growth
-    → IsAppended path value document text grown.text.items
-appended path value document text growth places lent found grown is same made targets item = record {
+pub appended : (path value : List ℕ) (document : Document) (text : List ℕ) (growth : Growth) (places lent : List Location) (found : Option Edited) (edited : Edited) → found ≡ Some edited → lent ≡ places
+    → IfSome found (λ e. IsGrownAt growth (value_view document.exact) lent text e.text.items) → (is_as_read document.numbers ≡ true → AreTargets path (document_of (view document.image)) places) → IsItemOf value growth
+    → IsAppended path value document text edited.text.items
+appended path value document text growth places lent found edited is same made targets item = record {
   growth = growth;
   is_item = item;
   grown = record {
     locations = places;
     targets = targets;
-    grown = subst (λ (ls : List Location). IsGrownAt growth (value_view document.exact) ls text grown.text.items) same
-        (subst (λ (o : Option Grown). IfSome o (λ g. IsGrownAt growth (value_view document.exact) lent text g.text.items)) is made);
+    grown = subst (λ (ls : List Location). IsGrownAt growth (value_view document.exact) ls text edited.text.items) same
+        (subst (λ (o : Option Edited). IfSome o (λ e. IsGrownAt growth (value_view document.exact) lent text e.text.items)) is made);
   };
 }

@@ -1,18 +1,22 @@
 -- A text that was edited at the targets of a path.
-use Rattle.std.specs.Prelude.{◌≡◌, ℕ, List, [], ◌∷◌, Bool, true, Some}
+use Rattle.std.specs.Prelude.{◌≡◌, ◌≢◌, ℕ, List, [], ◌∷◌, Bool, true, Some}
 use Rattle.std.specs.List.Sorted.{IsStrictlySortedBy}
 use Rattle.json.specs.Value.{value_view}
 use Rattle.serde_json.specs.Data.{Data}
 use Rattle.serde_json.specs.Read.{read}
 use Rattle.serde_json.specs.View.{view}
+use Rattle.jsonpath_paths.specs.Spelling.{Spells}
+use Rattle.jsonpath_paths.specs.tree.Tree.{Path}
 use Rattle.jsonpath_nodes.specs.document.OfData.{document_of}
 use Rattle.jsonpath_nodes.specs.place.Location.{Location, location_cmp}
+use Rattle.jsonpath_select.specs.Meaning.{sel}
 use Rattle.jsonpath_select.specs.Targets.{AreTargets}
 use Rattle.jpath_texts.specs.NumberPlaces.{is_as_read}
 use Rattle.jpath_texts.specs.declared.document.Document.{Document}
 use Rattle.jpath_edits.specs.Changed.{IsChangedAt, ReadsChanged}
 use Rattle.jpath_edits.specs.Grown.{IsGrownAt}
 use Rattle.jpath_edits.specs.declared.change.Change.{Change}
+use Rattle.jpath_edits.specs.declared.change.Change.TheVariants.{Put}
 use Rattle.jpath_edits.specs.declared.growth.Growth.{Growth}
 use Rattle.jpath_edits.specs.declared.growth.Growth.TheVariants.{Member, Item, Name}
 use Rattle.json.specs.Json.{Json}
@@ -66,3 +70,15 @@ pub record IsMade (member : NewMember) (tree : Json) (text written : List ℕ) :
   pub growth : Growth
   pub is_member : IsMemberOf member.name.now member.value.now growth
   pub grown : IsGrownAt growth tree (member.above.now ∷ []) text written
+
+-- Where numbers are compared as they are read, the path selects nothing, or something.
+abbrev pub SelectsNothing : List ℕ → Document → Type 0
+SelectsNothing path document = is_as_read document.numbers ≡ true → (p : Path) → Spells path p → sel path (document_of (view document.image)) p ≡ []
+
+abbrev pub SelectsSomething : List ℕ → Document → Type 0
+SelectsSomething path document = is_as_read document.numbers ≡ true → (p : Path) → Spells path p → sel path (document_of (view document.image)) p ≢ []
+
+-- The value that the path selects is replaced; where it selects none, the member is made.
+pub data IsMemberPut (path : List ℕ) (member : NewMember) (document : Document) (text written : List ℕ) : Type 0 where
+  replaced : SelectsSomething path document → IsEditedAt path (Put member.value) document text written → IsMemberPut path member document text written
+  made : SelectsNothing path document → IsMade member (value_view document.exact) text written → IsMemberPut path member document text written

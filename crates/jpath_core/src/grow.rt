@@ -1,13 +1,13 @@
 //! Edits by a path that make something in a document, or give members another name.
 
-ghost use Rattle.std.specs.Prelude.{◌⊎◌, IfOk, IfSome};
+ghost use Rattle.std.specs.Prelude.{IfOk, IfSome};
 ghost use Rattle.json.specs.Value.{value_view};
-ghost use Rattle.jpath_edits.specs.declared.change.Change.TheVariants.{Put};
+ghost use Rattle.jpath_edits.specs.Grown.{CanBeWritten, IsGrownAt};
 ghost use Rattle.jpath_edits.specs.declared.growth.Growth.TheVariants.{Name};
-ghost use Rattle.jpath_core.specs.Edited.{IsAppended, IsEditedAt, IsGrownByPath, IsMade};
+ghost use Rattle.jpath_core.specs.Edited.{IsAppended, IsGrownByPath, IsMade, IsMemberPut};
 
 use crate::edit::{Edited, edit_text, select_locations_in_document_order};
-use crate::selection::select_in_document;
+use crate::output::matches::count_matches_of_path;
 use jpath_edits::{Change, Growth, grown_text};
 use jpath_texts::{Document, DocumentRefusal, Query, read_exact_tree};
 use json::Scratch;
@@ -38,22 +38,33 @@ pub fn add_member_text(
     query: &Query<'_>,
     member: &NewMember<'_>,
 ) -> Result<Edited, DocumentRefusal>
-    ensures { IfOk result (λ edited. IsEditedAt query.now.path (Put member.now.value) document.entry text.now edited.text.items
-        ⊎ IsMade member.now (value_view document.entry.exact) text.now edited.text.items) }
+    ensures { IfOk result (λ edited. IsMemberPut query.now.path member.now document.entry text.now edited.text.items) }
 {
-    if is_there(alloc, &document, query)? {
+    if count_matches_of_path(alloc, &document, query)? > 0 {
         return edit_text(alloc, text, document, query, Change::Put(member.value));
     }
     make_member_text(alloc, text, &document, member)
 }
 
-// Whether the path selects something.
-fn is_there(
+// The text of a document in which a growth is made at these places, or `None` where it can't be made.
+fn text_with_growth(
     alloc: Global,
+    text: &str,
     document: &Document<'_>,
-    query: &Query<'_>,
-) -> Result<bool, DocumentRefusal> {
-    Ok(!select_in_document(alloc, document, query)?.is_empty())
+    places: &[Location],
+    growth: &Growth<'_, '_>,
+) -> Result<Option<Edited>, DocumentRefusal>
+    requires { CanBeWritten growth.now }
+    ensures { IfOk result (λ found. IfSome found (λ edited. IsGrownAt growth.now (value_view document.now.exact) places.now text.now edited.text.items)) }
+{
+    match grown_text(alloc, text, &document.exact, places, growth)? {
+        Some(grown) => Ok(Some(Edited {
+            text: grown.text,
+            targets: grown.count,
+            selects_root: false,
+        })),
+        None => Ok(None),
+    }
 }
 
 // The text of a document with a member made that isn't there.
@@ -68,18 +79,9 @@ fn make_member_text(
     let mut scratch = Scratch::new(alloc);
     let value = read_exact_tree(alloc, member.value, &mut scratch)?;
     let growth = Growth::Member(member.name, &value);
-    match grown_text(
-        alloc,
-        text,
-        &document.exact,
-        slice::from_ref(member.above),
-        &growth,
-    )? {
-        Some(grown) => Ok(Edited {
-            text: grown.text,
-            targets: grown.count,
-            selects_root: false,
-        }),
+    let places = slice::from_ref(member.above);
+    match text_with_growth(alloc, text, document, places, &growth)? {
+        Some(edited) => Ok(edited),
         None => Err(DocumentRefusal::EditDiffers),
     }
 }
@@ -103,18 +105,9 @@ pub fn append_text(
     let places = select_locations_in_document_order(alloc, document, query)?;
     let mut scratch = Scratch::new(alloc);
     let item = read_exact_tree(alloc, value, &mut scratch)?;
-    match grown_text(
-        alloc,
-        text,
-        &document.exact,
-        places.as_slice(),
-        &Growth::Item(&item),
-    )? {
-        Some(grown) => Ok(Edited {
-            text: grown.text,
-            targets: grown.count,
-            selects_root: false,
-        }),
+    let growth = Growth::Item(&item);
+    match text_with_growth(alloc, text, document, places.as_slice(), &growth)? {
+        Some(edited) => Ok(edited),
         None => Err(DocumentRefusal::EditDiffers),
     }
 }
@@ -137,12 +130,5 @@ pub fn rename_text(
 {
     let places = select_locations_in_document_order(alloc, document, query)?;
     let growth = Growth::Name(old, new);
-    match grown_text(alloc, text, &document.exact, places.as_slice(), &growth)? {
-        Some(grown) => Ok(Some(Edited {
-            text: grown.text,
-            targets: grown.count,
-            selects_root: false,
-        })),
-        None => Ok(None),
-    }
+    text_with_growth(alloc, text, document, places.as_slice(), &growth)
 }

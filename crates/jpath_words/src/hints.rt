@@ -105,7 +105,7 @@ fn hint_with_path(
     if let Some(hint) = hint_to_replace(alloc, before, rest)? {
         return Ok(Some(hint));
     }
-    if let Some(hint) = hint_to_quote_text(alloc, before, rest)? {
+    if let Some(hint) = hint_to_quote_text(alloc, path, before, rest)? {
         return Ok(Some(hint));
     }
     let front = before.trim_end();
@@ -174,27 +174,51 @@ fn hint_to_quote_names(
 }
 
 // The hint for a text without quotes behind a comparison sign, `== cod` or `> 10.day`: to write it in quotes.
-fn hint_to_quote_text(alloc: Global, before: &str, rest: &str) -> Result<Option<String>, AllocError>
+fn hint_to_quote_text(
+    alloc: Global,
+    path: &str,
+    before: &str,
+    rest: &str,
+) -> Result<Option<String>, AllocError>
     ensures { IfOk result (λ o. IfSome o (λ hint. EndsWithPath (string_bytes hint))) }
 {
-    let front = before.trim_end_matches(|c: char| !is_end_of_text(c));
-    let (ended, tail) = split_compared_text(rest);
-    if rest.starts_with("null")
-        || rest.starts_with('{')
-        || !ends_with_comparison(front)
-        || is_number_of_json(ended)
-    {
+    let Some(compared) = compared_text(path, before) else {
+        return Ok(None);
+    };
+    if rest.starts_with("null") || rest.starts_with('{') || is_number_of_json(compared.text) {
         return Ok(None);
     }
-    let begun = before.get(front.len()..).unwrap_or("");
-    let quoted = format!(in alloc; "'{begun}{ended}'")?;
+    let text = compared.text;
+    let quoted = format!(in alloc; "'{text}'")?;
     hint_if_path(
         alloc,
         "a text in a filter needs quotes",
-        front,
+        compared.front,
         quoted.as_str(),
-        tail,
+        compared.tail,
     )
+}
+
+// A text without quotes that is compared, and the path before and behind it.
+#[derive(Clone, Copy, Drop)]
+struct ComparedText<'p> {
+    front: &'p str,
+    text: &'p str,
+    tail: &'p str,
+}
+
+// The text without quotes behind a comparison sign in which a path is refused, where `before` ends. `None` where there
+// is none.
+fn compared_text<'p>(path: &'p str, before: &'p str) -> Option<ComparedText<'p>> {
+    let front = before.trim_end_matches(|c: char| !is_end_of_text(c));
+    if !ends_with_comparison(front) {
+        return None;
+    }
+    let compared = path.get(front.len()..).unwrap_or("");
+    let tail = compared.trim_start_matches(|c: char| !is_end_of_text(c));
+    let length = compared.len().saturating_sub(tail.len());
+    let text = compared.get(..length).unwrap_or("");
+    Some(ComparedText { front, text, tail })
 }
 
 // Whether the text ends with a comparison sign, and blanks behind it at most.
@@ -203,17 +227,15 @@ fn ends_with_comparison(text: &str) -> bool {
         .ends_with(|c: char| c == '=' || c == '<' || c == '>')
 }
 
-// The text up to where a text without quotes ends that is compared, and from there.
-fn split_compared_text(text: &str) -> (&str, &str) {
-    let tail = text.trim_start_matches(|c: char| !is_end_of_text(c));
-    let length = text.len().saturating_sub(tail.len());
-    (text.get(..length).unwrap_or(""), tail)
-}
-
-// Whether the text looks like a number that JSON or other languages have, and a path has not: `.5`, `1e2`.
+// Whether the text is a number that JSON or other languages have, and a path has not: `.5`, `5.`, `1e2`.
 fn is_number_of_json(text: &str) -> bool {
-    text.starts_with(|c: char| c.is_ascii_digit() || c == '.')
-        && text.chars().all(|c| c.is_ascii_digit() || matches!(c, '.' | 'e' | 'E' | '+'))
+    let has_exponent = text.contains("e") || text.contains("E");
+    let is_open = text.starts_with('.') || text.ends_with('.');
+    (has_exponent || is_open)
+        && text.find(".") == text.rfind(".")
+        && text.contains(|c: char| c.is_ascii_digit())
+        && text.starts_with(|c: char| c.is_ascii_digit() || c == '.')
+        && text.chars().all(|c| c.is_ascii_digit() || matches!(c, '.' | 'e' | 'E' | '+' | '-'))
 }
 
 // Whether a word ends before blanks at the end of `before`, and another begins `rest`.
@@ -401,8 +423,8 @@ fn hint_for_unsupported_syntax(path: &str, before: &str, rest: &str) -> Option<&
     if rest.starts_with('\'') || rest.starts_with('"') {
         return sentence_at_quote(before, rest);
     }
-    if ends_with_comparison(before) {
-        return sentence_behind_comparison(rest);
+    if let Some(compared) = compared_text(path, before) {
+        return sentence_for_compared(compared.text, rest);
     }
     if is_name_with_blank(before, rest) {
         return Some(NO_BRACKETS);
@@ -414,9 +436,8 @@ fn hint_for_unsupported_syntax(path: &str, before: &str, rest: &str) -> Option<&
 }
 
 // The sentence where what is compared with is refused: it is a number or a text that a path writes otherwise.
-fn sentence_behind_comparison(rest: &str) -> Option<&'static str> {
-    let (compared, _) = split_compared_text(rest);
-    if is_number_of_json(compared) {
+fn sentence_for_compared(text: &str, rest: &str) -> Option<&'static str> {
+    if is_number_of_json(text) {
         return Some(NO_NUMBER);
     }
     if rest.starts_with(|c: char| is_of_name(c)) {

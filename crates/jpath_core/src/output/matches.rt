@@ -59,7 +59,7 @@ pub fn count_matches(
 }
 
 // How many values one path selects in a document.
-fn count_matches_of_path(
+pub(crate) fn count_matches_of_path(
     alloc: Global,
     document: &Document<'_>,
     query: &Query<'_>,
