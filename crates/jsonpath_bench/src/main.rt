@@ -1,10 +1,8 @@
 //! Measures the library: `jsonpath_bench PATH FILE COUNT [select|spots|count|first|exists|delete|remove|compile]`
-//! prints the nanoseconds per call and the number of results. Without words it prints answers alone.
+//! prints the nanoseconds per call and the number of results.
 #![tactic(auto)]
 
 mod action;
-mod books;
-mod samples;
 
 use action::{Action, measure};
 use anyhow::{Context, Result};
@@ -24,10 +22,6 @@ fn main(rt: HostRuntime) -> Result<ExitCode> {
         .map(|word| word.as_str())
         .collect::<Vec<&str>>(alloc)?;
     let is_done = match *words.as_slice() {
-        [] => {
-            samples::print_all(&rt)?;
-            true
-        }
         [path, file, count] => bench(&rt, path, file, count, "select")?,
         [path, file, count, action] => bench(&rt, path, file, count, action)?,
         _ => false,
