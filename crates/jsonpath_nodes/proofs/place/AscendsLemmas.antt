@@ -4,7 +4,7 @@ use Rattle.std.specs.Cmp.{nat_cmp_is}
 use Rattle.std.specs.List.{AllByRecursion}
 use Rattle.std.specs.List.Sorted.{IsStrictlySortedBy}
 use Rattle.std.specs.Ordering.{ordering_then}
-use Rattle.std.proofs.lemmas.Cmp.{nat_cmp_total, nat_list_cmp_total, tied_itself}
+use Rattle.std.proofs.lemmas.Cmp.{nat_list_cmp_total, tied_itself}
 use Rattle.jsonpath_nodes.specs.document.Document.{Document, array, object, Items, no_items, item, Members, no_members, member}
 use Rattle.jsonpath_nodes.specs.place.Location.{Step, name, index, Location, names, below, below_items, below_members, flat, flat_items, step_cmp, location_cmp}
 use Rattle.jsonpath_nodes.specs.place.Order.{IsOrderedDocument, AreOrderedDocuments, HoldOrderedDocuments}
@@ -23,8 +23,7 @@ pub all_begin : (P : Step → Type 0) (s : Step) (ls : List Location) → P s �
 all_begin P s ls h = all_map (Begins P) (λ (l : Location). s ∷ l) ls (all_of (λ l. P s) ls (λ l. h))
 
 pub step-tied : (s : Step) → step_cmp s s ≡ Equal
-step-tied (name k) = tied_itself nat_list_cmp_total k
-step-tied (index i) = tied_itself nat_cmp_total i
+step-tied s = grind (arith, nat_list_cmp_total, tied_itself)
 
 -- ---- below one child, and then below the later ones
 
@@ -100,8 +99,7 @@ common [] a b = refl
 common (s ∷ l) a b = ap (λ (o : Ordering). ordering_then o (location_cmp (l ++ a) (l ++ b))) (step-tied s) ∙ common l a b
 
 all_common : (l a : Location) (ls : List Location) → AllByRecursion (λ b. location_cmp a b ≡ Less) ls → AllByRecursion (λ b. location_cmp (l ++ a) b ≡ Less) (map (λ (m : Location). l ++ m) ls)
-all_common l a ls h =
-    all_map (λ b. location_cmp (l ++ a) b ≡ Less) (λ (m : Location). l ++ m) ls (all_then (λ b. location_cmp a b ≡ Less) (λ b. location_cmp (l ++ a) (l ++ b) ≡ Less) ls (λ b k. common l a b ∙ k) h)
+all_common l a ls h = grind (arith, all_map, all_then, common)
 
 pub sorted_deeper : (l : Location) (ls : List Location) → IsStrictlySortedBy location_cmp ls → IsStrictlySortedBy location_cmp (map (λ (m : Location). l ++ m) ls)
 unfolding IsStrictlySortedBy

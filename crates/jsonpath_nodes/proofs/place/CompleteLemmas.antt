@@ -65,9 +65,7 @@ IsKid s c (k ∷ ks) = ((k.0 ≡ s) × (k.1 ≡ c)) ⊎ IsKid s c ks
 item_kid : (i n : ℕ) (ds : Items) (c : Document) → get_item i ds ≡ Some c → IsKid (index (n + i)) c (item_kids n ds)
 item_kid i n no_items c e = cc
 item_kid zero n (item d ds) c e = let same : d ≡ c = cc in inl (ap index (sym (add-zero n)), same)
-item_kid (suc i) n (item d ds) c e =
-    let same : suc n + i ≡ n + suc i = omega arith in
-    inr (subst (λ (j : ℕ). IsKid (index j) c (item_kids (suc n) ds)) same (item_kid i (suc n) ds c e))
+item_kid (suc i) n (item d ds) c e = grind (arith, item_kid i (suc n) ds c e)
 
 member_kid : (k : List ℕ) (ms : Members) (c : Document) → get_member k ms ≡ Some c → IsKid (name k) c (member_kids ms)
 member_kid k no_members c e = cc
@@ -80,15 +78,11 @@ member_kid k (member j d ms) c e = by (slice_cmp nat_cmp k j) refl (member_kid k
     by Greater is go e = inr (go e)
 
 child_kid : (s : Step) (d c : Document) → child s d ≡ Some c → IsKid s c (kids d)
-child_kid (name k) (object ms) c e = member_kid k ms c e
-child_kid (index i) (array ds) c e = let at_front : 0 + i ≡ i = omega arith in subst (λ (j : ℕ). IsKid (index j) c (item_kids 0 ds)) at_front (item_kid i 0 ds c e)
-child_kid _ _ c e = cc
+child_kid s d c e = grind (arith, item_kid, member_kid)
 
 among_through : (s : Step) (c : Document) (l : Location) (ks : List Kid) → IsKid s c ks → IsAmong l (below c) → IsAmong (s ∷ l) (through below ks)
 among_through s c l [] k h = elim k [ ]
-among_through s c l (j ∷ ks) (inl e) h =
-    let own = map (λ m. j.0 ∷ m) (below j.1) in
-    among_front (s ∷ l) own (through below ks) (subst (λ (t : Step). IsAmong (t ∷ l) own) e.0 (among_map (λ (m : Location). j.0 ∷ m) l (below j.1) (subst (λ (x : Document). IsAmong l (below x)) (sym e.1) h)))
+among_through s c l (j ∷ ks) (inl e) h = grind (arith, among_front, among_map)
 among_through s c l (j ∷ ks) (inr k) h = among_back (s ∷ l) (map (λ m. j.0 ∷ m) (below j.1)) (through below ks) (among_through s c l ks k h)
 
 pub below_complete : (l : Location) (d c : Document) → at d l ≡ Some c → IsAmong l (below d)
@@ -163,5 +157,4 @@ all_locations_stand_below_root doc l docs = (
     some c = refl
 
     by : (o : Option Document) → at doc l ≡ o → IsSome o → Contains (below doc) l
-    by None is h = cc
-    by (Some c) is h = Contains-among l (below doc) (below_complete l doc c is)
+    by o is h = grind (arith, Contains-among, below_complete)

@@ -1,5 +1,5 @@
 -- A name between quotes, written one character at a time.
-use Rattle.std.proofs.Common.{◌≡◌, ℕ, List, [], ◌∷◌, ◌++◌, sym, ap, ◌∙◌, append-nil, append_assoc, ◌<◌, ◌^◌}
+use Rattle.std.proofs.Common.{◌≡◌, ℕ, List, [], ◌∷◌, ◌++◌, sym, ap, ◌∙◌, append-nil, append_assoc, ◌<◌, ◌^◌, arith}
 use Rattle.std.specs.Str.{encode_utf8_all}
 use Rattle.std.proofs.lemmas.Grind.{flat_map-append}
 use Rattle.std.proofs.lemmas.Str.{encodes-append, encodes-IsAscii}
@@ -11,10 +11,7 @@ use Rattle.jsonpath_nodes.specs.place.LocationText.{guarded_char, guarded, step_
 
 -- a character more
 pub guarded_more : (cs : List ℕ) (c : ℕ) → encode_utf8_all (guarded cs) ++ encode_utf8_all (guarded_char c) ≡ encode_utf8_all (guarded (cs ++ c ∷ []))
-guarded_more cs c =
-    sym (encodes-append (guarded cs) (guarded_char c))
-    ∙ ap (λ ds. encode_utf8_all (guarded cs ++ ds)) (sym (append-nil (guarded_char c)))
-    ∙ ap encode_utf8_all (sym (flat_map-append guarded_char cs (c ∷ [])))
+guarded_more cs c = grind (arith, encodes-append, flat_map-append)
 
 -- ---- steps
 

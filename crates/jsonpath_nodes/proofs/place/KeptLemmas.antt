@@ -1,5 +1,5 @@
 -- What marks see, by what spots see.
-use Rattle.std.proofs.Common.{◌≡◌, ℕ, ◌≤◌, List, [], ◌∷◌, ◌++◌, map, length, drop, Bool, true, false, Option, Some, refl, sym, ap, ap₂, ◌∙◌, append-nil, drop_of_length-le}
+use Rattle.std.proofs.Common.{◌≡◌, ℕ, ◌≤◌, List, [], ◌∷◌, ◌++◌, map, length, drop, Bool, true, false, Option, Some, refl, sym, ap, ap₂, ◌∙◌, append-nil, drop_of_length-le, arith, rules}
 use Rattle.std.specs.Prelude.{flat_map, option_map, unwrap_or}
 use Rattle.std.proofs.lemmas.List.{map-append}
 use Rattle.std.proofs.lemmas.Simd.{map-map}
@@ -25,8 +25,7 @@ abbrev pub keep : Bool → Sight → Sight
 keep b s = (kept_location b s.0, s.1)
 
 pub kept-twice : (b : Bool) (l m : Location) → kept_location b (kept_location b l ++ m) ≡ kept_location b (l ++ m)
-kept-twice true l m = refl
-kept-twice false l m = refl
+kept-twice b l m = grind arith
 
 pub seen : (b : Bool) (l : Location) (d : Document) (ms : List Location) → map (look_kept_from b l d) ms ≡ map (keep b) (map (look_from l d) ms)
 seen b l d ms = sym (map-map (keep b) (look_from l d) ms)
@@ -60,9 +59,7 @@ shown_members b l ms = shown_kids b l (member_kids ms)
 
 seen_kids-sights : (b : Bool) (f : Document → List Location) (l : Location) (ks : List Kid) → seen_kids b f l ks ≡ map (keep b) (kid_sights f l ks)
 seen_kids-sights b f l [] = refl
-seen_kids-sights b f l (k ∷ ks) =
-    ap₂ (λ (x y : List Sight). x ++ y) (seen-kept b (l ++ k.0 ∷ []) k.1 (f k.1)) (seen_kids-sights b f l ks)
-    ∙ sym (map-append (keep b) (map (look_from (l ++ k.0 ∷ []) k.1) (f k.1)) (kid_sights f l ks))
+seen_kids-sights b f l (k ∷ ks) = grind (arith, map-append, seen-kept, seen_kids-sights b f l ks)
 
 shown_kids-sights : (b : Bool) (l : Location) (ks : List Kid) → shown_kids b l ks ≡ map (keep b) (kid_sights itself l ks)
 shown_kids-sights b l [] = refl
@@ -71,19 +68,15 @@ shown_kids-sights b l (k ∷ ks) = ap₂ (λ (m : Location) (xs : List Sight). (
 -- ---- as the contracts say them
 
 pub children_of_items : (b : Bool) (l : Location) (all : Items) → shown_items b l 0 all ≡ map (look_kept_from b l (array all)) (single_steps every (array all))
-children_of_items b l all =
-    shown_kids-sights b l (item_kids 0 all) ∙ ap (map (keep b)) (items_children-sights l all) ∙ sym (seen b l (array all) (single_steps every (array all)))
+children_of_items b l all = grind (arith, items_children-sights, seen, shown_kids-sights)
 
 pub children_of_members : (b : Bool) (l : Location) (ms : Members) → NamesAscend ms → shown_members b l ms ≡ map (look_kept_from b l (object ms)) (single_steps every (object ms))
-children_of_members b l ms h =
-    shown_kids-sights b l (member_kids ms) ∙ ap (map (keep b)) (members_children-sights l ms h) ∙ sym (seen b l (object ms) (single_steps every (object ms)))
+children_of_members b l ms h = grind (arith, members_children-sights, seen, shown_kids-sights)
 
 gathered_of_kids : (b : Bool) (own : Document → List Location) (l : Location) (d : Document) (ks : List Kid)
     → map (look_from l d) (all_gathered own d) ≡ map (look_from l d) (own d) ++ kid_sights (all_gathered own) l ks
     → map (look_kept_from b l d) (all_gathered own d) ≡ map (look_kept_from b l d) (own d) ++ seen_kids b (all_gathered own) l ks
-gathered_of_kids b own l d ks is =
-    seen b l d (all_gathered own d) ∙ ap (map (keep b)) is ∙ map-append (keep b) (map (look_from l d) (own d)) (kid_sights (all_gathered own) l ks)
-    ∙ ap₂ (λ (x y : List Sight). x ++ y) (sym (seen b l d (own d))) (sym (seen_kids-sights b (all_gathered own) l ks))
+gathered_of_kids b own l d ks is = grind (arith, map-append, seen, seen_kids-sights)
 
 pub gathered_of_items : (b : Bool) (own : Document → List Location) (l : Location) (all : Items)
     → map (look_kept_from b l (array all)) (all_gathered own (array all)) ≡ map (look_kept_from b l (array all)) (own (array all)) ++ seen_items b (all_gathered own) l 0 all
@@ -108,17 +101,11 @@ members_end child_sights left all before out after no_more none invariant is =
 -- after the loop, at the place where the way began: own is what f gives through the children
 pub items_gained : (b : Bool) (f : Document → List Location) (there here : Location) (i : ℕ) (left all : Items) (before out : List Sight) (own : List Location) → there ≡ here → left ≡ no_items
     → out ++ seen_items b f there i left ≡ before ++ seen_items b f there 0 all → own ≡ through f (item_kids 0 all) → out ≡ before ++ map (look_kept_from b here (array all)) own
-items_gained b f there here i left all before out own same none invariant is =
-    items_end (seen_items b f there) i left all before out _ (λ n. refl) none invariant
-    (ap (λ (l : Location). seen_items b f l 0 all) same ∙ seen_kids-sights b f here (item_kids 0 all)
-    ∙ ap (map (keep b)) (sym (items-sights f here all) ∙ ap (map (look_from here (array all))) (sym is)) ∙ sym (seen b here (array all) own))
+items_gained b f there here i left all before out own same none invariant is = search (rules, arith, item_kids, items-sights, items_end, seen, seen_kids-sights)
 
 pub members_gained : (b : Bool) (f : Document → List Location) (there here : Location) (left all : Members) (before out : List Sight) (own : List Location) → NamesAscend all → there ≡ here → left ≡ no_members
     → out ++ seen_members b f there left ≡ before ++ seen_members b f there all → own ≡ through f (member_kids all) → out ≡ before ++ map (look_kept_from b here (object all)) own
-members_gained b f there here left all before out own ascend same none invariant is =
-    members_end (seen_members b f there) left all before out _ refl none invariant
-    (ap (λ (l : Location). seen_members b f l all) same ∙ seen_kids-sights b f here (member_kids all)
-    ∙ ap (map (keep b)) (sym (members-sights f here all ascend) ∙ ap (map (look_from here (object all))) (sym is)) ∙ sym (seen b here (object all) own))
+members_gained b f there here left all before out own ascend same none invariant is = search (rules, arith, member_kids, members-sights, members_end, seen, seen_kids-sights)
 
 -- ---- lists of marks in a document
 
@@ -172,8 +159,7 @@ leads f s found h doc ls stand = h ∙ sym (append-nil (map (look_from (location
 -- ---- steps that lead nowhere
 
 pub nothing_seen : (b : Bool) (what : Gathered) (l : Location) (ms : Members) → some_container ms ≡ false → seen_members b (all_gathered (gathered_at what)) l ms ≡ []
-nothing_seen b what l ms none =
-    seen_kids-sights b (all_gathered (gathered_at what)) l (member_kids ms) ∙ ap (map (keep b)) (nothing_in_leaves (gathered_at what) l ms (nothing_at_leaf what) none)
+nothing_seen b what l ms none = grind (arith, nothing_at_leaf, nothing_in_leaves, seen_kids-sights)
 
 pub leaf_step : (b : Bool) (p : Plain) (l : Location) (d : Document) (before : List Sight) → IsLeaf d → before ≡ before ++ map (look_kept_from b l d) (single_steps p d)
 leaf_step b p l d before leaf = nothing_gained b l d before (single_steps p d) (leaf_selects p d leaf)

@@ -1,11 +1,11 @@
 -- The order of steps, over what they stand for.
-use Rattle.std.proofs.Common.{◌≡◌, List, [], ◌∷◌, fold, Ordering, Less, Equal, Greater, refl, ap, ◌∙◌}
+use Rattle.std.proofs.Common.{◌≡◌, List, [], ◌∷◌, fold, Ordering, Less, refl, ap, arith}
 use Rattle.std.specs.BTreeSet.{insert_key}
 use Rattle.std.specs.Cmp.{IsTotalOrder}
 use Rattle.std.specs.List.{AllByRecursion}
 use Rattle.std.specs.List.Sorted.{IsStrictlySortedBy}
 use Rattle.std.specs.Cmp.Lexicographic.{slice_cmp}
-use Rattle.std.specs.Ordering.{on, ordering_then, ordering_reverse, match_ordering}
+use Rattle.std.specs.Ordering.{on, ordering_then, match_ordering}
 use Rattle.jsonpath_nodes.specs.declared.place.location.LocStep.{LocStep}
 use Rattle.jsonpath_nodes.specs.place.Location.{Location, step_cmp, location_cmp}
 use Rattle.jsonpath_nodes.specs.place.Order.{location_total, once_in_order}
@@ -22,9 +22,7 @@ slice_cmp-steps (x ∷ xs) (y ∷ ys) = ap (ordering_then (step_cmp (owned_step 
 module _ {K : Type 0} {R : K → K → Ordering} (o : IsTotalOrder R) where
   all_insert_at : (P : K → Type 0) (r : Ordering) (k x : K) (xs ys : List K) → P k → P x → AllByRecursion P xs → AllByRecursion P ys
       → AllByRecursion P (match_ordering r (k ∷ x ∷ xs) (x ∷ xs) (x ∷ ys))
-  all_insert_at P Less k x xs ys here first rest more = (here, (first, rest))
-  all_insert_at P Equal k x xs ys here first rest more = (first, rest)
-  all_insert_at P Greater k x xs ys here first rest more = (first, more)
+  all_insert_at P r k x xs ys here first rest more = grind arith
 
   pub all_insert : (P : K → Type 0) (k : K) (xs : List K) → P k → AllByRecursion P xs → AllByRecursion P (insert_key R xs k)
   all_insert P k [] here rest = (here, tt)
@@ -37,9 +35,7 @@ module _ {K : Type 0} {R : K → K → Ordering} (o : IsTotalOrder R) where
   insert_sorted_at : (r : Ordering) (k x : K) (xs : List K) → R k x ≡ r → IsStrictlySortedBy R (x ∷ xs) → IsStrictlySortedBy R (insert_key R xs k)
       → IsStrictlySortedBy R (match_ordering r (k ∷ x ∷ xs) (x ∷ xs) (x ∷ insert_key R xs k))
   unfolding IsStrictlySortedBy
-  insert_sorted_at Less k x xs e h later = ((e, above k x xs e h.0), h)
-  insert_sorted_at Equal k x xs e h later = h
-  insert_sorted_at Greater k x xs e h later = (all_insert (λ y. R x y ≡ Less) k xs (o.antisymm x k ∙ ap ordering_reverse e) h.0, later)
+  insert_sorted_at r k x xs e h later = grind (arith, above, all_insert)
 
   insert_sorted : (k : K) (xs : List K) → IsStrictlySortedBy R xs → IsStrictlySortedBy R (insert_key R xs k)
   unfolding IsStrictlySortedBy

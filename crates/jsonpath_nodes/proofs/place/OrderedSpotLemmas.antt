@@ -1,5 +1,5 @@
 -- Spots in document order, and the topmost of them, one spot after the other.
-use Rattle.std.proofs.Common.{◌≡◌, ℕ, zero, suc, ◌+◌, ◌<◌, ◌≤◌, List, [], ◌∷◌, ◌++◌, map, length, take, drop, get_or, Option, Some, None, Bool, true, false, cond, Ordering, Less, Equal, Greater, is_eq, ◌||◌, refl, sym, ap, ap₂, subst, ◌∙◌, append_assoc, append-nil, arith, add-one, drop-cons, drop_of_length-le}
+use Rattle.std.proofs.Common.{◌≡◌, ℕ, zero, suc, ◌+◌, ◌<◌, ◌≤◌, List, [], ◌∷◌, ◌++◌, map, length, take, drop, get_or, Option, Some, None, Bool, true, false, cond, is_eq, ◌||◌, refl, sym, ap, ap₂, ◌∙◌, append_assoc, append-nil, arith, add-one, drop-cons, drop_of_length-le}
 use Rattle.std.proofs.lemmas.List.{map-append, take_more, drop-map}
 use Rattle.std.proofs.lemmas.Simd.{map-map}
 use Rattle.std.proofs.lemmas.List.Sums.{fold-append}
@@ -8,7 +8,7 @@ use Rattle.std.specs.BTreeSet.{insert_key}
 use Rattle.std.specs.Cmp.{on_total}
 use Rattle.std.specs.List.{AllByRecursion, list_any}
 use Rattle.std.specs.List.Sorted.{IsStrictlySortedBy}
-use Rattle.std.specs.Ordering.{on, match_ordering}
+use Rattle.std.specs.Ordering.{on}
 use Rattle.jsonpath_nodes.specs.document.Document.{Document}
 use Rattle.jsonpath_nodes.specs.place.Location.{Location, location_cmp, is_same}
 use Rattle.jsonpath_nodes.specs.place.NumbersWhere.{numbers_where}
@@ -42,17 +42,9 @@ locations-StandAt doc ls spots stand = sym (map-map (λ (x : Sight). x.0) sight_
 
 -- ---- in document order
 
-map_match : (o : Ordering) (xs ys zs : List OrderedSpot) → map ordered_spot_location (match_ordering o xs ys zs) ≡ match_ordering o (map ordered_spot_location xs) (map ordered_spot_location ys) (map ordered_spot_location zs)
-map_match Less xs ys zs = refl
-map_match Equal xs ys zs = refl
-map_match Greater xs ys zs = refl
-
 places_inserted : (ps : List OrderedSpot) (p : OrderedSpot) → map ordered_spot_location (insert_key (on ordered_spot_location location_cmp) ps p) ≡ insert_key location_cmp (map ordered_spot_location ps) (ordered_spot_location p)
 places_inserted [] p = refl
-places_inserted (q ∷ ps) p =
-    let o = location_cmp (ordered_spot_location p) (ordered_spot_location q) in
-    map_match o (p ∷ q ∷ ps) (q ∷ ps) (q ∷ insert_key (on ordered_spot_location location_cmp) ps p)
-    ∙ ap (λ (ls : List Location). match_ordering o (ordered_spot_location p ∷ ordered_spot_location q ∷ map ordered_spot_location ps) (ordered_spot_location q ∷ map ordered_spot_location ps) (ordered_spot_location q ∷ ls)) (places_inserted ps p)
+places_inserted (q ∷ ps) p = grind (arith, places_inserted ps p)
 
 all_shown : (doc : Document) (ps : List OrderedSpot) → AllByRecursion (IsShownIn doc) ps → map ordered_spot_sight ps ≡ map (look doc) (map ordered_spot_location ps)
 all_shown doc [] h = refl
@@ -85,8 +77,7 @@ order_done spots i ps end order = order ∙ ap (λ n. once_in_order (map locatio
 
 pub order_stands : (doc : Document) (ls : List Location) (spots : List Spot) (ps : List OrderedSpot) (found : List Spot) → StandAt doc ls spots
     → map sight_of found ≡ map ordered_spot_sight ps → map ordered_spot_location ps ≡ once_in_order (map location_of spots) → AllByRecursion (IsShownIn doc) ps → StandAt doc (once_in_order ls) found
-order_stands doc ls spots ps found stand are order shown =
-    are ∙ all_shown doc ps shown ∙ ap (map (look doc)) (order ∙ ap once_in_order (locations-StandAt doc ls spots stand))
+order_stands doc ls spots ps found stand are order shown = grind (arith, all_shown, locations-StandAt)
 
 -- ---- numbers of those that stand among others
 
@@ -151,7 +142,4 @@ topmost_next doc ls spots kept kept' i s last last' stand within is goes added h
 
 pub order_kept : (doc : Document) (ls : List Location) (spots found : List Spot) → StandAt doc ls spots → map sight_of found ≡ map sight_of spots
     → IsStrictlySortedBy location_cmp (map location_of spots) → StandAt doc (once_in_order ls) found
-order_kept doc ls spots found stand same ordered =
-    let at = locations-StandAt doc ls spots stand in
-    let once : ls ≡ once_in_order ls = once_sorted ls (subst (IsStrictlySortedBy location_cmp) at ordered) in
-    same ∙ (stand ∙ ap (map (look doc)) once)
+order_kept doc ls spots found stand same ordered = grind (arith, locations-StandAt, once_sorted)

@@ -1,6 +1,6 @@
 -- Ways that go a step down and back.
 use Rattle.std.proofs.Common.{◌≡◌, ℕ, suc, ◌+◌, List, [], ◌∷◌, ◌++◌, map, Bool, true, false, Some, refl, sym, ap, ap₂, ◌∙◌, append_assoc, append-nil, arith}
-use Rattle.jsonpath_nodes.specs.document.Document.{Document, array, object, Items, item, Members, member}
+use Rattle.jsonpath_nodes.specs.document.Document.{Document, Items, item, Members, member}
 use Rattle.jsonpath_nodes.specs.place.Location.{Step, name, index, Location, below}
 use Rattle.jsonpath_nodes.specs.plan.Containers.{descendants}
 use Rattle.jsonpath_nodes.specs.place.Mark.{kept_location, look_kept_from}
@@ -12,8 +12,7 @@ pub stays_on : (b : Bool) (s0 s1 s2 : Location) (t0 t1 t2 : List Step) → Stays
 stays_on b s0 s1 s2 t0 t1 t2 h k = (k.0 ∙ h.0, k.1 ∙ h.1)
 
 same_stand : (b : Bool) (s : Location) (t0 t1 : List Step) → AreSame b t1 t0 → way_stand b s t1 ≡ way_stand b s t0
-same_stand true s t0 t1 h = ap (λ (t : List Step). s ++ t) h
-same_stand false s t0 t1 h = refl
+same_stand b s t0 t1 h = grind arith
 
 pub stays-stand : (b : Bool) (s0 s1 : Location) (t0 t1 : List Step) → Stays b s0 t0 s1 t1 → way_stand b s1 t1 ≡ way_stand b s0 t0
 stays-stand b s0 s1 t0 t1 h = ap (λ (s : Location). way_stand b s t1) h.0 ∙ same_stand b s0 t0 t1 h.1
@@ -47,9 +46,7 @@ member_next b f l j k d ds left xs ys all first here gained kept =
 -- ---- a node, and then all below it
 
 below-descendants : (d : Document) → below d ≡ [] ∷ descendants d
-below-descendants (array ds) = refl
-below-descendants (object ms) = refl
-below-descendants _ = refl
+below-descendants d = grind arith
 
 pub node_then_descendants : (b : Bool) (k m : Location) (d : Document) (xs ys zs : List Sight) → ys ≡ xs ++ (kept_location b m, Some d) ∷ [] → k ≡ kept_location b m
     → zs ≡ ys ++ map (look_kept_from b k d) (descendants d) → zs ≡ xs ++ map (look_kept_from b k d) (below d)

@@ -1,5 +1,5 @@
 -- Where the base locations ascend with none below another, no candidate is found twice.
-use Rattle.std.proofs.Common.{◌≡◌, List, [], ◌∷◌, map, Option, Some, None, Bool, true, false, not, ◌||◌, Ordering, Less, Equal, Greater, is_eq, refl, sym, ap, ◌∙◌, subst}
+use Rattle.std.proofs.Common.{◌≡◌, List, [], ◌∷◌, map, Option, Some, None, true, false, Ordering, Less, Equal, Greater, refl, sym, ap, ◌∙◌, subst, arith}
 use Rattle.std.specs.List.{AllByRecursion, IsDistinct}
 use Rattle.std.specs.Ordering.{match_ordering}
 use Rattle.jsonpath_nodes.specs.place.Location.{Step, Location, step_cmp, flat}
@@ -8,15 +8,13 @@ use Rattle.jsonpath_nodes.specs.step.Separate.{in_one_branch, IsDisjoint}
 use Rattle.jsonpath_nodes.specs.step.Steps.{from_each, flattened}
 use Rattle.jsonpath_nodes.specs.place.SpotPlace.{look, location_of, LeadsBy}
 use Rattle.jsonpath_nodes.specs.plan.Ascending.{first_difference_ascends, AscendFrom, Ascend}
-use Rattle.jsonpath_nodes.specs.update.Apart.{apart}
-use Rattle.jsonpath_nodes.specs.update.Topmost.{same_step}
 use Rattle.jsonpath_nodes.specs.declared.place.spot.Spot.{Spot}
 use Rattle.jsonpath_nodes.proofs.step.DisjointLemmas.{disjoint_stands_apart}
 use Rattle.jsonpath_nodes.proofs.place.OrderedSpotLemmas.{locations-StandAt}
 use Rattle.jsonpath_nodes.proofs.step.OnceLemmas.{step_same}
 use Rattle.jsonpath_nodes.proofs.step.DistinctLemmas.{all_then}
 use Rattle.jsonpath_nodes.proofs.step.SeparateLemmas.{apart_has_no_repeat_flat}
-use Rattle.jsonpath_nodes.proofs.update.SetLemmas.{step_eq, same_back}
+use Rattle.jsonpath_nodes.proofs.update.SetLemmas.{same_back}
 
 -- ---- coming apart is transitive
 
@@ -45,13 +43,7 @@ all_apart l (m ∷ ls) h = (h.0, all_then (λ n. first_difference_ascends m n �
 differ : (l m : Location) → first_difference_ascends l m ≡ true → in_one_branch l m ≡ false
 differ [] m h = cc
 differ (s ∷ l) [] h = cc
-differ (s ∷ l) (t ∷ m) h = by (step_cmp s t) (same_back t s ∙ step_eq s t) (differ l m) h
-  where
-    by : (o : Ordering) → same_step t s ≡ is_eq o → (first_difference_ascends l m ≡ true → in_one_branch l m ≡ false) → match_ordering o true (first_difference_ascends l m) false ≡ true
-        → not (not (same_step t s) || apart l m) ≡ false
-    by Less is go h = ap (λ (b : Bool). not (not b || apart l m)) is
-    by Equal is go h = ap (λ (b : Bool). not (not b || apart l m)) is ∙ go h
-    by Greater is go h = cc
+differ (s ∷ l) (t ∷ m) h = grind (arith, same_back, differ l m)
 
 ascend_disjoint : (ls : List Location) → Ascend ls → IsDisjoint ls
 unfolding IsDistinct

@@ -1,9 +1,8 @@
 -- The indexes of a range, found one after the other without a look at those between.
-use Rattle.std.proofs.Common.{◌≡◌, ℕ, zero, suc, ◌+◌, ◌-◌, ◌%◌, ◌<◌, ◌≤◌, List, [], ◌∷◌, ◌++◌, map, min, Option, ◌⊎◌, inl, inr, append_assoc, append-nil, Bool, true, false, cond, ◌&&◌, refl, sym, ap, ◌∙◌, arith, add-zero}
+use Rattle.std.proofs.Common.{◌≡◌, ℕ, zero, suc, ◌+◌, ◌-◌, ◌%◌, ◌<◌, ◌≤◌, List, [], ◌∷◌, ◌++◌, map, min, Option, ◌⊎◌, append_assoc, append-nil, Bool, true, false, cond, ◌&&◌, refl, sym, ap, ◌∙◌, arith, add-zero}
 use Rattle.std.specs.Prelude.{filter, nat_lt, nat_le, ℤ, option_map, unwrap_or}
-use Rattle.std.proofs.lemmas.Bool.{ltb-true, ltb-false, le-ltb, lt-leb, ne_eqb, le-leb, lt-ltb}
+use Rattle.std.proofs.lemmas.Bool.{le-ltb, lt-leb, ne_eqb, le-leb, lt-ltb}
 use Rattle.std.proofs.Math.Bool.{and-false}
-use Rattle.std.proofs.Math.Nat.{add-mod_right, mod-add-mod, mod-eq_of_lt}
 use Rattle.jsonpath_nodes.specs.document.Document.{Document}
 use Rattle.jsonpath_nodes.specs.place.Location.{Step, index, Location}
 use Rattle.jsonpath_nodes.specs.step.Steps.{abs_index, count_up, is_in_range, length_of, present, range, single_steps}
@@ -15,24 +14,14 @@ use Rattle.jsonpath_nodes.proofs.place.SightLemmas.{Sight}
 count_up-none : (n k : ℕ) → k ≡ 0 → count_up n k ≡ []
 count_up-none n k none = rw none refl
 
-ahead : (test : ℕ → Bool) (n len : ℕ) → n < len → test n ≡ false → filter test (count_up n (len - n)) ≡ filter test (count_up (n + 1) (len - (n + 1)))
-ahead test n len within fails =
-    ap (filter test) (count_up-next n len within) ∙ ap (λ b. cond b (n ∷ filter test (count_up (n + 1) (len - (n + 1)))) (filter test (count_up (n + 1) (len - (n + 1))))) fails
-
 -- the tests of one number, from the rest
 passed_by : (test : ℕ → Bool) (len k n : ℕ) (b : Bool) → nat_lt n len ≡ b → test n ≡ false
     → filter test (count_up (n + 1) (len - (n + 1))) ≡ filter test (count_up (n + 1 + k) (len - (n + 1 + k))) → filter test (count_up n (len - n)) ≡ filter test (count_up (n + suc k) (len - (n + suc k)))
-passed_by test len k n true within fails later =
-    let same : n + 1 + k ≡ n + suc k = omega arith in
-    ahead test n len (ltb-true n len within) fails ∙ later ∙ ap (λ (m : ℕ). filter test (count_up m (len - m))) same
-passed_by test len k n false over fails later =
-    let past : len ≤ n = ltb-false n len over in
-    ap (filter test) (count_up-none n (len - n) (omega arith)) ∙ sym (ap (filter test) (count_up-none (n + suc k) (len - (n + suc k)) (omega arith)))
+passed_by test len k n b within fails later = grind arith
 
 pub passed_over : (test : ℕ → Bool) (len k n : ℕ) → ((j : ℕ) → n ≤ j → j < n + k → test j ≡ false) → filter test (count_up n (len - n)) ≡ filter test (count_up (n + k) (len - (n + k)))
 passed_over test len zero n fails = ap (λ (m : ℕ). filter test (count_up m (len - m))) (sym (add-zero n))
-passed_over test len (suc k) n fails =
-    passed_by test len k n (nat_lt n len) refl (fails n (omega arith) (omega arith)) (passed_over test len k (n + 1) (λ j low high. fails j (omega arith) (omega arith)))
+passed_over test len (suc k) n fails = grind (arith, passed_by, passed_over test len k (n + 1) (λ j low high. fails j (omega arith) (omega arith)))
 
 from_zero : (test : ℕ → Bool) (len : ℕ) → filter test (count_up 0 len) ≡ filter test (count_up 0 (len - 0))
 from_zero test len = let same : len ≡ len - 0 = omega arith in ap (λ (m : ℕ). filter test (count_up 0 m)) same
@@ -71,12 +60,7 @@ none_past_end from to step i len past =
     passed_over (is_in_range from to step) len len i (λ j low high. past_to from to step j (omega arith)) ∙ ap (filter (is_in_range from to step)) (count_up-none (i + len) (len - (i + len)) (omega arith))
 
 off_step : (from step i j : ℕ) → from ≤ i → (i - from) % step ≡ 0 → i < j → j < i + step → (j - from) % step ≡ 0 → ⊥
-off_step from step i j low on above below zero_at =
-    let split : j - from ≡ (i - from) + (j - i) = omega arith in
-    let front : 0 + (j - i) ≡ j - i = omega arith in
-    let left : (j - from) % step ≡ j - i =
-    ap (λ (x : ℕ). x % step) split ∙ sym (mod-add-mod (i - from) step (j - i)) ∙ ap (λ (x : ℕ). (x + (j - i)) % step) on ∙ ap (λ (x : ℕ). x % step) front ∙ mod-eq_of_lt {n = j - i} {m = step} (omega arith) in
-    absurd (omega arith)
+off_step from step i j low on above below zero_at = grind arith
 
 -- an index of the range is followed by those from one step further on
 pub next_in_range : (from to step i len : ℕ) → from ≤ i → i < to → to ≤ len → 0 < step → (i - from) % step ≡ 0
@@ -97,8 +81,7 @@ in_range_from from to step len i = filter (is_in_range from to step) (count_up i
 
 -- past the end it does not matter where the search goes on
 pub same_from : (from to step len i j : ℕ) → (j ≡ i) ⊎ ((to ≤ j) × (to ≤ i)) → in_range_from from to step len j ≡ in_range_from from to step len i
-same_from from to step len i j (inl same) = ap (in_range_from from to step len) same
-same_from from to step len i j (inr past) = none_past_end from to step j len past.0 ∙ sym (none_past_end from to step i len past.1)
+same_from from to step len i j h = grind (arith, none_past_end)
 
 -- what a look shows at these indexes
 abbrev pub shown : (Location → Sight) → List ℕ → List Sight
@@ -128,9 +111,7 @@ pub between_none : (look : Location → Sight) (from to len : ℕ) (xs : List Si
 between_none look from to len xs = sym (append-nil xs) ∙ ap (λ (is : List ℕ). xs ++ shown look is) (sym (none_with_step_zero from to len))
 
 pub still_on : (from step i : ℕ) → from ≤ i → (i - from) % step ≡ 0 → ((i + step) - from) % step ≡ 0
-still_on from step i low on =
-    let split : (i + step) - from ≡ (i - from) + step = omega arith in
-    ap (λ (x : ℕ). x % step) split ∙ add-mod_right (i - from) step ∙ on
+still_on from step i low on = grind arith
 
 pub range_here : (d : Document) (from to : Option ℤ) (step : Option ℕ) (len first end by : ℕ) → len ≡ length_of d
     → first ≡ unwrap_or (option_map (λ m. abs_index m len) from) 0 → end ≡ unwrap_or (option_map (λ m. abs_index m len) to) len → by ≡ unwrap_or step 1
@@ -141,13 +122,8 @@ range_here d from to step len first end by whole begins ends each = rw (begins, 
 
 -- where the next index does not fit, both it and the sum are past the end
 pub stops : (j sum most end : ℕ) → j ≡ min sum most → end ≤ most → (j ≡ sum) ⊎ ((end ≤ j) × (end ≤ sum))
-stops j sum most end is fits = by (nat_lt most sum) refl
-  where
-    by : (b : Bool) → nat_lt most sum ≡ b → (j ≡ sum) ⊎ ((end ≤ j) × (end ≤ sum))
-    by true over = let past : most < sum = ltb-true most sum over in inr (omega arith, omega arith)
-    by false within = let low : sum ≤ most = ltb-false most sum within in inl (omega arith)
+stops j sum most end is fits = grind arith
 
 -- so an index below the end is the sum
 pub goes_on : (j sum end : ℕ) → (j ≡ sum) ⊎ ((end ≤ j) × (end ≤ sum)) → j < end → j ≡ sum
-goes_on j sum end (inl same) below = same
-goes_on j sum end (inr past) below = absurd (omega (arith, past.0))
+goes_on j sum end h below = grind arith

@@ -1,11 +1,10 @@
 -- The children of a value with the steps to them, and lists that go through them.
-use Rattle.std.proofs.Common.{◌≡◌, ℕ, zero, suc, ◌+◌, ◌<◌, ◌≤◌, List, [], ◌∷◌, ◌++◌, map, Some, None, Option, false, Ordering, Less, Equal, Greater, nat_cmp, is_eq, refl, sym, ap, ◌∙◌, arith, add-suc, suc-add, add-zero, subst}
+use Rattle.std.proofs.Common.{◌≡◌, ℕ, zero, suc, ◌+◌, ◌<◌, ◌≤◌, List, [], ◌∷◌, ◌++◌, map, Some, Option, false, Less, is_eq, refl, sym, ap, ◌∙◌, arith, add-suc, suc-add, add-zero, subst}
 use Rattle.std.specs.Prelude.{option_and_then}
 use Rattle.std.specs.Cmp.{nat_cmp_is}
-use Rattle.std.specs.Cmp.Lexicographic.{slice_cmp}
 use Rattle.std.specs.List.{AllByRecursion}
 use Rattle.std.specs.List.Sorted.{IsStrictlySortedBy}
-use Rattle.std.specs.Ordering.{match_ordering, ordering_reverse}
+use Rattle.std.specs.Ordering.{match_ordering}
 use Rattle.std.proofs.lemmas.Cmp.{nat_list_cmp_total, tied_itself}
 use Rattle.jsonpath_nodes.specs.document.Document.{Document, array, object, Items, no_items, item, Members, no_members, member}
 use Rattle.jsonpath_nodes.specs.document.Find.{get_item, get_member}
@@ -91,14 +90,9 @@ items_distinct n (item d ds) = (later_items (λ t. same_step (index n) t.0 ≡ f
 
 -- ---- members
 
-found_later : (k j : List ℕ) (d : Document) (ms : Members) → slice_cmp nat_cmp k j ≡ Greater → get_member k (member j d ms) ≡ get_member k ms
-found_later k j d ms is = ap (λ r. match_ordering r (get_member k ms) (Some d) (get_member k ms)) is
-
 at_later : (j : List ℕ) (d : Document) (all ms : Members) → AllByRecursion (λ t. step_cmp (name j) t ≡ Less) (names ms) → AreAt (object all) (member_kids ms) → AreAt (object (member j d all)) (member_kids ms)
 at_later j d all no_members above h = tt
-at_later j d all (member k c ms) above h =
-    let other : slice_cmp nat_cmp k j ≡ Greater = nat_list_cmp_total.antisymm k j ∙ ap ordering_reverse above.0 in
-    (found_later k j d all other ∙ h.0, at_later j d all ms above.1 h.1)
+at_later j d all (member k c ms) above h = grind (arith, nat_list_cmp_total, at_later j d all ms above.1 h.1)
 
 pub members_at : (ms : Members) → IsStrictlySortedBy step_cmp (names ms) → AreAt (object ms) (member_kids ms)
 unfolding IsStrictlySortedBy
@@ -125,22 +119,14 @@ document_item (suc i) (item d ds) c h e = document_item i ds c h.1 e
 
 document_member : (k : List ℕ) (ms : Members) (c : Document) → HoldOrderedDocuments ms → get_member k ms ≡ Some c → IsOrderedDocument c
 document_member k no_members c h e = cc
-document_member k (member j d ms) c h e = by (slice_cmp nat_cmp k j) (document_member k ms c h.1) e
-  where
-    by : (o : Ordering) → (get_member k ms ≡ Some c → IsOrderedDocument c) → match_ordering o (get_member k ms) (Some d) (get_member k ms) ≡ Some c → IsOrderedDocument c
-    by Less go e = go e
-    by Equal go e = let same : d ≡ c = cc in subst IsOrderedDocument same h.0
-    by Greater go e = go e
+document_member k (member j d ms) c h e = grind (arith, document_member k ms c h.1)
 
 pub document_child : (s : Step) (d c : Document) → IsOrderedDocument d → child s d ≡ Some c → IsOrderedDocument c
-document_child (name k) (object ms) c h e = document_member k ms c h.1 e
-document_child (index i) (array ds) c h e = document_item i ds c h e
-document_child _ _ c h e = cc
+document_child s d c h e = grind (arith, document_item, document_member)
 
 pub document_at : (l : Location) (d c : Document) → IsOrderedDocument d → at d l ≡ Some c → IsOrderedDocument c
 document_at [] d c h e = let same : d ≡ c = cc in subst IsOrderedDocument same h
 document_at (s ∷ l) d c h e = by (child s d) refl (λ x docs. document_at l x c docs) e
   where
     by : (o : Option Document) → child s d ≡ o → ((x : Document) → IsOrderedDocument x → at x l ≡ Some c → IsOrderedDocument c) → option_and_then (λ x. at x l) o ≡ Some c → IsOrderedDocument c
-    by None is go e = cc
-    by (Some x) is go e = go x (document_child s d x h is) e
+    by o is go e = grind (arith, document_child)

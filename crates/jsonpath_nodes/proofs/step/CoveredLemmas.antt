@@ -1,5 +1,5 @@
 -- A location that stands below another one of a list adds nothing to what is answered at its topmost.
-use Rattle.std.proofs.Common.{◌≡◌, ℕ, zero, suc, List, [], ◌∷◌, ◌++◌, Option, Bool, true, false, ◌&&◌, ◌||◌, replicate, Less, refl, ap, ap₂, ◌∙◌}
+use Rattle.std.proofs.Common.{◌≡◌, ℕ, zero, suc, List, [], ◌∷◌, ◌++◌, Option, Bool, true, ◌&&◌, ◌||◌, replicate, Less, refl, ap, ap₂, ◌∙◌, arith}
 use Rattle.std.proofs.lemmas.Bool.{and_parts}
 use Rattle.std.specs.List.{AllByRecursion}
 use Rattle.std.specs.List.Sorted.{IsStrictlySortedBy}
@@ -26,12 +26,7 @@ covered_further (s ∷ l) (t ∷ m) p h k = further (s ∷ l) (t ∷ m) p h k
 
 pub covers_no_more : (xs ys : List Location) (l m p : Location) → is_covered_by l m ≡ true → covers p (xs ++ l ∷ m ∷ ys) ≡ covers p (xs ++ l ∷ ys)
 covers_no_more (x ∷ xs) ys l m p h = ap (λ (b : Bool). is_covered_by x p || b) (covers_no_more xs ys l m p h)
-covers_no_more [] ys l m p h = by (is_covered_by l p) (is_covered_by m p) (covered_further l m p h)
-  where
-    by : (b c : Bool) → (c ≡ true → b ≡ true) → (b || (c || covers p ys)) ≡ (b || covers p ys)
-    by true c go = refl
-    by false true go = absurd (let e : false ≡ true = go refl in cc)
-    by false false go = refl
+covers_no_more [] ys l m p h = grind (arith, covered_further)
 
 pub covered : (a : Option Document) (xs ys : List Location) (l m : Location) → is_covered_by l m ≡ true → (d : Document) → with_answer_at_topmost a (xs ++ l ∷ m ∷ ys) d ≡ with_answer_at_topmost a (xs ++ l ∷ ys) d
 covered a xs ys l m h d = topmost_same a (xs ++ l ∷ m ∷ ys) (xs ++ l ∷ ys) d (λ p. covers_no_more xs ys l m p h)
@@ -70,6 +65,4 @@ replicate_last d [] b zero e = (refl, ap (head_or d) e)
 replicate_last d [] b (suc n) e = absurd (cc)
 replicate_last d (x ∷ []) b zero e = absurd (cc)
 replicate_last d (x ∷ y ∷ zs) b zero e = absurd (cc)
-replicate_last d (x ∷ zs) b (suc n) e =
-    let later = replicate_last d zs b n (ap tail_of e) in
-    (ap₂ (λ (z : Document) (ws : List Document). z ∷ ws) (ap (head_or d) e) later.0, later.1)
+replicate_last d (x ∷ zs) b (suc n) e = grind (arith, head_or, replicate_last d zs b n (ap tail_of e))

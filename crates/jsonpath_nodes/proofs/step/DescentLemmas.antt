@@ -1,5 +1,5 @@
 -- The candidates after `..*` in one descent, child by child and from a mark.
-use Rattle.std.proofs.Common.{◌≡◌, ℕ, suc, List, [], ◌∷◌, ◌++◌, map, Bool, Some, None, refl, sym, ap, ap₂, ◌∙◌, append-nil, subst}
+use Rattle.std.proofs.Common.{◌≡◌, ℕ, suc, List, [], ◌∷◌, ◌++◌, map, Bool, Some, None, refl, sym, ap, ap₂, ◌∙◌, append-nil, subst, arith}
 use Rattle.std.proofs.lemmas.List.{map-append}
 use Rattle.jsonpath_nodes.specs.document.Document.{Document, array, object, Items, no_items, item, Members, no_members, member}
 use Rattle.jsonpath_nodes.specs.document.Find.{as_array}
@@ -36,8 +36,7 @@ mutual
 -- ---- what is no array
 
 flat_single : (d : Document) → as_array d ≡ None → flat d ≡ [] ∷ []
-flat_single (array ds) h = cc
-flat_single _ h = refl
+flat_single d h = grind arith
 
 pub flat_itself : {M : Type 0} (b : Bool) (stand : M → Location) (content : M → Document) (m copy : M) (before after : List M) → as_array (content m) ≡ None → after ≡ before ++ copy ∷ []
     → shown stand content copy ≡ (kept_location b (stand m), Some (content m)) → MarksGain b stand content flat (stand m) (content m) before after

@@ -1,5 +1,5 @@
 -- What of the path of a descent is shared, as it goes down and up.
-use Rattle.std.proofs.Common.{◌≡◌, ℕ, zero, suc, ◌+◌, ◌-◌, ◌<◌, ◌≤◌, List, [], ◌∷◌, ◌++◌, map, length, take, get_or, set, refl, sym, ap, ◌∙◌, subst, append_assoc, append-nil, arith}
+use Rattle.std.proofs.Common.{◌≡◌, ℕ, zero, suc, ◌+◌, ◌-◌, ◌<◌, ◌≤◌, List, [], ◌∷◌, ◌++◌, map, length, take, get_or, set, refl, sym, ap, ◌∙◌, append_assoc, append-nil, arith}
 use Rattle.std.proofs.lemmas.List.{map-append, take_more}
 use Rattle.jsonpath_nodes.specs.place.Location.{Location}
 use Rattle.jsonpath_nodes.specs.place.SpotPlace.{held_path_location}
@@ -14,9 +14,7 @@ Shared = List HeldPathToContainer
 pub along_longer : (l : Location) (steps more : List Down) (ts : Shared) → LeadAlong l steps ts → LeadAlong l (steps ++ more) ts
 along_longer l steps more [] h = tt
 along_longer l [] [] (t ∷ ts) h = h
-along_longer l [] (s ∷ more) (t ∷ ts) h =
-    let P : Shared → Type 0 = LeadAlong (l ++ own_step s ∷ []) more in
-    (h.0, subst P (sym h.1) tt)
+along_longer l [] (s ∷ more) (t ∷ ts) h = grind arith
 along_longer l (s ∷ steps) more (t ∷ ts) h = (h.0, along_longer (l ++ own_step s ∷ []) steps more ts h.1)
 
 pub along_shorter : (l : Location) (n : ℕ) (steps : List Down) (ts : Shared) → LeadAlong l steps ts → LeadAlong l (take n steps) (take (suc n) ts)
@@ -28,10 +26,7 @@ along_shorter l (suc n) (s ∷ steps) (t ∷ ts) h = (h.0, along_shorter (l ++ o
 
 -- without the last step
 pub along_left : (l : Location) (steps : List Down) (ts : Shared) → LeadAlong l steps ts → LeadAlong l (take (length steps - 1) steps) (take (length steps) ts)
-along_left l [] ts h = tt
-along_left l (s ∷ steps) ts h =
-    let fewer : suc (length steps) - 1 ≡ length steps = omega arith in
-    rw fewer (along_shorter l (length steps) (s ∷ steps) ts h)
+along_left l steps ts h = grind (arith, along_shorter)
 
 -- ---- where each leads, and one more
 
@@ -49,8 +44,7 @@ pub along_more : (l : Location) (steps : List Down) (ts : Shared) (t : HeldPathT
 along_more l [] [] t h within is = (is ∙ append-nil l, refl)
 along_more l (s ∷ steps) [] t h within is = (is ∙ append-nil l, tt)
 along_more l [] (u ∷ ts) t h within is = absurd (omega arith)
-along_more l (s ∷ steps) (u ∷ ts) t h within is =
-    (h.0, along_more (l ++ own_step s ∷ []) steps ts t h.1 (omega arith) (is ∙ sym (append_assoc l (own_step s ∷ []) (map own_step (take (length ts) steps)))))
+along_more l (s ∷ steps) (u ∷ ts) t h within is = grind (arith, along_more (l ++ own_step s ∷ []) steps ts t h.1 (omega arith) (is ∙ sym (append_assoc l (own_step s ∷ []) (map own_step (take (length ts) steps)))))
 
 pub one_further : (l : Location) (steps : List Down) (k : ℕ) (d : Down) → k < length steps
     → location_after l (take k steps) ++ own_step (get_or steps k d) ∷ [] ≡ location_after l (take (k + 1) steps)

@@ -26,29 +26,22 @@ further true x h = h
 further false x h = refl
 
 further_on : (b x y : Bool) → (not x ≡ false → y ≡ false) → not (not b || x) ≡ false → (b && y) ≡ false
-further_on true x y go h = go h
-further_on false x y go h = refl
+further_on b x y go h = grind arith
 
 part_below : (l m a b : Location) → in_one_branch l m ≡ false → same_location (l ++ a) (m ++ b) ≡ false
 part_below [] m a b h = cc
 part_below (s ∷ l) [] a b h = cc
-part_below (s ∷ l) (t ∷ m) a b h =
-    ap (λ (x : Bool). x && same_location (l ++ a) (m ++ b)) (same_back s t) ∙ further_on (same_step t s) (apart l m) (same_location (l ++ a) (m ++ b)) (part_below l m a b) h
+part_below (s ∷ l) (t ∷ m) a b h = grind (arith, further_on, same_back, part_below l m a b)
 
 branch_below : (l m a b : Location) → in_one_branch l m ≡ false → in_one_branch (l ++ a) (m ++ b) ≡ false
 branch_below [] m a b h = cc
 branch_below (s ∷ l) [] a b h = cc
-branch_below (s ∷ l) (t ∷ m) a b h = by (same_step t s) (branch_below l m a b) h
-  where
-    by : (x : Bool) → (in_one_branch l m ≡ false → in_one_branch (l ++ a) (m ++ b) ≡ false) → not (not x || apart l m) ≡ false → not (not x || apart (l ++ a) (m ++ b)) ≡ false
-    by true go k = go k
-    by false go k = refl
+branch_below (s ∷ l) (t ∷ m) a b h = grind (arith, branch_below l m a b)
 
 branch_on_indexes : (l m : Location) → in_one_branch l m ≡ false → goes_on_by_indexes l m ≡ false
 branch_on_indexes [] m h = cc
 branch_on_indexes (s ∷ l) [] h = refl
-branch_on_indexes (s ∷ l) (t ∷ m) h =
-    ap (λ (x : Bool). x && goes_on_by_indexes l m) (same_back s t) ∙ further_on (same_step t s) (apart l m) (goes_on_by_indexes l m) (branch_on_indexes l m) h
+branch_on_indexes (s ∷ l) (t ∷ m) h = grind (arith, same_back, branch_on_indexes l m)
 
 apart_turned : (l m : Location) → apart l m ≡ apart m l
 apart_turned [] [] = refl
@@ -86,14 +79,7 @@ indexes_branch [] b p q h k = cc
 indexes_branch (s ∷ a) [] p q h k = cc
 indexes_branch (name n ∷ a) (t ∷ b) p q h k = cc
 indexes_branch (index i ∷ a) (name n ∷ b) p q h k = cc
-indexes_branch (index i ∷ a) (index j ∷ b) p q h k = by (same_step (index i) (index j)) (same_step (index j) (index i)) (same_back (index i) (index j)) (indexes_branch a b p q) h k
-  where
-    by : (x y : Bool) → x ≡ y → (goes_on_by_indexes a b ≡ false → goes_on_by_indexes b a ≡ false → in_one_branch a b ≡ false) → (x && goes_on_by_indexes a b) ≡ false → (y && goes_on_by_indexes b a) ≡ false
-        → not (not y || apart a b) ≡ false
-    by true true e go h k = go h k
-    by true false e go h k = refl
-    by false true e go h k = cc
-    by false false e go h k = refl
+indexes_branch (index i ∷ a) (index j ∷ b) p q h k = grind (arith, indexes_branch a b p q)
 
 -- ---- what is behind them
 

@@ -1,5 +1,5 @@
 -- What holds of each element of a list, and lists no two of whose elements meet a test: joined, mapped and filtered ones.
-use Rattle.std.proofs.Common.{◌≡◌, List, [], ◌∷◌, ◌++◌, map, Bool, true, false, cond}
+use Rattle.std.proofs.Common.{◌≡◌, List, [], ◌∷◌, ◌++◌, map, Bool, false, arith}
 use Rattle.std.specs.Prelude.{filter}
 use Rattle.std.specs.List.{AllByRecursion, IsDistinct}
 
@@ -30,11 +30,7 @@ all_map P to (x ∷ xs) h = (h.0, all_map P to xs h.1)
 
 pub all_filter : {X : Type 0} (P : X → Type 0) (test : X → Bool) (xs : List X) → AllByRecursion P xs → AllByRecursion P (filter test xs)
 all_filter P test [] h = tt
-all_filter {X} P test (x ∷ xs) h = by (test x) (all_filter P test xs h.1)
-  where
-    by : (b : Bool) → AllByRecursion P (filter test xs) → AllByRecursion P (cond b (x ∷ filter test xs) (filter test xs))
-    by true k = (h.0, k)
-    by false k = k
+all_filter {X} P test (x ∷ xs) h = grind (arith, all_filter P test xs h.1)
 
 -- ---- no element of one list with one of another
 
@@ -48,16 +44,11 @@ pub pairs_rest : {X : Type 0} (f : X → X → Bool) (y : X) (xs ys : List X) �
 pairs_rest f y xs ys h = all_then (λ x. AllByRecursion (λ z. f x z ≡ false) (y ∷ ys)) (λ x. AllByRecursion (λ z. f x z ≡ false) ys) xs (λ x p. p.1) h
 
 pub pairs_append : {X : Type 0} (f : X → X → Bool) (xs ys zs : List X) → AllPairs f xs ys → AllPairs f xs zs → AllPairs f xs (ys ++ zs)
-pairs_append f xs ys zs h k =
-    all_both (λ x. AllByRecursion (λ y. f x y ≡ false) ys) (λ x. AllByRecursion (λ y. f x y ≡ false) zs) (λ x. AllByRecursion (λ y. f x y ≡ false) (ys ++ zs)) xs
-    (λ x. all_append (λ y. f x y ≡ false) ys zs) h k
+pairs_append f xs ys zs h k = grind (arith, all_append, all_both)
 
 pub pairs_map : {X Y : Type 0} (f : Y → Y → Bool) (P : X → Type 0) (to on : X → Y) (xs ys : List X) → ((x y : X) → P x → P y → f (to x) (on y) ≡ false)
     → AllByRecursion P xs → AllByRecursion P ys → AllPairs f (map to xs) (map on ys)
-pairs_map f P to on xs ys go h k =
-    all_map (λ x. AllByRecursion (λ y. f x y ≡ false) (map on ys)) to xs
-    (all_then P (λ x. AllByRecursion (λ y. f (to x) y ≡ false) (map on ys)) xs
-    (λ x p. all_map (λ y. f (to x) y ≡ false) on ys (all_then P (λ y. f (to x) (on y) ≡ false) ys (λ y. go x y p) k)) h)
+pairs_map f P to on xs ys go h k = grind (arith, all_map, all_then)
 
 -- ---- no two elements of a list
 
@@ -74,11 +65,7 @@ distinct_map f to (x ∷ xs) h = (all_map (λ y. f (to x) y ≡ false) to xs h.0
 pub distinct_filter : {X : Type 0} (f : X → X → Bool) (test : X → Bool) (xs : List X) → IsDistinct f xs → IsDistinct f (filter test xs)
 unfolding IsDistinct
 distinct_filter f test [] h = tt
-distinct_filter {X} f test (x ∷ xs) h = by (test x) (distinct_filter f test xs h.1)
-  where
-    by : (b : Bool) → IsDistinct f (filter test xs) → IsDistinct f (cond b (x ∷ filter test xs) (filter test xs))
-    by true k = (all_filter (λ y. f x y ≡ false) test xs h.0, k)
-    by false k = k
+distinct_filter {X} f test (x ∷ xs) h = grind (arith, all_filter, distinct_filter f test xs h.1)
 
 -- where no two elements that differ meet the other test
 pub distinct_other : {X : Type 0} (e f : X → X → Bool) (P : X → Type 0) (xs : List X) → ((x y : X) → P x → P y → e x y ≡ false → f x y ≡ false)

@@ -1,5 +1,5 @@
 -- Each location once, at its first place: spot by spot, with the set of the locations that were kept.
-use Rattle.std.proofs.Common.{◌≡◌, List, [], ◌∷◌, ◌++◌, map, Bool, true, false, cond, not, ◌||◌, refl, sym, ap, ap₂, ◌∙◌, append-nil}
+use Rattle.std.proofs.Common.{◌≡◌, List, [], ◌∷◌, ◌++◌, map, Bool, true, false, cond, not, refl, sym, ap, ap₂, ◌∙◌, append-nil, arith}
 use Rattle.std.specs.List.{list_any}
 use Rattle.std.specs.BTreeSet.{BTreeSet, contains}
 use Rattle.std.specs.Bool.{OnFalse}
@@ -39,39 +39,20 @@ last_of doc _ [] s h = cc
 
 kept_by : (doc : Document) (b added : Bool) (l : Location) (s : Spot) (ms : List Location) (kept kept' : List Spot) → StandAt doc ms kept → StandsAt doc l s → added ≡ not b
     → map sight_of kept' ≡ map sight_of kept ++ cond added (sight_of s ∷ []) [] → StandAt doc (ms ++ cond b [] (l ∷ [])) kept'
-kept_by doc true added l s ms kept kept' stand here is more =
-    more ∙ ap (λ (a : Bool). map sight_of kept ++ cond a (sight_of s ∷ []) []) is ∙ append-nil (map sight_of kept) ∙ stand ∙ ap (map (look doc)) (sym (append-nil ms))
-kept_by doc false added l s ms kept kept' stand here is more =
-    more ∙ ap (λ (a : Bool). map sight_of kept ++ cond a (sight_of s ∷ []) []) is
-    ∙ ap₂ (λ (xs : List Sight) (x : Sight). xs ++ x ∷ []) stand here ∙ sym (map-append (look doc) ms (l ∷ []))
+kept_by doc b added l s ms kept kept' stand here is more = grind (arith, map-append)
 
 pub firsts_next : (s : Spot) (added : Bool) (given kept kept' : List Spot) → ((doc : Document) (ls : List Location) → StandAt doc ls given → StandAt doc (each_once ls) kept)
     → added ≡ not (list_any (is_same (location_of s)) (places kept)) → map sight_of kept' ≡ map sight_of kept ++ cond added (sight_of s ∷ []) []
     → (doc : Document) (ls : List Location) → StandAt doc ls (given ++ s ∷ []) → StandAt doc (each_once ls) kept'
-firsts_next s added given kept kept' before is more doc ls stand =
-    let end = last_of doc ls given s stand in
-    let ms = end.0 in
-    let l = end.1 in
-    let at_first : StandAt doc (each_once ms) kept = before doc ms end.3 in
-    let same : location_of s ≡ l = ap (λ (x : Sight). x.0) end.4 in
-    let test : list_any (is_same (location_of s)) (places kept) ≡ list_any (is_same l) (each_once ms) = ap₂ (λ (m : Location) (xs : List Location). list_any (is_same m) xs) same (places-StandAt doc (each_once ms) kept at_first) in
-    kept_by doc (list_any (is_same l) (each_once ms)) added l s (each_once ms) kept kept' at_first end.4 (is ∙ ap not test) more
-    ∙ ap (map (look doc)) (sym (ap each_once end.2 ∙ each_once_after-append [] ms (l ∷ [])))
+firsts_next s added given kept kept' before is more doc ls stand = grind (arith, each_once_after-append, kept_by, last_of, places-StandAt)
 
 -- ---- the set
 
 any-snoc : (test : Location → Bool) (ls : List Location) (l : Location) → list_any test (ls ++ l ∷ []) ≡ cond (test l) true (list_any test ls)
-any-snoc test ls l = list_any-append test ls (l ∷ []) ∙ by (list_any test ls) (test l)
-  where
-    by : (a b : Bool) → (a || (b || false)) ≡ cond b true a
-    by true true = refl
-    by true false = refl
-    by false true = refl
-    by false false = refl
+any-snoc test ls l = grind (arith, list_any-append)
 
 kept_places : (added : Bool) (s : Spot) (kept kept' : List Spot) → map sight_of kept' ≡ map sight_of kept ++ cond added (sight_of s ∷ []) [] → places kept' ≡ places kept ++ cond added (location_of s ∷ []) []
-kept_places true s kept kept' more = ap (map (λ (x : Sight). x.0)) more ∙ map-append (λ (x : Sight). x.0) (map sight_of kept) (sight_of s ∷ [])
-kept_places false s kept kept' more = ap (map (λ (x : Sight). x.0)) more ∙ map-append (λ (x : Sight). x.0) (map sight_of kept) []
+kept_places added s kept kept' more = grind (arith, map-append)
 
 -- the set holds exactly the locations that were kept
 abbrev pub Holds : BTreeSet Location → List Spot → Type 0

@@ -1,5 +1,5 @@
 -- A list in document order is what stands once and in order of it.
-use Rattle.std.proofs.Common.{◌≡◌, ℕ, true, List, [], ◌∷◌, ◌++◌, ◌+◌, ◌-◌, ◌<◌, length, get_or, Option, None, Some, length-drop, map, take, drop, fold, Ordering, Less, Equal, Greater, is_lt, refl, sym, ap, subst, ◌∙◌, append_assoc}
+use Rattle.std.proofs.Common.{◌≡◌, ℕ, true, List, [], ◌∷◌, ◌++◌, ◌+◌, ◌-◌, ◌<◌, length, get_or, Option, None, Some, length-drop, map, take, drop, fold, Ordering, Less, Greater, is_lt, refl, sym, ap, subst, ◌∙◌, append_assoc, arith}
 use mathlib.Core.List.{append-nil}
 use Rattle.std.proofs.lemmas.List.{map-append, take-append-drop, take_more}
 use Rattle.std.proofs.Math.Seq.{take-length}
@@ -49,9 +49,7 @@ pub once_sorted : (ls : List Location) → IsStrictlySortedBy location_cmp ls �
 once_sorted ls h = sym (fold_in_order location_total ls [] h)
 
 less_of : (o : Ordering) → is_lt o ≡ true → o ≡ Less
-less_of Less h = refl
-less_of Equal h = cc
-less_of Greater h = cc
+less_of o h = grind arith
 
 pub sorted_behind : (ls front : List Location) (l m : Location) → ls ≡ front ++ l ∷ [] → is_lt (location_cmp l m) ≡ true
     → IsStrictlySortedBy location_cmp ls → IsStrictlySortedBy location_cmp (ls ++ m ∷ [])
@@ -87,8 +85,7 @@ EndsWith (Some l) ls = (front : List Location) × (ls ≡ front ++ l ∷ [])
 
 behind_last : (last : Option Location) (m : Location) (ls : List Location) → EndsWith last ls → comes_behind last m ≡ true
     → IsStrictlySortedBy location_cmp ls → IsStrictlySortedBy location_cmp (ls ++ m ∷ [])
-behind_last None m ls none h s = sorted_alone ls m (ap length none)
-behind_last (Some l) m ls end h s = sorted_behind ls end.0 l m end.1 h s
+behind_last last m ls none h s = grind (arith, sorted_alone, sorted_behind)
 
 pub next_behind : {A : Type 0} (f : A → Location) (xs : List A) (i : ℕ) (x : A) (last : Option Location) (m : Location) → i < length xs → x ≡ get_or xs i x → m ≡ f x
     → comes_behind last m ≡ true → EndsWith last (map f (take i xs)) → IsStrictlySortedBy location_cmp (map f (take i xs))

@@ -1,5 +1,5 @@
 -- Functions from each of some locations: joined lists, locations below another, one function after the other.
-use Rattle.std.proofs.Common.{◌≡◌, List, [], ◌∷◌, ◌++◌, map, Option, Some, None, refl, sym, ap, ap₂, ◌∙◌, append_assoc}
+use Rattle.std.proofs.Common.{◌≡◌, List, [], ◌∷◌, ◌++◌, map, Option, Some, refl, sym, ap, ap₂, ◌∙◌, append_assoc, arith}
 use Rattle.std.specs.Prelude.{option_and_then, option_map, unwrap_or}
 use Rattle.std.proofs.lemmas.List.{map-append}
 use Rattle.std.proofs.lemmas.Simd.{map-map}
@@ -35,15 +35,12 @@ from_each-deeper doc f l d (m ∷ ms) is =
 
 from_each-below : (doc : Document) (f g : Document → List Location) (l : Location) (o : Option Document) → at doc l ≡ o
     → from_each doc f (map (λ m. l ++ m) (unwrap_or (option_map g o) [])) ≡ map (λ m. l ++ m) (unwrap_or (option_map (λ d. from_each d f (g d)) o) [])
-from_each-below doc f g l None is = refl
-from_each-below doc f g l (Some d) is = from_each-deeper doc f l d (g d) is
+from_each-below doc f g l o is = grind (arith, from_each-deeper)
 
 -- f after g is one function of the value
 pub from_each-twice : (doc : Document) (f g : Document → List Location) (ls : List Location) → from_each doc f (from_each doc g ls) ≡ from_each doc (λ d. from_each d f (g d)) ls
 from_each-twice doc f g [] = refl
-from_each-twice doc f g (l ∷ ls) =
-    from_each-append doc f (from doc g l) (from_each doc g ls)
-    ∙ ap₂ (λ (x y : List Location). x ++ y) (from_each-below doc f g l (at doc l) refl) (from_each-twice doc f g ls)
+from_each-twice doc f g (l ∷ ls) = grind (arith, from_each-append, from_each-below, from_each-twice doc f g ls)
 
 -- f after g at each child
 pub from_each-through : (f g : Document → List Location) (d : Document) (ks : List Kid) → AreAt d ks → from_each d f (through g ks) ≡ through (λ c. from_each c f (g c)) ks

@@ -1,13 +1,13 @@
 -- Steps that lead nowhere from a value.
-use Rattle.std.proofs.Common.{◌≡◌, ℕ, List, [], ◌∷◌, ◌++◌, map, None, Bool, false, cond, refl, sym, ap, ap₂, ◌∙◌, append-nil}
+use Rattle.std.proofs.Common.{◌≡◌, ℕ, List, [], ◌∷◌, ◌++◌, map, None, Bool, false, cond, refl, sym, ap, ap₂, ◌∙◌, append-nil, arith}
 use Rattle.std.specs.Prelude.{ℤ, flat_map, is_some}
 use Rattle.std.proofs.lemmas.Bool.{or_parts}
 use Rattle.jsonpath_nodes.specs.document.Document.{Document, null, boolean, number, string, array, object, Items, Members, no_members, member}
 use Rattle.jsonpath_nodes.specs.document.Find.{as_array, as_object}
 use Rattle.jsonpath_nodes.specs.plan.Containers.{is_container, some_container}
-use Rattle.jsonpath_nodes.specs.place.Location.{Step, name, index, Location, child, below}
-use Rattle.jsonpath_nodes.specs.step.Steps.{Plain, every, named, listed, nth, union, range, present, nth_of, length_of, abs_index, single_steps, from_each}
-use Rattle.jsonpath_nodes.specs.plan.Gathered.{Gathered, selected, flattened, gathered_at, all_gathered}
+use Rattle.jsonpath_nodes.specs.place.Location.{Step, name, index, Location, child}
+use Rattle.jsonpath_nodes.specs.step.Steps.{Plain, listed, union, present, nth_of, single_steps}
+use Rattle.jsonpath_nodes.specs.plan.Gathered.{Gathered, gathered_at, all_gathered}
 use Rattle.jsonpath_nodes.specs.place.Order.{IsOrderedDocument, HoldOrderedDocuments}
 use Rattle.jsonpath_nodes.specs.place.Mark.{look_kept_from}
 use Rattle.jsonpath_nodes.specs.place.SpotPlace.{look_from}
@@ -19,8 +19,7 @@ present_nowhere d s none = ap (λ o. cond (is_some o) (s ∷ []) []) none
 -- no index leads into an object or a value without children
 union_nowhere : (d : Document) (ns : List ℤ) → ((i : ℕ) → child (index i) d ≡ None) → flat_map (nth_of d) ns ≡ []
 union_nowhere d [] none = refl
-union_nowhere d (n ∷ ns) none =
-    ap₂ (λ (x y : List Step). x ++ y) (present_nowhere d (index (abs_index n (length_of d))) (none (abs_index n (length_of d)))) (union_nowhere d ns none)
+union_nowhere d (n ∷ ns) none = grind (arith, union_nowhere d ns none)
 
 -- no name leads into an array or a value without children
 listed_nowhere : (d : Document) (ks : List (List ℕ)) → ((k : List ℕ) → child (name k) d ≡ None) → flat_map (λ k. present d (name k)) ks ≡ []
@@ -41,46 +40,28 @@ IsLeaf (object ms) = ⊥
 IsLeaf _ = Unit {0}
 
 pub leaf_by : (P : Document → Type 0) → P null → ((b : Bool) → P (boolean b)) → ((n : _) → P (number n)) → ((s : List ℕ) → P (string s)) → (d : Document) → IsLeaf d → P d
-leaf_by P of_null of_boolean of_number of_string null h = of_null
-leaf_by P of_null of_boolean of_number of_string (boolean b) h = of_boolean b
-leaf_by P of_null of_boolean of_number of_string (number n) h = of_number n
-leaf_by P of_null of_boolean of_number of_string (string s) h = of_string s
-leaf_by P of_null of_boolean of_number of_string _ h = absurd h
+leaf_by P of_null of_boolean of_number of_string d h = grind arith
 
 pub leaf_selects : (p : Plain) (d : Document) → IsLeaf d → single_steps p d ≡ []
-leaf_selects every d h = leaf_by (λ c. single_steps every c ≡ []) refl (λ b. refl) (λ n. refl) (λ s. refl) d h
-leaf_selects (named k) d h = leaf_by (λ c. single_steps (named k) c ≡ []) refl (λ b. refl) (λ n. refl) (λ s. refl) d h
-leaf_selects (listed ks) d h =
-    ap (map (λ (s : Step). s ∷ [])) (listed_nowhere d ks (λ k. leaf_by (λ c. child (name k) c ≡ None) refl (λ b. refl) (λ n. refl) (λ s. refl) d h))
-leaf_selects (nth m) d h = leaf_by (λ c. single_steps (nth m) c ≡ []) refl (λ b. refl) (λ n. refl) (λ s. refl) d h
-leaf_selects (union ns) d h =
-    ap (map (λ (s : Step). s ∷ [])) (union_nowhere d ns (λ i. leaf_by (λ c. child (index i) c ≡ None) refl (λ b. refl) (λ n. refl) (λ s. refl) d h))
-leaf_selects (range from to stride) d h = leaf_by (λ c. single_steps (range from to stride) c ≡ []) refl (λ b. refl) (λ n. refl) (λ s. refl) d h
+leaf_selects p d h = grind (arith, listed_nowhere, union_nowhere)
 
 pub leaf_gathered : (own : Document → List Location) (d : Document) → IsLeaf d → own d ≡ [] → all_gathered own d ≡ []
-leaf_gathered own d h none =
-    ap (from_each d own) (leaf_by (λ c. below c ≡ [] ∷ []) refl (λ b. refl) (λ n. refl) (λ s. refl) d h)
-    ∙ ap (λ (ls : List Location). map (λ m. [] ++ m) ls ++ []) none
+leaf_gathered own d h none = grind arith
 
 pub nothing_at_leaf : (what : Gathered) (d : Document) → IsLeaf d → gathered_at what d ≡ []
-nothing_at_leaf (selected p) d h = leaf_selects p d h
-nothing_at_leaf flattened d h = leaf_by (λ c. gathered_at flattened c ≡ []) refl (λ b. refl) (λ n. refl) (λ s. refl) d h
+nothing_at_leaf what d h = grind (arith, leaf_selects)
 
 pub nothing_gained : (b : Bool) (l : Location) (d : Document) (xs : List Sight) (ls : List Location) → ls ≡ [] → xs ≡ xs ++ map (look_kept_from b l d) ls
 nothing_gained b l d xs ls none = sym (append-nil xs) ∙ ap (λ (ks : List Location). xs ++ map (look_kept_from b l d) ks) (sym none)
 
 -- what is neither an array nor an object
 pub leaf_else : (d : Document) → as_array d ≡ None → as_object d ≡ None → IsLeaf d
-leaf_else (array ds) not_array not_object = cc
-leaf_else (object ms) not_array not_object = cc
-leaf_else _ not_array not_object = tt
+leaf_else d not_array not_object = grind arith
 
 -- ---- members of which none holds others
 
 pub no_container : (d : Document) → is_container d ≡ false → IsLeaf d
-no_container (array ds) h = cc
-no_container (object ms) h = cc
-no_container _ h = tt
+no_container d h = grind arith
 
 pub nothing_in_leaves : (own : Document → List Location) (l : Location) (ms : Members) → ((d : Document) → IsLeaf d → own d ≡ []) → some_container ms ≡ false → member_sights (all_gathered own) l ms ≡ []
 nothing_in_leaves own l no_members none h = refl

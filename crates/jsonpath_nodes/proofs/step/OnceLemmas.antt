@@ -1,5 +1,5 @@
 -- A list of locations, each once and in document order, keeps exactly the members.
-use Rattle.std.proofs.Common.{◌≡◌, ℕ, List, [], ◌∷◌, Ordering, Less, Equal, Greater, nat_cmp, is_eq, refl, sym, ap, ap₂, ◌∙◌}
+use Rattle.std.proofs.Common.{◌≡◌, ℕ, List, [], ◌∷◌, Ordering, Equal, nat_cmp, is_eq, refl, sym, ap, ap₂, ◌∙◌, arith}
 use Rattle.std.specs.Cmp.{ranked}
 use Rattle.std.specs.Ordering.{ordering_then}
 use Rattle.std.specs.Cmp.Lexicographic.{slice_cmp}
@@ -22,9 +22,7 @@ step_same (index i) (name l) is = cc
 step_same (index i) (index j) is = ap index (nat_same i j is)
 
 then_both : (o r : Ordering) → ordering_then o r ≡ Equal → (o ≡ Equal) × (r ≡ Equal)
-then_both Less r is = cc
-then_both Equal r is = (refl, is)
-then_both Greater r is = cc
+then_both o r is = grind arith
 
 pub location_same : (l m : Location) → location_cmp l m ≡ Equal → l ≡ m
 location_same [] [] is = refl

@@ -1,10 +1,10 @@
 -- The candidates after `..*` in one descent.
-use Rattle.std.proofs.Common.{◌≡◌, ℕ, suc, List, [], ◌∷◌, ◌++◌, map, Option, Some, None, false, refl, sym, ap, ap₂, ◌∙◌, append_assoc, append-nil, subst}
-use Rattle.std.specs.Prelude.{option_and_then, option_map, unwrap_or}
+use Rattle.std.proofs.Common.{◌≡◌, ℕ, suc, List, [], ◌∷◌, ◌++◌, map, Option, Some, None, false, refl, sym, ap, ap₂, ◌∙◌, append_assoc, append-nil, subst, arith, rules}
+use Rattle.std.specs.Prelude.{option_map, unwrap_or}
 use Rattle.std.specs.List.{AllByRecursion}
 use Rattle.jsonpath_nodes.specs.document.Document.{Document, array, object, Items, no_items, item, Members, no_members, member}
 use Rattle.jsonpath_nodes.proofs.update.SetLemmas.{same_back}
-use Rattle.jsonpath_nodes.specs.place.Location.{Step, name, index, Location, at, child, below, flat, flat_items}
+use Rattle.jsonpath_nodes.specs.place.Location.{Step, name, index, Location, at, below, flat, flat_items}
 use Rattle.jsonpath_nodes.specs.place.Order.{IsOrderedDocument, AreOrderedDocuments, HoldOrderedDocuments}
 use Rattle.jsonpath_nodes.specs.step.Steps.{every, single_steps, step, from, from_each, all_below, each_once, each_once_after, flattened}
 use Rattle.jsonpath_nodes.specs.update.Topmost.{same_step, under}
@@ -22,13 +22,9 @@ use Rattle.jsonpath_nodes.proofs.step.ChildLemmas.{Kid, through, itself, flat_it
 abbrev flattened_from_each : Document → List Location
 flattened_from_each d = from_each d flat (single_steps every d)
 
-there : (d c : Document) (s : Step) → child s d ≡ Some c → at d (s ∷ []) ≡ Some c
-there d c s h = ap (option_and_then (λ x. at x [])) h
-
 from_kids : (d : Document) (f : Document → List Location) (ks : List Kid) → AreAt d ks → from_each d f (through itself ks) ≡ through f ks
 from_kids d f [] h = refl
-from_kids d f (k ∷ ks) h =
-    ap₂ (λ (x y : List Location). x ++ y) (ap (λ (o : Option Document). map (λ m. k.0 ∷ m) (unwrap_or (option_map f o) [])) (there d k.1 k.0 h.0)) (from_kids d f ks h.1)
+from_kids d f (k ∷ ks) h = grind (arith, from_kids d f ks h.1)
 
 flattened_from_each-items : (ds : Items) → flattened_from_each (array ds) ≡ flat_items 0 ds
 flattened_from_each-items ds = ap (from_each (array ds) flat) (indexes-kids 0 ds) ∙ from_kids (array ds) flat (item_kids 0 ds) (all_items_at ds) ∙ sym (flat_items-kids 0 ds)
@@ -69,10 +65,7 @@ flat_candidates_once d = ap each_once (sym (whole d)) ∙ flat_alone d
 beside : (s : Step) (before xs : List Location) (ks : List Kid) (P : Kid → List Location) → AllByRecursion (λ t. same_step s t.0 ≡ false) ks → AllByRecursion (λ k. under k.0 before ≡ P k) ks
     → AllByRecursion (λ k. under k.0 (before ++ map (λ (l : Location). s ∷ l) xs) ≡ P k) ks
 beside s before xs [] P apart h = tt
-beside s before xs (k ∷ ks) P apart h = (
-  under-append k.0 before (map (λ (l : Location). s ∷ l) xs) ∙ ap (λ (ls : List Location). under k.0 before ++ ls) (under-other k.0 s xs apart.0) ∙ append-nil (under k.0 before) ∙ h.0,
-  beside s before xs ks P apart.1 h.1,
-)
+beside s before xs (k ∷ ks) P apart h = search (rules, arith, under-append, under-other, beside s before xs ks P apart.1 h.1)
 
 one_once : (before : List Location) (s : Step) (xs ys rest rest' : List Location) → each_once_after (under s before) xs ≡ ys → each_once_after (before ++ map (λ (l : Location). s ∷ l) ys) rest ≡ rest'
     → each_once_after before (map (λ (l : Location). s ∷ l) xs ++ rest) ≡ map (λ (l : Location). s ∷ l) ys ++ rest'

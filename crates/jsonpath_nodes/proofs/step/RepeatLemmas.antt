@@ -1,11 +1,11 @@
 -- Each location once, at its first place: joined lists, and lists below one step.
-use Rattle.std.proofs.Common.{◌≡◌, List, [], ◌∷◌, ◌++◌, map, Bool, true, false, cond, ◌||◌, ◌&&◌, inl, is_eq, refl, sym, ap, ◌∙◌, append_assoc, append-nil}
+use Rattle.std.proofs.Common.{◌≡◌, List, [], ◌∷◌, ◌++◌, map, Bool, true, false, cond, inl, is_eq, refl, sym, ap, ◌∙◌, append_assoc, append-nil, arith}
 use Rattle.std.specs.List.{list_any}
-use Rattle.jsonpath_nodes.specs.place.Location.{Step, Location, step_cmp, location_cmp, is_same}
+use Rattle.jsonpath_nodes.specs.place.Location.{Step, Location, is_same}
 use Rattle.jsonpath_nodes.specs.step.Steps.{each_once, each_once_after}
 use Rattle.jsonpath_nodes.specs.update.Topmost.{same_step, under}
 use Rattle.jsonpath_nodes.proofs.update.MemberLemmas.{location-tied}
-use Rattle.jsonpath_nodes.proofs.update.SetLemmas.{eq_then, step_eq, same_itself, same_back}
+use Rattle.jsonpath_nodes.proofs.update.SetLemmas.{step_eq, same_itself, same_back}
 use Rattle.jsonpath_nodes.proofs.place.CompleteLemmas.{among_back}
 use Rattle.jsonpath_nodes.proofs.step.SameMemberLemmas.{any_to}
 use Rattle.jsonpath_nodes.proofs.step.ListLemmas.{map-nothing, map-step}
@@ -42,36 +42,20 @@ nothing_new_after before (x ∷ xs) =
 pub under-append : (s : Step) (xs ys : List Location) → under s (xs ++ ys) ≡ under s xs ++ under s ys
 under-append s [] ys = refl
 under-append s ([] ∷ xs) ys = under-append s xs ys
-under-append s ((t ∷ l) ∷ xs) ys = by (same_step t s) (under-append s xs ys)
-  where
-    by : (b : Bool) → under s (xs ++ ys) ≡ under s xs ++ under s ys
-        → cond b (l ∷ under s (xs ++ ys)) (under s (xs ++ ys)) ≡ cond b (l ∷ under s xs) (under s xs) ++ under s ys
-    by true e = ap (λ (ms : List Location). l ∷ ms) e
-    by false e = e
+under-append s ((t ∷ l) ∷ xs) ys = grind (arith, under-append s xs ys)
 
 pub under-same : (s : Step) (xs : List Location) → under s (map (λ (m : Location). s ∷ m) xs) ≡ xs
 under-same s [] = refl
-under-same s (x ∷ xs) =
-    ap (λ (b : Bool). cond b (x ∷ under s (map (λ (m : Location). s ∷ m) xs)) (under s (map (λ (m : Location). s ∷ m) xs))) (same_itself s)
-    ∙ ap (λ (ms : List Location). x ∷ ms) (under-same s xs)
+under-same s (x ∷ xs) = grind (arith, same_itself, under-same s xs)
 
 pub under-other : (s t : Step) (xs : List Location) → same_step t s ≡ false → under s (map (λ (m : Location). t ∷ m) xs) ≡ []
 under-other s t [] h = refl
-under-other s t (x ∷ xs) h =
-    ap (λ (b : Bool). cond b (x ∷ under s (map (λ (m : Location). t ∷ m) xs)) (under s (map (λ (m : Location). t ∷ m) xs))) h
-    ∙ under-other s t xs h
+under-other s t (x ∷ xs) h = grind (arith, under-other s t xs h)
 
 any_under : (s : Step) (l : Location) (before : List Location) → list_any (is_same (s ∷ l)) before ≡ list_any (is_same l) (under s before)
 any_under s l [] = refl
 any_under s l ([] ∷ before) = any_under s l before
-any_under s l ((t ∷ m) ∷ before) =
-    ap (λ (b : Bool). b || list_any (is_same (s ∷ l)) before) (eq_then (step_cmp s t) (location_cmp l m) ∙ ap (λ (b : Bool). b && is_same l m) (sym (step_eq s t) ∙ same_back s t))
-    ∙ by (same_step t s) (any_under s l before)
-  where
-    by : (b : Bool) → list_any (is_same (s ∷ l)) before ≡ list_any (is_same l) (under s before)
-        → ((b && is_same l m) || list_any (is_same (s ∷ l)) before) ≡ list_any (is_same l) (cond b (m ∷ under s before) (under s before))
-    by true e = ap (λ (b : Bool). is_same l m || b) e
-    by false e = e
+any_under s l ((t ∷ m) ∷ before) = grind (arith, same_back, step_eq, any_under s l before)
 
 pub each_once_after-step : (s : Step) (before xs : List Location)
     → each_once_after before (map (λ (m : Location). s ∷ m) xs) ≡ map (λ (m : Location). s ∷ m) (each_once_after (under s before) xs)

@@ -1,5 +1,5 @@
 -- What is among the lists that steps make.
-use Rattle.std.proofs.Common.{◌≡◌, ◌⊎◌, inl, inr, List, [], ◌∷◌, ◌++◌, Bool, true, false, cond, ◌||◌, refl, sym, ap, ◌∙◌, subst}
+use Rattle.std.proofs.Common.{◌≡◌, ◌⊎◌, inl, inr, List, [], ◌∷◌, ◌++◌, Bool, true, false, cond, ◌||◌, refl, sym, ap, ◌∙◌, subst, arith}
 use Rattle.std.specs.Prelude.{filter}
 use Rattle.std.proofs.Math.Bool.{or-true}
 use Rattle.std.specs.List.{list_any}
@@ -81,16 +81,10 @@ any_to test l (m ∷ ls) (inr h) e = ap (λ (b : Bool). test m || b) (any_to tes
 
 pub any_back : (test : Location → Bool) (ls : List Location) → list_any test ls ≡ true → (l : Location) × IsAmong l ls × (test l ≡ true)
 any_back test [] h = cc
-any_back test (m ∷ ls) h = by (test m) refl h (any_back test ls)
-  where
-    by : (b : Bool) → test m ≡ b → (b || list_any test ls) ≡ true → (list_any test ls ≡ true → (l : Location) × IsAmong l ls × (test l ≡ true)) → (l : Location) × IsAmong l (m ∷ ls) × (test l ≡ true)
-    by true is e go = (m, inl refl, is)
-    by false is e go = let found = go e in (found.0, inr found.1, found.2)
+any_back test (m ∷ ls) h = grind (arith, any_back test ls)
 
 pub equal_tests : (a b : Bool) → (a ≡ true → b ≡ true) → (b ≡ true → a ≡ true) → a ≡ b
-equal_tests true b to back = sym (to refl)
-equal_tests false true to back = back refl
-equal_tests false false to back = refl
+equal_tests a b to back = grind arith
 
 pub any_same : SomeOfASet
 any_same test ls ms h =
@@ -106,20 +100,11 @@ same_is l m e = location_same l m (is_equal (location_cmp l m) e)
 pub filter_to : (test : Location → Bool) (l : Location) (ls : List Location) → IsAmong l ls → test l ≡ true → IsAmong l (filter test ls)
 filter_to test l [] h e = elim h [ ]
 filter_to test l (m ∷ ls) (inl is) e = subst (λ (b : Bool). IsAmong l (cond b (m ∷ filter test ls) (filter test ls))) (sym (ap test (sym is) ∙ e)) (inl is)
-filter_to test l (m ∷ ls) (inr h) e = by (test m) (filter_to test l ls h e)
-  where
-    by : (b : Bool) → IsAmong l (filter test ls) → IsAmong l (cond b (m ∷ filter test ls) (filter test ls))
-    by true k = inr k
-    by false k = k
+filter_to test l (m ∷ ls) (inr h) e = grind (arith, filter_to test l ls h e)
 
 pub filter_back : (test : Location → Bool) (l : Location) (ls : List Location) → IsAmong l (filter test ls) → IsAmong l ls × (test l ≡ true)
 filter_back test l [] h = elim h [ ]
-filter_back test l (m ∷ ls) h = by (test m) refl h (filter_back test l ls)
-  where
-    by : (b : Bool) → test m ≡ b → IsAmong l (cond b (m ∷ filter test ls) (filter test ls)) → (IsAmong l (filter test ls) → IsAmong l ls × (test l ≡ true)) → IsAmong l (m ∷ ls) × (test l ≡ true)
-    by true is (inl e) go = (inl e, ap test e ∙ is)
-    by true is (inr k) go = let found = go k in (inr found.0, found.1)
-    by false is k go = let found = go k in (inr found.0, found.1)
+filter_back test l (m ∷ ls) h = grind (arith, filter_back test l ls)
 
 pub filter-same : KeptOfASet
 filter-same test ls ms h =
@@ -131,13 +116,7 @@ filter-same test ls ms h =
 
 once_back : (l : Location) (before ls : List Location) → IsAmong l (each_once_after before ls) → IsAmong l ls
 once_back l before [] h = h
-once_back l before (x ∷ ls) h = by (list_any (is_same x) before) h (once_back l before ls) (once_back l (before ++ x ∷ []) ls)
-  where
-    by : (b : Bool) → IsAmong l (cond b (each_once_after before ls) (x ∷ each_once_after (before ++ x ∷ []) ls)) → (IsAmong l (each_once_after before ls) → IsAmong l ls)
-        → (IsAmong l (each_once_after (before ++ x ∷ []) ls) → IsAmong l ls) → IsAmong l (x ∷ ls)
-    by true a old new = inr (old a)
-    by false (inl e) old new = inl e
-    by false (inr a) old new = inr (new a)
+once_back l before (x ∷ ls) h = grind (arith, once_back l before ls, once_back l (before ++ x ∷ []) ls)
 
 once_to : (l : Location) (before ls : List Location) → IsAmong l ls → IsAmong l before ⊎ IsAmong l (each_once_after before ls)
 once_to l before [] h = inr h

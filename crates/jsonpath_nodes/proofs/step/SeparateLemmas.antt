@@ -1,6 +1,6 @@
 -- Lists of locations with no repeats, and lists whose candidates hold none.
-use Rattle.std.proofs.Common.{◌≡◌, ℕ, zero, suc, ◌+◌, ◌<◌, ◌≤◌, List, [], ◌∷◌, ◌++◌, map, Bool, true, false, cond, ◌&&◌, ◌||◌, Option, Some, None, ◌⊎◌, inl, inr, nat_eq, leb, refl, sym, ap, ap₂, ◌∙◌, arith, subst, add-suc, suc-add, add-zero, append-nil, append_assoc}
-use Rattle.std.specs.Prelude.{filter, flat_map, min, option_map, option_and_then, unwrap_or, is_some, ℤ, pos, negsuc}
+use Rattle.std.proofs.Common.{◌≡◌, ℕ, zero, suc, ◌+◌, ◌<◌, ◌≤◌, List, [], ◌∷◌, ◌++◌, map, Bool, true, false, cond, ◌&&◌, ◌||◌, Option, Some, None, refl, sym, ap, ap₂, ◌∙◌, arith, subst, add-suc, suc-add, add-zero, append-nil, append_assoc}
+use Rattle.std.specs.Prelude.{filter, flat_map, option_map, option_and_then, unwrap_or, is_some, ℤ, pos, negsuc}
 use Rattle.std.specs.Cmp.{eq_by_cmp_equiv}
 use Rattle.std.specs.Cmp.Lexicographic.{slice_cmp}
 use Rattle.std.specs.Int.Signed.{◌≤ℤ◌}
@@ -9,11 +9,9 @@ use Rattle.std.specs.List.Sorted.{IsStrictlySortedBy}
 use Rattle.std.specs.Ordering.{eq_by_cmp, int_cmp, nat_cmp}
 use Rattle.std.proofs.Math.Bool.{and-false}
 use Rattle.std.proofs.lemmas.Bool.{and_parts, or_parts}
-use Rattle.std.proofs.lemmas.Bool.Decides.{eqb_tells, leb_tells}
-use Rattle.std.proofs.lemmas.Cmp.{int_cmp_total}
 use Rattle.std.proofs.lemmas.Map.Keys.{IsDistinct-from_sorted}
-use Rattle.jsonpath_nodes.specs.document.Document.{Document, null, array, object, Items, no_items, item, Members, no_members, member}
-use Rattle.jsonpath_nodes.specs.document.Find.{items_len, get_item}
+use Rattle.jsonpath_nodes.specs.document.Document.{Document, array, object, Items, no_items, item, Members, no_members, member}
+use Rattle.jsonpath_nodes.specs.document.Find.{get_item}
 use Rattle.jsonpath_nodes.specs.place.Location.{Step, name, index, Location, at, child, children, indexes_from, names, below, flat, flat_items, is_same, step_cmp, location_cmp}
 use Rattle.jsonpath_nodes.specs.place.Order.{IsOrderedDocument, location_total}
 use Rattle.jsonpath_nodes.specs.step.Separate.{HasNoRepeat, are_indexes, goes_on_by_indexes, in_one_array, IsApart, SelectsNoneTwice, is_every, goes_by_names, HasNamesInOrder, NamesInOrderAt, ApartHasNoRepeatFlat, OneIsApart, ApartHasNoRepeat, NamesStandApart, ListsStandApart, IndexStandsApart, RangeStandsApart, StepStandsApart, CandidatesStandApart, StepHasNoRepeat, EveryHasNoRepeat, ChildHasNoRepeat, BelowHasNoRepeat, DescentStandsApart}
@@ -47,8 +45,7 @@ distinct_from_each e f doc g (l ∷ ls) own across h =
     (pairs_from_each e f doc g l ls h.0 (λ m other. two m other (at doc l) (at doc m)))
   where
     one : (o : Option Document) → at doc l ≡ o → IsDistinct f (map (λ (x : Location). l ++ x) (unwrap_or (option_map g o) []))
-    one None is = tt
-    one (Some d) is = own.0 d is
+    one o is = grind arith
 
     two : (m : Location) → e l m ≡ false → (o r : Option Document)
         → AllPairs f (map (λ (x : Location). l ++ x) (unwrap_or (option_map g o) [])) (map (λ (x : Location). m ++ x) (unwrap_or (option_map g r) []))
@@ -59,13 +56,10 @@ distinct_from_each e f doc g (l ∷ ls) own across h =
 -- ---- tests step by step
 
 both_false : (b x y : Bool) → (x ≡ false → y ≡ false) → (b && x) ≡ false → (b && y) ≡ false
-both_false true x y go h = go h
-both_false false x y go h = refl
+both_false b x y go h = grind arith
 
 each_false : (b c x z y : Bool) → b ≡ c → (x ≡ false → z ≡ false → y ≡ false) → (b && x) ≡ false → (c && z) ≡ false → (b && y) ≡ false
-each_false true true x z y e go h k = go h k
-each_false true false x z y e go h k = cc
-each_false false c x z y e go h k = refl
+each_false b c x z y e go h k = grind arith
 
 pub either_false : (x y : Bool) → x ≡ false → y ≡ false → (x || y) ≡ false
 either_false x y p q = ap₂ (λ (a b : Bool). a || b) p q
@@ -104,8 +98,7 @@ indexes_part [] [] i j h k = cc
 indexes_part [] (name n ∷ m) i j h k = refl
 indexes_part [] (index n ∷ m) i j h k = ap (λ (b : Bool). same_step (index i) (index n) && b) (ends_in_index m j ∙ h) ∙ and-false (same_step (index i) (index n))
 indexes_part (s ∷ l) [] i j h k = ap (λ (b : Bool). same_step s (index j) && b) (no_room l (index i)) ∙ and-false (same_step s (index j))
-indexes_part (s ∷ l) (t ∷ m) i j h k =
-    each_false (same_step s t) (same_step t s) (goes_on_by_indexes l m) (goes_on_by_indexes m l) (goes_on_by_indexes (l ++ index i ∷ []) (m ++ index j ∷ [])) (same_back s t) (indexes_part l m i j) h k
+indexes_part (s ∷ l) (t ∷ m) i j h k = grind (arith, same_back, indexes_part l m i j)
 
 steps_part : (l m : Location) (s t : Step) → same_location l m ≡ false → same_location (l ++ s ∷ []) (m ++ t ∷ []) ≡ false
 steps_part [] [] s t h = cc
@@ -171,11 +164,7 @@ IsIndex (index i) = Unit {0}
 -- only the steps that lead to a child
 presents : {X : Type 0} (d : Document) (to : X → Step) (xs : List X) → flat_map (λ x. present d (to x)) xs ≡ filter (λ s. is_some (child s d)) (map to xs)
 presents d to [] = refl
-presents {X} d to (x ∷ xs) = ap (λ (ss : List Step). present d (to x) ++ ss) (presents d to xs) ∙ by (is_some (child (to x) d)) (filter (λ s. is_some (child s d)) (map to xs))
-  where
-    by : (b : Bool) (ss : List Step) → cond b (to x ∷ []) [] ++ ss ≡ cond b (to x ∷ ss) ss
-    by true ss = refl
-    by false ss = refl
+presents {X} d to (x ∷ xs) = grind (arith, presents d to xs)
 
 present_each : {X : Type 0} (P : Step → Type 0) (d : Document) (to : X → Step) (xs : List X) → AllByRecursion (λ x. P (to x)) xs → AllByRecursion P (flat_map (λ x. present d (to x)) xs)
 present_each P d to xs h = subst (AllByRecursion P) (sym (presents d to xs)) (all_filter P (λ s. is_some (child s d)) (map to xs) (all_map P to xs h))
@@ -221,19 +210,7 @@ list_kind : (d : Document) (ks : List (List ℕ)) → AllByRecursion IsName (sel
 list_kind d ks = present_each IsName d name ks (anything ks)
 
 from_front : (d : Document) (n : ℕ) → nth_of d (pos n) ≡ present d (index n)
-from_front (array ds) n = by (leb_tells n (items_len ds))
-  where
-    there : Option Document → ℕ → List Step
-    there o i = cond (is_some o) (index i ∷ []) []
-
-    by : ((leb n (items_len ds) ≡ true) × (n ≤ items_len ds)) ⊎ ((leb n (items_len ds) ≡ false) × (items_len ds < n)) → nth_of (array ds) (pos n) ≡ present (array ds) (index n)
-    by (inl h) = let is : min n (items_len ds) ≡ n = omega (arith, h.1) in ap (λ (i : ℕ). present (array ds) (index i)) is
-    by (inr h) =
-        let is : min n (items_len ds) ≡ items_len ds = omega (arith, h.1) in
-        let end : get_item (items_len ds) ds ≡ None = past_end (items_len ds) ds (omega arith) in
-        let past : get_item n ds ≡ None = past_end n ds (omega (arith, h.1)) in
-        ap (λ (i : ℕ). present (array ds) (index i)) is ∙ ap (λ (o : Option Document). there o (items_len ds)) end ∙ sym (ap (λ (o : Option Document). there o n) past)
-from_front _ n = refl
+from_front d n = grind (arith, past_end)
 
 -- an index that counts from the front
 abbrev front : ℤ → ℕ
@@ -241,13 +218,7 @@ front (pos n) = n
 front (negsuc n) = 0
 
 numbers_differ : (n m : ℤ) → pos 0 ≤ℤ n → pos 0 ≤ℤ m → eq_by_cmp int_cmp n m ≡ false → same_step (index (front n)) (index (front m)) ≡ false
-numbers_differ (negsuc n) m p q h = absurd (p.le)
-numbers_differ (pos n) (negsuc m) p q h = absurd (q.le)
-numbers_differ (pos n) (pos m) p q h = by (eqb_tells n m)
-  where
-    by : ((nat_eq n m ≡ true) × (n ≡ m)) ⊎ ((nat_eq n m ≡ false) × (n ≡ m → ⊥)) → nat_eq n m ≡ false
-    by (inl e) = let tied : eq_by_cmp int_cmp (pos n) (pos m) ≡ true = ap (λ (i : ℕ). eq_by_cmp int_cmp (pos n) (pos i)) (sym e.1) ∙ (eq_by_cmp_equiv int_cmp_total).refl (pos n) in cc
-    by (inr e) = e.0
+numbers_differ n m p q h = grind arith
 
 all_from_front : (d : Document) (ns : List ℤ) → AllByRecursion (λ n. pos 0 ≤ℤ n) ns → flat_map (λ n. present d (index (front n))) ns ≡ selected (union ns) d
 all_from_front d [] p = refl
@@ -282,8 +253,7 @@ children_once (object ms) h = subst DistinctSteps (name_steps ms) (kids_once (me
 children_once _ h = tt
 
 document_in_order : (d : Document) → IsOrderedDocument d → HasNamesInOrder d
-document_in_order (object ms) h = h.0
-document_in_order _ h = tt
+document_in_order d h = grind arith
 
 -- ---- the laws of steps
 
@@ -291,23 +261,13 @@ pub apart_parts : (l m : Location) → in_one_array l m ≡ false → (goes_on_b
 apart_parts l m h = or_parts (goes_on_by_indexes l m) (goes_on_by_indexes m l) h
 
 own_stand_apart : (l : Location) (s t : Step) → same_step s t ≡ false → in_one_array (l ++ s ∷ []) (l ++ t ∷ []) ≡ false
-own_stand_apart l s t h =
-    either_false (goes_on_by_indexes (l ++ s ∷ []) (l ++ t ∷ [])) (goes_on_by_indexes (l ++ t ∷ []) (l ++ s ∷ [])) (own_apart l s t h) (own_apart l t s (same_back t s ∙ h))
+own_stand_apart l s t h = grind (arith, own_apart, same_back)
 
 names_across : (l m : Location) (s t : Step) → is_same l m ≡ false → IsName s → IsName t → in_one_array (l ++ s ∷ []) (m ++ t ∷ []) ≡ false
-names_across l m (name k) (name j) h p q =
-    either_false (goes_on_by_indexes (l ++ name k ∷ []) (m ++ name j ∷ [])) (goes_on_by_indexes (m ++ name j ∷ []) (l ++ name k ∷ []))
-    (names_part l m k j (is_other l m h)) (names_part m l j k (is_other m l (same_turned m l ∙ h)))
-names_across l m (name k) (index j) h p q = absurd q
-names_across l m (index i) t h p q = absurd p
+names_across l m s t h p q = grind (arith, is_other, names_part, same_turned)
 
 indexes_across : (l m : Location) (s t : Step) → in_one_array l m ≡ false → IsIndex s → IsIndex t → in_one_array (l ++ s ∷ []) (m ++ t ∷ []) ≡ false
-indexes_across l m (index i) (index j) h p q =
-    let parts = apart_parts l m h in
-    either_false (goes_on_by_indexes (l ++ index i ∷ []) (m ++ index j ∷ [])) (goes_on_by_indexes (m ++ index j ∷ []) (l ++ index i ∷ []))
-    (indexes_part l m i j parts.0 parts.1) (indexes_part m l j i parts.1 parts.0)
-indexes_across l m (index i) (name k) h p q = absurd q
-indexes_across l m (name k) t h p q = absurd p
+indexes_across l m s t h p q = grind (arith, apart_parts, indexes_part)
 
 -- the same location goes on by no index
 same_goes_on : (l m : Location) → goes_on_by_indexes l m ≡ false → same_location l m ≡ false
@@ -338,13 +298,10 @@ no_star : (doc : Document) (p : Plain) (ls : List Location) → is_every p ≡ f
 no_star doc p ls h k = cc
 
 name_kind : (p : Plain) (d : Document) → goes_by_names p ≡ true → AllByRecursion IsName (selected p d)
-name_kind (named k) d h = present_kind IsName d (name k) tt
-name_kind (listed ks) d h = list_kind d ks
-name_kind _ d h = cc
+name_kind p d h = grind (arith, list_kind)
 
 names_are_not_all : (p : Plain) → goes_by_names p ≡ true → is_every p ≡ false
-names_are_not_all every h = cc
-names_are_not_all _ h = refl
+names_are_not_all p h = grind arith
 
 pub lists_stand_apart : ListsStandApart
 lists_stand_apart doc p ls by_names once h =
@@ -428,8 +385,7 @@ flat_part : (l m a b : Location) → are_indexes a ≡ true → are_indexes b �
 flat_part [] [] a b p q h k = cc
 flat_part [] (t ∷ m) a b p q h k = off_the_array a (t ∷ m) b p h
 flat_part (s ∷ l) [] a b p q h k = same_location_turned (s ∷ (l ++ a)) b ∙ off_the_array b (s ∷ l) a q k
-flat_part (s ∷ l) (t ∷ m) a b p q h k =
-    each_false (same_step s t) (same_step t s) (goes_on_by_indexes l m) (goes_on_by_indexes m l) (same_location (l ++ a) (m ++ b)) (same_back s t) (flat_part l m a b p q) h k
+flat_part (s ∷ l) (t ∷ m) a b p q h k = grind (arith, each_false, same_back, flat_part l m a b p q)
 
 flat_distinct : (doc : Document) (ls : List Location) → IsApart ls → HasNoRepeat (from_each doc flat ls)
 flat_distinct doc ls h =
@@ -449,9 +405,7 @@ later_pairs l ls before h k = all_append (λ b. AllByRecursion (λ m. is_same b 
 kept_whole : (before ls : List Location) → AllPairs is_same before ls → HasNoRepeat ls → each_once_after before ls ≡ ls
 unfolding IsDistinct
 kept_whole before [] p h = refl
-kept_whole before (l ∷ ls) p h =
-    ap (λ (b : Bool). cond b (each_once_after before ls) (l ∷ each_once_after (before ++ l ∷ []) ls)) (none_before l ls before p)
-    ∙ ap (λ (ms : List Location). l ∷ ms) (kept_whole (before ++ l ∷ []) ls (later_pairs l ls before p h.0) h.1)
+kept_whole before (l ∷ ls) p h = grind (arith, none_before, kept_whole (before ++ l ∷ []) ls (later_pairs l ls before p h.0) h.1)
 
 pub apart_has_no_repeat_flat : ApartHasNoRepeatFlat
 apart_has_no_repeat_flat doc ls h = kept_whole [] (from_each doc flat ls) tt (flat_distinct doc ls h)
@@ -465,8 +419,7 @@ no_array (Some (array ds)) = false
 no_array (Some _) = true
 
 no_item : (d : Document) (i : ℕ) (m : Location) → no_array (Some d) ≡ true → no_array (at d (index i ∷ m)) ≡ true → ⊥
-no_item null i m h k = cc
-no_item _ i m h k = cc
+no_item d i m h k = grind arith
 
 -- of two such values none stands behind the other in an array
 ends_there : (l m : Location) (d : Document) → no_array (at d l) ≡ true → no_array (at d m) ≡ true → goes_on_by_indexes l m ≡ true → same_location l m ≡ true
@@ -482,12 +435,10 @@ ends_there (s ∷ l) (t ∷ m) d p q h =
   where
     by : (o : Option Document) → ((c : Document) → no_array (at c l) ≡ true → no_array (at c m) ≡ true → goes_on_by_indexes l m ≡ true → same_location l m ≡ true)
         → no_array (option_and_then (λ c. at c l) o) ≡ true → no_array (option_and_then (λ c. at c m) o) ≡ true → goes_on_by_indexes l m ≡ true → same_location l m ≡ true
-    by None go p q h = cc
-    by (Some c) go p q h = go c p q h
+    by o go p q h = grind arith
 
 pub opposite : (b c : Bool) → (b ≡ true → c ≡ true) → c ≡ false → b ≡ false
-opposite true c go h = let e : c ≡ true = go refl in cc
-opposite false c go h = refl
+opposite b c go h = grind arith
 
 candidates_part : (doc : Document) (l m : Location) → no_array (at doc l) ≡ true → no_array (at doc m) ≡ true → is_same l m ≡ false → in_one_array l m ≡ false
 candidates_part doc l m p q h =
@@ -497,9 +448,7 @@ candidates_part doc l m p q h =
 
 from_item : (all : Items) (n : ℕ) (d : Document) (ls : List Location) → get_item n all ≡ Some d → AllByRecursion (λ m. no_array (at d m) ≡ true) ls
     → AllByRecursion (λ m. no_array (at (array all) m) ≡ true) (map (λ (l : Location). index n ∷ l) ls)
-from_item all n d ls is h =
-    all_map (λ m. no_array (at (array all) m) ≡ true) (λ (l : Location). index n ∷ l) ls
-    (all_then (λ m. no_array (at d m) ≡ true) (λ m. no_array (at (array all) (index n ∷ m)) ≡ true) ls (λ m k. ap (λ (o : Option Document). no_array (option_and_then (λ c. at c m) o)) is ∙ k) h)
+from_item all n d ls is h = grind (arith, all_map, all_then)
 
 mutual
   flat_candidates : (d : Document) → AllByRecursion (λ m. no_array (at d m) ≡ true) (flat d)
@@ -525,11 +474,7 @@ all_candidates doc (l ∷ ls) = all_append (λ m. no_array (at doc m) ≡ true) 
 -- each once: what is left of a list, and none of what was before
 pub once_keeps : (P : Location → Type 0) (before ls : List Location) → AllByRecursion P ls → AllByRecursion P (each_once_after before ls)
 once_keeps P before [] h = tt
-once_keeps P before (l ∷ ls) h = by (list_any (is_same l) before) (once_keeps P before ls h.1) (once_keeps P (before ++ l ∷ []) ls h.1)
-  where
-    by : (b : Bool) → AllByRecursion P (each_once_after before ls) → AllByRecursion P (each_once_after (before ++ l ∷ []) ls) → AllByRecursion P (cond b (each_once_after before ls) (l ∷ each_once_after (before ++ l ∷ []) ls))
-    by true known new = known
-    by false known new = (h.0, new)
+once_keeps P before (l ∷ ls) h = grind (arith, once_keeps P before ls h.1, once_keeps P (before ++ l ∷ []) ls h.1)
 
 none_among : (l : Location) (before : List Location) → list_any (is_same l) before ≡ false → AllPairs is_same before (l ∷ [])
 none_among l [] h = tt

@@ -1,5 +1,5 @@
 -- The topmost of a list of locations; and a set in document order.
-use Rattle.std.proofs.Common.{◌≡◌, ◌⊎◌, inl, inr, List, [], ◌∷◌, ◌++◌, map, Option, Some, None, Bool, true, false, cond, Less, Equal, Greater, refl, sym, ap, ap₂, ◌∙◌, append_assoc, append-nil, subst}
+use Rattle.std.proofs.Common.{◌≡◌, ◌⊎◌, inl, inr, List, [], ◌∷◌, ◌++◌, map, Option, Some, None, Bool, true, false, cond, Less, Equal, Greater, refl, sym, ap, ap₂, ◌∙◌, append_assoc, append-nil, subst, arith}
 use Rattle.std.specs.Prelude.{option_and_then, option_map, unwrap_or}
 use Rattle.std.proofs.lemmas.Bool.{and_parts}
 use Rattle.std.specs.List.{AllByRecursion}
@@ -39,13 +39,7 @@ goes_on (s ∷ m) (t ∷ l) h =
 
 left_back : (last : Option Location) (l : Location) (ls : List Location) → IsAmong l (topmost_after last ls) → IsAmong l ls
 left_back last l [] h = h
-left_back last l (m ∷ ls) h = by (is_at_or_below last m) h (left_back last l ls) (left_back (Some m) l ls)
-  where
-    by : (b : Bool) → IsAmong l (cond b (topmost_after last ls) (m ∷ topmost_after (Some m) ls)) → (IsAmong l (topmost_after last ls) → IsAmong l ls)
-        → (IsAmong l (topmost_after (Some m) ls) → IsAmong l ls) → IsAmong l (m ∷ ls)
-    by true a old new = inr (old a)
-    by false (inl e) old new = inl e
-    by false (inr a) old new = inr (new a)
+left_back last l (m ∷ ls) h = grind (arith, left_back last l ls, left_back (Some m) l ls)
 
 -- at or above a location stands one that is left, or the one that was kept last
 abbrev Higher : Option Location → List Location → Location → Type 0
@@ -86,11 +80,7 @@ below_back doc l x docs h = by (at doc l) refl h
         (found.0, value.0, found.1, at-append l found.0 doc ∙ ap (option_and_then (λ (c : Document). at c found.0)) is ∙ value.1)
 
 below_to : (doc : Document) (m z : Location) (c : Document) → at doc (m ++ z) ≡ Some c → IsAmong (m ++ z) (from doc below m)
-below_to doc m z c h = by (at doc m) (sym (at-append m z doc) ∙ h)
-  where
-    by : (o : Option Document) → option_and_then (λ (d : Document). at d z) o ≡ Some c → IsAmong (m ++ z) (map (λ (y : Location). m ++ y) (unwrap_or (option_map below o) []))
-    by None e = cc
-    by (Some d) e = among_map (λ (y : Location). m ++ y) z (below d) (below_complete z d c e)
+below_to doc m z c h = grind (arith, among_map, at-append, below_complete)
 
 below_higher : (doc : Document) (l m k x : Location) → IsOrderedDocument doc → m ++ k ≡ l → IsAmong x (from doc below l) → IsAmong x (from doc below m)
 below_higher doc l m k x docs is h =

@@ -1,5 +1,5 @@
 -- A value's document, level by level, and a `BTreeMap` beside the members that it stands for.
-use Rattle.std.proofs.Common.{◌≡◌, ℕ, zero, suc, ◌<◌, ◌≤◌, List, [], ◌∷◌, length, get_or, Option, Some, None, option_map, String, BTreeMap, Global, Ordering, Less, Equal, Greater, string_bytes, nat_cmp, refl, ap, ◌∙◌}
+use Rattle.std.proofs.Common.{◌≡◌, ℕ, zero, suc, ◌<◌, ◌≤◌, List, [], ◌∷◌, length, get_or, Option, Some, None, option_map, String, BTreeMap, Global, Ordering, string_bytes, nat_cmp, refl, ap, ◌∙◌, arith}
 use Rattle.std.specs.Cmp.Lexicographic.{slice_cmp}
 use Rattle.std.specs.Borrow.{Bor}
 use Rattle.std.specs.Map.{lookup}
@@ -21,9 +21,7 @@ view-Object m = ap document_of (views.view-Object m)
 -- ---- what is found in data is found in their document
 
 found : (o : Ordering) (rest : Option kept.Data) (e : kept.Data) (r : Option Document) → option_map document_of rest ≡ r → option_map document_of (match_ordering o rest (Some e) rest) ≡ match_ordering o r (Some (document_of e)) r
-found Less rest e r h = h
-found Equal rest e r h = refl
-found Greater rest e r h = h
+found o rest e r h = grind arith
 
 member_of : (k : List ℕ) (ms : kept.Members) → option_map document_of (kept_find.get_member k ms) ≡ get_member k (members_of ms)
 member_of k kept.no_members = refl
@@ -35,26 +33,15 @@ item_of zero (kept.item d ds) = refl
 item_of (suc n) (kept.item d ds) = item_of n ds
 
 by_name : (k : List ℕ) (d : kept.Data) → option_map document_of (kept_find.get k d) ≡ get k (document_of d)
-by_name k kept.null = refl
-by_name k (kept.boolean b) = refl
-by_name k (kept.number n) = refl
-by_name k (kept.string s) = refl
-by_name k (kept.array ds) = refl
-by_name k (kept.object ms) = member_of k ms
+by_name k d = grind (arith, member_of)
 
 by_index : (i : ℕ) (d : kept.Data) → option_map document_of (kept_find.at i d) ≡ item_at i (document_of d)
-by_index i kept.null = refl
-by_index i (kept.boolean b) = refl
-by_index i (kept.number n) = refl
-by_index i (kept.string s) = refl
-by_index i (kept.array ds) = item_of i ds
-by_index i (kept.object ms) = refl
+by_index i d = grind (arith, item_of)
 
 -- ---- what is found in a value
 
 shown : (r : Option (Bor Value)) → option_map (λ v. document_of (view v.now)) r ≡ option_map document_of (option_map (λ v. view v.now) r)
-shown None = refl
-shown (Some v) = refl
+shown r = grind arith
 
 pub value_by_name : (k : List ℕ) (v : Value) (r : Option (Bor Value)) → option_map (λ x. view x.now) r ≡ kept_find.get k (view v) → option_map (λ x. document_of (view x.now)) r ≡ get k (value_document v)
 value_by_name k v r h = shown r ∙ ap (option_map document_of) h ∙ by_name k (view v)
@@ -63,8 +50,7 @@ pub value_by_index : (i : ℕ) (v : Value) (r : Option (Bor Value)) → option_m
 value_by_index i v r h = shown r ∙ ap (option_map document_of) h ∙ by_index i (view v)
 
 twice : (r : Option Value) → option_map value_document r ≡ option_map document_of (option_map view r)
-twice None = refl
-twice (Some v) = refl
+twice r = grind arith
 
 pub view-lookup : (name : List ℕ) (es : List Entry) → option_map value_document (lookup (is_at (λ k. slice_cmp nat_cmp name (string_bytes k))) es) ≡ get_member name (members_document es)
 view-lookup name es = twice _ ∙ ap (option_map document_of) (views.view-lookup name es) ∙ member_of name (members_view es)

@@ -1,16 +1,14 @@
 -- What is put at a location leaves the locations apart from it as they were.
-use Rattle.std.proofs.Common.{◌≡◌, ℕ, zero, suc, List, [], ◌∷◌, Option, Some, None, option_and_then, MatchOption, Bool, true, false, not, ◌||◌, Ordering, Less, Equal, Greater, nat_cmp, is_eq, refl, sym, ap, ◌∙◌}
-use Rattle.std.proofs.lemmas.Bool.{eqb-true, eqb-false}
+use Rattle.std.proofs.Common.{◌≡◌, ℕ, zero, suc, List, [], ◌∷◌, Option, Some, None, option_and_then, MatchOption, Bool, true, false, not, ◌||◌, Ordering, Less, Equal, Greater, nat_cmp, is_eq, refl, sym, ap, ◌∙◌, arith}
 use Rattle.std.proofs.lemmas.Cmp.{nat_list_cmp_total}
-use Rattle.std.specs.Cmp.{Equal-is}
 use Rattle.std.specs.Cmp.Lexicographic.{slice_cmp}
 use Rattle.std.specs.List.{AllByRecursion}
 use Rattle.std.specs.Ordering.{match_ordering}
-use Rattle.jsonpath_nodes.specs.document.Document.{Document, null, array, object, Items, no_items, item, Members, no_members, member}
+use Rattle.jsonpath_nodes.specs.document.Document.{Document, null, Items, no_items, item, Members, no_members, member}
 use Rattle.jsonpath_nodes.specs.document.Find.{get_item, get_member}
 use Rattle.jsonpath_nodes.proofs.step.DistinctLemmas.{all_then}
 use Rattle.jsonpath_nodes.proofs.update.SetLemmas.{same_itself}
-use Rattle.jsonpath_nodes.specs.place.Location.{Step, name, index, Location, child}
+use Rattle.jsonpath_nodes.specs.place.Location.{Step, Location, child}
 use Rattle.jsonpath_nodes.proofs.place.ThereLemmas.{there}
 use Rattle.jsonpath_nodes.specs.update.Apart.{apart, apart_below_root, AllApart, IsPlaced, NothingTakenAway}
 use Rattle.jsonpath_nodes.specs.update.Update.{member_if, edit_item, edit_member, edit, with_answer_at, update, target}
@@ -34,23 +32,9 @@ item_here f i no_items p = refl
 item_here f zero (item d ds) p = rw (p d).1 refl
 item_here f (suc i) (item d ds) p = item_here f i ds p
 
-member_other_at : (o r : Ordering) (f : Document → Option Document) (k q l : List ℕ) (d : Document) (ms : Members) → Puts f → slice_cmp nat_cmp k l ≡ o → slice_cmp nat_cmp q l ≡ r → (o ≡ Equal → r ≡ Equal → ⊥)
-    → get_member q (edit_member f k ms) ≡ get_member q ms
-    → get_member q (match_ordering o (member l d (edit_member f k ms)) (member_if l (f d) ms) (member l d (edit_member f k ms))) ≡ match_ordering r (get_member q ms) (Some d) (get_member q ms)
-member_other_at Less r f k q l d ms p e g h later = rw (g, later) refl
-member_other_at Equal Less f k q l d ms p e g h later = rw ((p d).1, g) refl
-member_other_at Equal Equal f k q l d ms p e g h later = absurd (h refl refl)
-member_other_at Equal Greater f k q l d ms p e g h later = rw ((p d).1, g) refl
-member_other_at Greater r f k q l d ms p e g h later = rw (g, later) refl
-
 member_other : (f : Document → Option Document) (k q : List ℕ) (ms : Members) → Puts f → is_eq (slice_cmp nat_cmp k q) ≡ false → get_member q (edit_member f k ms) ≡ get_member q ms
 member_other f k q no_members p h = refl
-member_other f k q (member l d ms) p h =
-    let both = λ (x : slice_cmp nat_cmp k l ≡ Equal) (y : slice_cmp nat_cmp q l ≡ Equal).
-    let back : slice_cmp nat_cmp l q ≡ Equal = nat_list_cmp_total.antisymm l q ∙ rw y refl in
-    let level : slice_cmp nat_cmp k q ≡ Equal = nat_list_cmp_total.congr k l q x ∙ back in
-    let bad : true ≡ false = sym (ap is_eq level) ∙ h in absurd (cc) in
-    member_other_at (slice_cmp nat_cmp k l) (slice_cmp nat_cmp q l) f k q l d ms p refl refl both (member_other f k q ms p h)
+member_other f k q (member l d ms) p h = grind (arith, nat_list_cmp_total, member_other f k q ms p h)
 
 member_here_at : (o : Ordering) (f : Document → Option Document) (k q l : List ℕ) (d : Document) (ms : Members) → Puts f → slice_cmp nat_cmp k l ≡ o → slice_cmp nat_cmp q l ≡ o
     → get_member q (edit_member f k ms) ≡ option_and_then f (get_member q ms)
@@ -61,38 +45,22 @@ member_here_at Greater f k q l d ms p e g later = rw (g, later) refl
 
 member_here : (f : Document → Option Document) (k q : List ℕ) (ms : Members) → Puts f → slice_cmp nat_cmp k q ≡ Equal → get_member q (edit_member f k ms) ≡ option_and_then f (get_member q ms)
 member_here f k q no_members p h = refl
-member_here f k q (member l d ms) p h =
-    rw (← nat_list_cmp_total.congr k q l h) (member_here_at (slice_cmp nat_cmp k l) f k q l d ms p refl (sym (nat_list_cmp_total.congr k q l h)) (member_here f k q ms p h))
+member_here f k q (member l d ms) p h = grind (arith, member_here_at, nat_list_cmp_total, member_here f k q ms p h)
 
 child_other : (f : Document → Option Document) (s t : Step) (d : Document) → Puts f → same_step s t ≡ false → child t (edit f s d) ≡ child t d
-child_other f (name k) (name q) (object ms) p h = member_other f k q ms p h
-child_other f (name k) (index j) (object ms) p h = refl
-child_other f (index i) (name q) (array ds) p h = refl
-child_other f (index i) (index j) (array ds) p h = item_other f i j ds p (eqb-false i j h)
-child_other f _ _ _ p h = refl
+child_other f s t d p h = grind (arith, item_other, member_other)
 
 child_here : (f : Document → Option Document) (s t : Step) (d : Document) → Puts f → same_step s t ≡ true → child t (edit f s d) ≡ option_and_then f (child t d)
-child_here f (name k) (name q) (object ms) p h = member_here f k q ms p ((Equal-is (slice_cmp nat_cmp k q)).0 h)
-child_here f (name k) (index j) d p h = absurd (cc)
-child_here f (index i) (name q) d p h = absurd (cc)
-child_here f (index i) (index j) (array ds) p h = rw (← eqb-true i j h) (item_here f i ds p)
-child_here f _ _ _ p h = refl
+child_here f s t d p h = grind (arith, item_here, member_here)
 
 puts : (x : Document) (l : Location) → Puts (with_answer_at (Some x) l)
 puts x [] c = (x, refl)
 puts x (s ∷ l) c = (edit (with_answer_at (Some x) l) s c, refl)
 
--- at m, seen from a child that the edit changed
-below : (x : Document) (m l : Location) (o : Option Document) → ((c : Document) → option_and_then (there m) (with_answer_at (Some x) l c) ≡ there m c)
-    → option_and_then (there m) (option_and_then (with_answer_at (Some x) l) o) ≡ option_and_then (there m) o
-below x m l None h = refl
-below x m l (Some c) h = h c
-
 apart_at : (b : Bool) (x : Document) (t s : Step) (m l : Location) (d : Document) → same_step s t ≡ b
     → ((c : Document) → apart m l ≡ true → option_and_then (there m) (with_answer_at (Some x) l c) ≡ there m c) → (not b || apart m l) ≡ true
     → option_and_then (there m) (child t (edit (with_answer_at (Some x) l) s d)) ≡ option_and_then (there m) (child t d)
-apart_at true x t s m l d e deep h = rw (child_here (with_answer_at (Some x) l) s t d (puts x l) e) (below x m l (child t d) (λ c. deep c h))
-apart_at false x t s m l d e deep h = rw (child_other (with_answer_at (Some x) l) s t d (puts x l) e) refl
+apart_at b x t s m l d e deep h = grind (arith, child_here, child_other, puts)
 
 -- with x put at l, m has what it had
 apart_answer : (x : Document) (m l : Location) (c : Document) → apart m l ≡ true → option_and_then (there m) (with_answer_at (Some x) l c) ≡ there m c
@@ -117,8 +85,7 @@ at_nulled m ls d h = ap (there m) (sym (each_null ls d)) ∙ at_each null m ls d
 -- what was put at a location that leads somewhere is found there
 answer_found_at : (x : Document) (s : Step) (l : Location) (d e : Document) (o : Option Document) → child s d ≡ o → option_and_then (there l) o ≡ Some e
     → ((c : Document) → there l c ≡ Some e → option_and_then (there l) (with_answer_at (Some x) l c) ≡ Some x) → option_and_then (there l) (child s (edit (with_answer_at (Some x) l) s d)) ≡ Some x
-answer_found_at x s l d e None is found deep = absurd (cc)
-answer_found_at x s l d e (Some c) is found deep = rw (child_here (with_answer_at (Some x) l) s s d (puts x l) (same_itself s), is) (deep c found)
+answer_found_at x s l d e o is found deep = grind (arith, child_here, puts, same_itself)
 
 answer_found : (x : Document) (l : Location) (d e : Document) → there l d ≡ Some e → option_and_then (there l) (with_answer_at (Some x) l d) ≡ Some x
 answer_found x [] d e h = refl
@@ -139,14 +106,7 @@ RunAt o l ls before asked after = MatchOption o (IsRun ls before asked after)
 -- a location apart from all of them has what it had
 run_apart_at : (o : Option Document) (m l : Location) (ls : List Location) (before : Document) (asked : List Asked) (after : Document) → apart_below_root m l ≡ true → NothingTakenAway asked → RunAt o l ls before asked after
     → ((b : Document) (ps : List Asked) → NothingTakenAway ps → IsRun ls b ps after → there m after ≡ there m b) → there m after ≡ there m before
-run_apart_at None m l ls before asked after h all r later = later before asked all r
-run_apart_at (Some d) m l ls before [] after h all r later = absurd (cc)
-run_apart_at (Some d) m l ls before ((e, None) ∷ asked) after h all r later = absurd (let bad : false ≡ true = all.0 in cc)
-run_apart_at (Some d) m l ls before ((e, Some x) ∷ asked) after h all r later =
-    let more : asked ≡ r.1 = cc in
-    let heads : (e, Some x) ≡ (d, r.0) = cc in
-    let said : r.0 ≡ Some x = sym (ap (λ (q : Asked). q.1) heads) in
-    later (update l (Some x) before) asked all.1 (rw (more, ← said) r.3) ∙ at_update x m l before h
+run_apart_at o m l ls before asked after h all r later = grind (arith, at_update)
 
 pub run_apart : (m : Location) (ls : List Location) (before : Document) (asked : List Asked) (after : Document) → AllByRecursion (λ l. apart_below_root m l ≡ true) ls → NothingTakenAway asked
     → IsRun ls before asked after → there m after ≡ there m before
@@ -159,8 +119,7 @@ PlacedAt o l ls before asked after = MatchOption o (IsPlaced ls before asked aft
 
 placed_step : (o : Option Document) (m : Location) (ls : List Location) (mid before : Document) (asked : List Asked) (after : Document) → ((ps : List Asked) → IsPlaced ls mid ps after → IsPlaced ls before ps after)
     → PlacedAt o m ls mid asked after → PlacedAt o m ls before asked after
-placed_step None m ls mid before asked after later p = later asked p
-placed_step (Some d) m ls mid before asked after later p = (p.0, p.1, p.2, p.3, later p.1 p.4)
+placed_step o m ls mid before asked after later p = grind arith
 
 placed_before : (x : Document) (l : Location) (ls : List Location) (before : Document) (asked : List Asked) (after : Document) → AllByRecursion (λ m. (apart_below_root l m ≡ true) × (apart_below_root m l ≡ true)) ls
     → IsPlaced ls (update l (Some x) before) asked after → IsPlaced ls before asked after

@@ -27,10 +27,6 @@ nothing : (b : Bool) (us : List Location) → us ≡ [] → cond b [] us ≡ us
 nothing true us e = sym e
 nothing false us e = refl
 
-taken_out : (b : Bool) (l : Location) (us : List Location) → cond b [] us ≡ cond b [] (cond b (l ∷ us) us)
-taken_out true l us = refl
-taken_out false l us = refl
-
 left_in : (b c : Bool) (l : Location) (us vs : List Location) → (c ≡ true → b ≡ false) → vs ≡ cond b [] us → cond c (l ∷ vs) vs ≡ cond b [] (cond c (l ∷ us) us)
 left_in true true l us vs h e = absurd (let off : true ≡ false = h refl in cc)
 left_in true false l us vs h e = e
@@ -39,14 +35,7 @@ left_in false c l us vs h e = ap (λ (ws : List Location). cond c (l ∷ ws) ws)
 pub under_elsewhere : (s r : Step) (ls : List Location) → under r (elsewhere s ls) ≡ cond (same_step r s) [] (under r ls)
 under_elsewhere s r [] = sym (nothing (same_step r s) [] refl)
 under_elsewhere s r ([] ∷ ls) = under_elsewhere s r ls
-under_elsewhere s r ((t ∷ l) ∷ ls) = at (same_step t s) refl (under_elsewhere s r ls)
-  where
-    at : (b : Bool) → same_step t s ≡ b → under r (elsewhere s ls) ≡ cond (same_step r s) [] (under r ls)
-        → under r (cond b (elsewhere s ls) ((t ∷ l) ∷ elsewhere s ls)) ≡ cond (same_step r s) [] (cond (same_step t r) (l ∷ under r ls) (under r ls))
-    at true e later =
-        let same : same_step t r ≡ same_step r s = step_congr t s r e ∙ same_back s r in
-        later ∙ taken_out (same_step r s) l (under r ls) ∙ ap (λ (c : Bool). cond (same_step r s) [] (cond c (l ∷ under r ls) (under r ls))) (sym same)
-    at false e later = left_in (same_step r s) (same_step t r) l (under r ls) (under r (elsewhere s ls)) (λ same. sym (step_congr t r s same) ∙ e) later
+under_elsewhere s r ((t ∷ l) ∷ ls) = grind (arith, left_in, same_back, step_congr, under_elsewhere s r ls)
 
 -- the same locations go through each name
 abbrev pub SameNames : List Location → List Location → Type 0
@@ -58,9 +47,7 @@ elsewhere_names k ls ms h q =
 
 same_names : (ls ms : List Location) (es : Members) → SameNames ls ms → members_with_answer None ls es ≡ members_with_answer None ms es
 same_names ls ms no_members h = refl
-same_names ls ms (member k d es) h =
-    ap (λ (us : List Location). member_if k (piece None us d) (members_with_answer None (elsewhere (name k) ls) es)) (h k)
-    ∙ ap (member_if k (piece None (under (name k) ms) d)) (same_names (elsewhere (name k) ls) (elsewhere (name k) ms) es (elsewhere_names k ls ms h))
+same_names ls ms (member k d es) h = grind (arith, elsewhere_names, same_names (elsewhere (name k) ls) (elsewhere (name k) ms) es (elsewhere_names k ls ms h))
 
 -- ---- what goes through one name comes off first
 
@@ -214,5 +201,4 @@ module _ {depth g : ℕ} {ls others : List Location} {k : List ℕ} {l : Locatio
 
     -- a name that the object has not
     pub clears_none : get_member k (members_document es) ≡ None → fs ≡ es → Clears all first (members_document fs) (beyond depth later)
-    clears_none none is =
-        cleared (ap members_document is ∙ sym (edit_member_same (piece None through_name) k (members_document es) (λ c h. let clash : None ≡ Some c = sym none ∙ h in absurd (cc))))
+    clears_none none is = grind (arith, cleared, edit_member_same)

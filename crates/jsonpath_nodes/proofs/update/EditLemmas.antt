@@ -1,13 +1,13 @@
 -- A single update, step by step.
-use Rattle.std.proofs.Common.{◌≡◌, ℕ, zero, suc, List, [], ◌∷◌, Option, Some, None, option_map, MatchOption, Bool, true, false, Ordering, Less, Equal, Greater, nat_cmp, length, nat_eq, true≢false, refl, sym, ap, ◌∙◌}
+use Rattle.std.proofs.Common.{◌≡◌, ℕ, zero, suc, List, [], ◌∷◌, Option, Some, None, option_map, MatchOption, Bool, true, false, Ordering, nat_cmp, length, nat_eq, true≢false, refl, sym, ap, ◌∙◌, arith}
 use Rattle.std.specs.Ordering.{match_ordering}
 use Rattle.std.specs.Fn.{Called}
 use Rattle.std.specs.Cmp.Lexicographic.{slice_cmp}
-use Rattle.jsonpath_nodes.specs.document.Document.{Document, array, object, Items, no_items, item, Members, no_members, member}
+use Rattle.jsonpath_nodes.specs.document.Document.{Document, Items, no_items, item, Members, no_members, member}
 use Rattle.jsonpath_nodes.specs.document.Find.{get_item, get_member}
 use Rattle.jsonpath_nodes.specs.document.OfData.{value_document}
 use Rattle.serde_json.specs.declared.value.Value.{Value}
-use Rattle.jsonpath_nodes.specs.place.Location.{Step, name, index, Location, child}
+use Rattle.jsonpath_nodes.specs.place.Location.{Step, Location, child}
 use Rattle.jsonpath_nodes.proofs.place.ThereLemmas.{there}
 use Rattle.jsonpath_nodes.specs.declared.place.location.LocStep.{LocStep}
 use Rattle.jsonpath_nodes.specs.place.Owned.{owned_step, owned_steps}
@@ -26,18 +26,14 @@ edit_member_by_at : (o : Ordering) (f : Document → Option Document) (k l : Lis
     → match_ordering o (get_member k ms) (Some d) (get_member k ms) ≡ Some c
     → match_ordering o (member l d (edit_member f k ms)) (member_if l (f d) ms) (member l d (edit_member f k ms))
     ≡ match_ordering o (member l d (edit_member (λ _. f c) k ms)) (member_if l (f c) ms) (member l d (edit_member (λ _. f c) k ms))
-edit_member_by_at Less f k l d ms c later e = ap (member l d) (later e)
-edit_member_by_at Equal f k l d ms c later e = let same : d ≡ c = cc in ap (λ x. member_if l (f x) ms) same
-edit_member_by_at Greater f k l d ms c later e = ap (member l d) (later e)
+edit_member_by_at o f k l d ms c later e = grind arith
 
 pub edit_member_by : (f : Document → Option Document) (k : List ℕ) (ms : Members) (c : Document) → get_member k ms ≡ Some c → edit_member f k ms ≡ edit_member (λ _. f c) k ms
 edit_member_by f k no_members c e = refl
 edit_member_by f k (member l d ms) c e = edit_member_by_at (slice_cmp nat_cmp k l) f k l d ms c (edit_member_by f k ms c) e
 
 pub edit_by : (f : Document → Option Document) (s : Step) (d c : Document) → child s d ≡ Some c → edit f s d ≡ edit (λ _. f c) s d
-edit_by f (name k) (object ms) c e = ap object (edit_member_by f k ms c e)
-edit_by f (index i) (array ds) c e = ap array (edit_item_by f i ds c e)
-edit_by f _ _ c e = refl
+edit_by f s d c e = grind (arith, edit_item_by, edit_member_by)
 
 -- ---- an edit that answers the child itself changes nothing
 
@@ -50,18 +46,14 @@ edit_member_same_at : (o : Ordering) (f : Document → Option Document) (k l : L
     → ((c : Document) → match_ordering o (get_member k ms) (Some d) (get_member k ms) ≡ Some c → f c ≡ Some c)
     → (((c : Document) → get_member k ms ≡ Some c → f c ≡ Some c) → edit_member f k ms ≡ ms)
     → match_ordering o (member l d (edit_member f k ms)) (member_if l (f d) ms) (member l d (edit_member f k ms)) ≡ member l d ms
-edit_member_same_at Less f k l d ms h later = ap (member l d) (later h)
-edit_member_same_at Equal f k l d ms h later = ap (λ o. member_if l o ms) (h d refl)
-edit_member_same_at Greater f k l d ms h later = ap (member l d) (later h)
+edit_member_same_at o f k l d ms h later = grind arith
 
 pub edit_member_same : (f : Document → Option Document) (k : List ℕ) (ms : Members) → ((c : Document) → get_member k ms ≡ Some c → f c ≡ Some c) → edit_member f k ms ≡ ms
 edit_member_same f k no_members h = refl
 edit_member_same f k (member l d ms) h = edit_member_same_at (slice_cmp nat_cmp k l) f k l d ms h (edit_member_same f k ms)
 
 pub edit_same : (f : Document → Option Document) (s : Step) (d : Document) → ((c : Document) → child s d ≡ Some c → f c ≡ Some c) → edit f s d ≡ d
-edit_same f (name k) (object ms) h = ap object (edit_member_same f k ms h)
-edit_same f (index i) (array ds) h = ap array (edit_item_same f i ds h)
-edit_same f _ _ h = refl
+edit_same f s d h = grind (arith, edit_item_same, edit_member_same)
 
 pub edit_back : (s : Step) (d : Document) → edit Some s d ≡ d
 edit_back s d = edit_same Some s d (λ c h. refl)
@@ -73,14 +65,12 @@ answer_nowhere answer [] d e = cc
 answer_nowhere answer (s ∷ l) d e = ap Some (edit_same (with_answer_at answer l) s d (λ c h. answer_nowhere answer l c (rw h at e)))
 
 pub update_nowhere : (answer : Option Document) (l : Location) (d : Document) → target l d ≡ None → update l answer d ≡ d
-update_nowhere answer [] d e = refl
-update_nowhere answer (s ∷ l) d e = edit_same (with_answer_at answer l) s d (λ c h. answer_nowhere answer l c (rw h at e))
+update_nowhere answer l d e = grind (arith, answer_nowhere, edit_same)
 
 -- ---- the single update of a child is that of its parent
 
 matched : {T : Type 0} (o : Option T) {P P' : Type 0} {Q Q' : T → Type 0} → (P → P') → ((d : T) → Q d → Q' d) → MatchOption o P Q → MatchOption o P' Q'
-matched None p q h = p h
-matched (Some d) p q h = q d h
+matched o p q h = grind arith
 
 module _ {F : Type 0} (calls : UpdateCalls F) where
   pub nowhere : (s : Step) (l : Location) (d : Document) (f : F) (after : Document) → child s d ≡ None → after ≡ d → IsUpdate calls (s ∷ l) d f false f after

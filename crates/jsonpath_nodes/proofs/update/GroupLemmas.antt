@@ -1,12 +1,8 @@
 -- Locations in order, and those at the front that go through one step.
-use Rattle.std.proofs.Common.{◌≡◌, ℕ, zero, suc, ◌+◌, ◌<◌, ◌≤◌, List, [], ◌∷◌, Bool, true, false, Ordering, Less, Equal, Greater, Some, None, cond, nat_eq, map, take, drop, length, get_or, refl, sym, ap, subst, ◌∙◌, arith}
-use Rattle.std.proofs.lemmas.Bool.{eqb-true, ltb-false, ne_eqb}
+use Rattle.std.proofs.Common.{◌≡◌, ℕ, zero, suc, ◌+◌, ◌<◌, ◌≤◌, List, [], ◌∷◌, Bool, true, false, Ordering, Less, Equal, Greater, Some, None, cond, map, take, drop, length, get_or, refl, sym, ap, subst, ◌∙◌, arith}
 use Rattle.std.proofs.lemmas.List.{drop-drop, drop_all, length-drop, length-map}
-use Rattle.std.specs.Bool.{then_some}
-use Rattle.std.specs.Prelude.{nat_lt}
-use Rattle.std.specs.Cmp.Lexicographic.{slice_cmp}
 use Rattle.std.specs.List.Sorted.{IsStrictlySortedBy}
-use Rattle.std.specs.Ordering.{is_eq, nat_cmp, ordering_reverse, ordering_then}
+use Rattle.std.specs.Ordering.{is_eq, ordering_reverse, ordering_then}
 use Rattle.jsonpath_nodes.specs.place.Location.{Step, name, index, Location, step_cmp, location_cmp}
 use Rattle.jsonpath_nodes.specs.place.Order.{step_total}
 use Rattle.jsonpath_nodes.specs.place.Owned.{owned_step, owned_steps}
@@ -22,9 +18,7 @@ use Rattle.jsonpath_nodes.proofs.update.TakenLemmas.{Before, under_index, under_
 step_on : (n : ℕ) (us : List LocStep) (t : LocStep) → n < length us → t ≡ get_or us n t → drop n (owned_steps us) ≡ owned_step t ∷ owned_steps (drop (n + 1) us)
 step_on n [] t lt at = absurd (omega arith)
 step_on zero (u ∷ us) t lt at = ap (λ (v : LocStep). owned_step v ∷ owned_steps us) (sym at)
-step_on (suc n) (u ∷ us) t lt at =
-    let one : suc n + 1 ≡ suc (n + 1) = omega arith in
-    rw one (step_on n us t (omega arith) at)
+step_on (suc n) (u ∷ us) t lt at = grind (arith, step_on n us t (omega arith) at)
 
 pub stands : (depth : ℕ) (ts : List LocStep) {t : LocStep} {x : Location} {s : Step} → owned_steps ts ≡ x → depth < length ts → t ≡ get_or ts depth t → owned_step t ≡ s → drop depth x ≡ s ∷ owned_steps (drop (depth + 1) ts)
 stands depth ts {t = t} e lt at is = ap (drop depth) (sym e) ∙ step_on depth ts t lt at ∙ ap (λ (r : Step). r ∷ owned_steps (drop (depth + 1) ts)) is
@@ -41,14 +35,10 @@ goes_nowhere ts depth s le = sym (ap (goes_through s) (ends_before depth ts le))
 -- ---- steps
 
 pub is_equal : (o : Ordering) → is_eq o ≡ true → o ≡ Equal
-is_equal Less e = absurd (cc)
-is_equal Equal e = refl
-is_equal Greater e = absurd (cc)
+is_equal o e = grind arith
 
 is_less : (o r : Ordering) → is_eq o ≡ false → ordering_then o r ≡ Less → o ≡ Less
-is_less Less r other e = refl
-is_less Equal r other e = absurd (cc)
-is_less Greater r other e = absurd (cc)
+is_less o r other e = grind arith
 
 -- ---- seen from so many steps on
 
@@ -116,11 +106,7 @@ pub under_other : (s r : Step) (ls : List Location) → same_step s r ≡ false 
 under_other s r ((u ∷ m) ∷ ls) other = by (same_step u s) refl (under_other s r ls other)
   where
     by : (b : Bool) → same_step u s ≡ b → under r (drop (leading s ls) ls) ≡ under r ls → under r (drop (cond b (1 + leading s ls) 0) ((u ∷ m) ∷ ls)) ≡ under r ((u ∷ m) ∷ ls)
-    by true e later =
-        let one : 1 + leading s ls ≡ suc (leading s ls) = omega arith in
-        let skip : same_step u r ≡ false = step_congr u s r e ∙ other in
-        rw (one, skip) later
-    by false e later = refl
+    by b e later = grind (arith, step_congr)
 under_other s r _ other = refl
 
 -- those at the front are all that go through the step
@@ -130,18 +116,12 @@ under_front s ([] ∷ ls) none = none
 under_front s ((u ∷ m) ∷ ls) none = by (same_step u s) refl none (under_front s ls)
   where
     by : (b : Bool) → same_step u s ≡ b → under s (drop (cond b (1 + leading s ls) 0) ((u ∷ m) ∷ ls)) ≡ [] → (under s (drop (leading s ls) ls) ≡ [] → under s ls ≡ map (drop 1) (take (leading s ls) ls)) → cond b (m ∷ under s ls) (under s ls) ≡ map (drop 1) (take (cond b (1 + leading s ls) 0) ((u ∷ m) ∷ ls))
-    by true e h later =
-        let one : 1 + leading s ls ≡ suc (leading s ls) = omega arith in
-        rw one (ap (λ (ms : List Location). m ∷ ms) (later (rw one at h)))
-    by false e h later = rw e at h
+    by b e h later = grind arith
 
 -- ---- what goes through a step is in order too
 
 before_under : (t s : Step) (l : Location) (ls : List Location) → same_step t s ≡ true → Before (t ∷ l) ls → Before l (under s ls)
-before_under (name k) (name q) l ls e h = under_name k q l ls (is_equal (slice_cmp nat_cmp k q) e) h
-before_under (name k) (index i) l ls e h = absurd (cc)
-before_under (index i) (name q) l ls e h = absurd (cc)
-before_under (index i) (index j) l ls e h = let same : i ≡ j = eqb-true i j e in under_index j l ls (rw same at h)
+before_under t s l ls e h = grind (arith, is_equal, under_index, under_name)
 
 pub sorted_under : (s : Step) (ls : List Location) → IsStrictlySortedBy location_cmp ls → IsStrictlySortedBy location_cmp (under s ls)
 unfolding IsStrictlySortedBy
@@ -158,9 +138,7 @@ sorted_under s ((t ∷ l) ∷ ls) h = by (same_step t s) refl (sorted_under s ls
 pub under_same : (s r : Step) (ls : List Location) → same_step s r ≡ true → under s ls ≡ under r ls
 under_same s r [] e = refl
 under_same s r ([] ∷ ls) e = under_same s r ls e
-under_same s r ((t ∷ l) ∷ ls) e =
-    let like : same_step t s ≡ same_step t r = same_back t s ∙ step_congr s r t e ∙ same_back r t in
-    ap (λ (b : Bool). cond b (l ∷ under s ls) (under s ls)) like ∙ ap (λ (us : List Location). cond (same_step t r) (l ∷ us) us) (under_same s r ls e)
+under_same s r ((t ∷ l) ∷ ls) e = grind (arith, same_back, step_congr, under_same s r ls e)
 
 -- ---- how many steps are left, which falls from one level to the next
 
@@ -190,31 +168,16 @@ total-fewer n s l ls = omega (arith, total-one (take n ls), total-take n ls)
 
 -- what a location begins with
 index_there : (n : ℕ) (l : Location) (i : ℕ) → Some i ≡ first_index n l → l ≡ index i ∷ drop 1 l
-index_there n (index j ∷ l) i e = by (nat_lt j n) e
-  where
-    by : (b : Bool) → Some i ≡ then_some b j → index j ∷ l ≡ index i ∷ l
-    by true is = let same : j ≡ i = cc in rw same refl
-    by false is = absurd (cc)
-index_there n _ i e = absurd (cc)
+index_there n l i e = grind arith
 
 pub no_index_there : (n : ℕ) (l : Location) (ls : List Location) → None ≡ first_index n l → (m : ℕ) → m < n → under (index m) (l ∷ ls) ≡ under (index m) ls
-no_index_there n (index j ∷ l) ls e m lt = by (nat_lt j n) refl e
-  where
-    by : (b : Bool) → nat_lt j n ≡ b → None ≡ then_some b j → under (index m) ((index j ∷ l) ∷ ls) ≡ under (index m) ls
-    by true there is = absurd (cc)
-    by false over is =
-        let above : n ≤ j = ltb-false j n over in
-        let other : nat_eq j m ≡ false = ne_eqb j m (λ same. omega arith) in
-        rw other refl
-no_index_there n _ ls e m lt = refl
+no_index_there n l ls e m lt = grind arith
 
 name_there : (l : Location) (k : List ℕ) → Some k ≡ first_name l → l ≡ name k ∷ drop 1 l
-name_there (name j ∷ l) k e = let same : j ≡ k = cc in rw same refl
-name_there _ k e = absurd (cc)
+name_there l k e = grind arith
 
 pub no_name_there : (l : Location) (ls : List Location) → None ≡ first_name l → (q : List ℕ) → under (name q) (l ∷ ls) ≡ under (name q) ls
-no_name_there (name k ∷ l) ls e q = absurd (cc)
-no_name_there _ ls e q = refl
+no_name_there l ls e q = grind arith
 
 pub ends_fewer : (depth : ℕ) (rest others : List Location) (x : Location) → rest ≡ x ∷ others → total (beyond depth others) ≤ total (beyond depth rest)
 ends_fewer depth rest others x e = rw e (omega arith)
@@ -245,9 +208,7 @@ member_front depth {x = x} {k = k} e at count = front_of depth e (name_there (dr
 
 -- the code counts those that go through the step of the first one
 pub group_begins : (depth : ℕ) {ls others : List Location} {x l : Location} {s : Step} → ls ≡ x ∷ others → drop depth x ≡ s ∷ l → leading s (beyond depth ls) ≡ group_len (beyond depth ls)
-group_begins depth {others = others} {s = s} e at =
-    let head = ap (beyond depth) e ∙ ap (λ (m : Location). m ∷ beyond depth others) at in
-    ap (leading s) head ∙ sym (ap group_len head)
+group_begins depth {others = others} {s = s} e at = grind arith
 
 -- whether a location goes on behind its step there
 pub goes_on : (depth : ℕ) (ts : List LocStep) {x : Location} → owned_steps ts ≡ x → depth + 1 < length ts → 0 < length (drop 1 (drop depth x))
@@ -264,24 +225,17 @@ ends_there depth ts is none = rw (← is) (omega (arith, length-map ts owned_ste
 
 module _ {depth g : ℕ} {rest others : List Location} {s : Step} {l : Location} (f : Front depth g rest others s l) where
   pub one_more : g ≡ suc (leading s (beyond depth others))
-  one_more =
-      let is : g ≡ 1 + leading s (beyond depth others) =
-      f.count ∙ ap group_len f.head ∙ ap (λ (b : Bool). cond b (1 + leading s (beyond depth others)) 0) (same_itself s) in
-      omega arith
+  one_more = grind (arith, same_itself)
 
   -- those behind the group
   pub behind_group : (later : List Location) → later ≡ drop g rest → beyond depth later ≡ drop (leading s (beyond depth others)) (beyond depth others)
-  behind_group later is =
-      ap (beyond depth) (is ∙ ap (drop g) f.cases ∙ ap (λ (k : ℕ). drop k (f.first ∷ others)) one_more) ∙ beyond-drop depth (leading s (beyond depth others)) others
+  behind_group later is = grind (arith, beyond-drop, one_more)
 
   pub behind_fewer : (later : List Location) → later ≡ drop g rest → total (beyond depth later) ≤ total (beyond depth rest)
   behind_fewer later is = rw (behind_group later is, f.head) (omega (arith, total-drop (leading s (beyond depth others)) (beyond depth others)))
 
   in_front : (here : List Location) → here ≡ take g rest → beyond (depth + 1) here ≡ l ∷ map (drop 1) (take (leading s (beyond depth others)) (beyond depth others))
-  in_front here is =
-      beyond-one depth here ∙ ap (λ (ms : List Location). map (drop 1) (beyond depth ms)) is ∙ ap (map (drop 1)) (beyond-take depth g rest)
-      ∙ ap (λ (ms : List Location). map (drop 1) (take g ms)) f.head
-      ∙ ap (λ (k : ℕ). map (drop 1) (take k ((s ∷ l) ∷ beyond depth others))) one_more
+  in_front here is = grind (arith, beyond-one, beyond-take, one_more)
 
   -- those in it, seen from one step further on
   pub in_group : (here : List Location) → here ≡ take g rest → IsStrictlySortedBy location_cmp (beyond depth rest) → beyond (depth + 1) here ≡ under s ((s ∷ l) ∷ beyond depth others)

@@ -1,23 +1,14 @@
 -- Items that are moved down in a list by exchanges.
-use Rattle.std.proofs.Common.{◌≡◌, ℕ, ◌+◌, ◌<◌, ◌≤◌, List, [], ◌∷◌, ◌++◌, Bool, true, false, length, get_or, take, drop, set, refl, sym, ap, ◌∙◌, append_assoc, arith}
+use Rattle.std.proofs.Common.{◌≡◌, ℕ, ◌+◌, ◌<◌, ◌≤◌, List, [], ◌∷◌, ◌++◌, length, get_or, take, drop, set, refl, sym, ap, ◌∙◌, append_assoc, arith}
 use Rattle.std.specs.List.{SwappedAt}
-use Rattle.std.specs.Prelude.{nat_lt, slice_range}
-use Rattle.std.proofs.lemmas.Bool.{ltb-true, ltb-false}
+use Rattle.std.specs.Prelude.{slice_range}
+use Rattle.std.proofs.lemmas.Bool.{ltb-false}
 use Rattle.std.proofs.lemmas.List.{drop-drop, take-set-le, take_more_set, drop-set-lt, length-set, get_or-drop, take-set}
 use Rattle.std.proofs.lemmas.List.Edits.{between_more}
 
 module _ {X : Type 0} (d : X) where
   take_exchanged : (xs : List X) (a i : ℕ) (y : X) → a ≤ i → i < length xs → (a ≡ i → y ≡ get_or xs i d) → take (a + 1) (set (set xs a (get_or xs i d)) i y) ≡ take a xs ++ get_or xs i d ∷ []
-  take_exchanged xs a i y le lt same = by (nat_lt a i) refl
-    where
-      by : (b : Bool) → nat_lt a i ≡ b → take (a + 1) (set (set xs a (get_or xs i d)) i y) ≡ take a xs ++ get_or xs i d ∷ []
-      by true e =
-          let below : a < i = ltb-true a i e in
-          take-set-le (a + 1) (set xs a (get_or xs i d)) i y (omega arith) ∙ take_more_set xs a (get_or xs i d) (omega arith)
-      by false e =
-          let above : i ≤ a = ltb-false a i e in
-          let is : a ≡ i = omega arith in
-          rw is (take_more_set (set xs i (get_or xs i d)) i y (omega (arith, length-set xs i (get_or xs i d))) ∙ ap (λ (zs : List X). zs ++ y ∷ []) (take-set xs i (get_or xs i d)) ∙ ap (λ (z : X). take i xs ++ z ∷ []) (same is))
+  take_exchanged xs a i y le lt same = grind (arith, length-set, ltb-false, take-set, take-set-le, take_more_set)
 
   -- after an exchange with a place before it, an item stands there, and what comes after stays
   take_swapped : (xs ys : List X) (a i : ℕ) → a ≤ i → i < length xs → SwappedAt xs ys a i → take (a + 1) ys ≡ take a xs ++ get_or xs i d ∷ []

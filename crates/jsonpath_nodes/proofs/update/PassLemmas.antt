@@ -1,6 +1,6 @@
 -- One pass over the items of an array that takes away at locations in order.
 use Rattle.std.proofs.Common.{◌≡◌, ℕ, zero, suc, ◌+◌, ◌-◌, ◌<◌, ◌≤◌, List, [], ◌∷◌, ◌++◌, Some, None, Bool, true, false, cond, nat_eq, take, drop, set, length, get_or, refl, sym, ap, subst, ◌∙◌, arith}
-use Rattle.std.proofs.lemmas.Bool.{eq-eqb, ne_eqb, eqb-true, eqb-false, ltb-true, ltb-false}
+use Rattle.std.proofs.lemmas.Bool.{eq-eqb, ne_eqb, eqb-true, ltb-true, ltb-false}
 use Rattle.std.specs.Prelude.{nat_lt}
 use Rattle.std.proofs.lemmas.List.{length-drop, length-set, drop-drop, drop_more, drop_all, drop-set-lt, take_more_set, take-set-le}
 use Rattle.std.specs.List.{slice_range, SwappedAt}
@@ -16,7 +16,7 @@ use Rattle.jsonpath_nodes.specs.update.Update.{item_if}
 use Rattle.jsonpath_nodes.proofs.update.GroupLemmas.{Front, behind_group, in_group, no_index_there, no_more, none_after, under_other, sorted_drop, sorted_under}
 use Rattle.jsonpath_nodes.proofs.update.MoveLemmas.{drop_swapped}
 use Rattle.jsonpath_nodes.proofs.update.TakenLemmas.{no_root, under_before}
-use Rattle.jsonpath_nodes.proofs.update.TopmostLemmas.{piece, same_items, topmost_none}
+use Rattle.jsonpath_nodes.proofs.update.TopmostLemmas.{same_items, topmost_none}
 
 -- values before other items
 abbrev pub joined : List Value → Items → Items
@@ -36,18 +36,12 @@ stay : (k n : ℕ) (ls : List Location) (vs : List Value) → k ≤ length vs �
     → items_with_answer None ls n (items_document vs) ≡ joined (take k vs) (items_with_answer None ls (n + k) (items_document (drop k vs)))
 stay zero n ls vs le none = ap (λ (m : ℕ). items_with_answer None ls m (items_document vs)) (let same : n ≡ n + 0 = omega arith in same)
 stay (suc k) n ls [] le none = absurd (omega arith)
-stay (suc k) n ls (v ∷ vs) le none =
-    let here : under (index n) ls ≡ [] = none n (omega arith) (omega arith) in
-    let later : n + suc k ≡ suc n + k = omega arith in
-    rw (here, later) (ap (λ (d : Document). item d (items_with_answer None ls (suc n) (items_document vs))) (topmost_none None (value_document v))
-    ∙ ap (item (value_document v)) (stay k (suc n) ls vs (omega arith) (λ m lo hi. none m (omega arith) (omega arith))))
+stay (suc k) n ls (v ∷ vs) le none = grind (arith, topmost_none, stay k (suc n) ls vs (omega arith) (λ m lo hi. none m (omega arith) (omega arith)))
 
 -- locations that lead to the same items
 same_within : (n : ℕ) (ls ms : List Location) (vs : List Value) → ((m : ℕ) → n ≤ m → m < n + length vs → under (index m) ls ≡ under (index m) ms) → items_with_answer None ls n (items_document vs) ≡ items_with_answer None ms n (items_document vs)
 same_within n ls ms [] h = refl
-same_within n ls ms (v ∷ vs) h =
-    ap (λ (us : List Location). item_if (piece None us (value_document v)) (items_with_answer None ls (suc n) (items_document vs))) (h n (omega arith) (omega arith))
-    ∙ ap (λ (ds : Items). item_if (piece None (under (index n) ms) (value_document v)) ds) (same_within (suc n) ls ms vs (λ m lo hi. h m (omega arith) (omega arith)))
+same_within n ls ms (v ∷ vs) h = grind (arith, same_within (suc n) ls ms vs (λ m lo hi. h m (omega arith) (omega arith)))
 
 -- the first items of xs, kept of them, are what is left of the first items of vs, next of them; the locations rest lead to items behind
 pub record Passes (all : List Location) (vs xs : List Value) (rest : List Location) (kept next : ℕ) : Type 0 where
@@ -119,11 +113,7 @@ module _ (i : ℕ) (l : Location) (rest : List Location) where
       under_other (index i) (index m) rest other ∙ rw other refl
 
   none_behind : IsStrictlySortedBy location_cmp ((index i ∷ l) ∷ rest) → ((m : ℕ) → m < i → under (index m) ((index i ∷ l) ∷ rest) ≡ []) → (m : ℕ) → m < i + 1 → under (index m) left_behind ≡ []
-  none_behind up none m h = by (nat_eq i m) refl
-    where
-      by : (b : Bool) → nat_eq i m ≡ b → under (index m) left_behind ≡ []
-      by true e = let same : i ≡ m = eqb-true i m e in rw (← same) (none_through up)
-      by false e = others_same m (eqb-false i m e) ∙ none m (let apart = eqb-false i m e in omega (arith, apart))
+  none_behind up none m h = grind (arith, eqb-true, none_through, others_same)
 
   -- the location where the item is, seen from the item
   through_item : under (index i) ((index i ∷ l) ∷ rest) ≡ l ∷ under (index i) rest
@@ -252,14 +242,9 @@ module _ {depth g : ℕ} {rest others later : List Location} {i : ℕ} {l : Loca
 
 -- the list, when no location is left and every item has been looked at
 passes_done : (all : List Location) (vs xs : List Value) (kept next : ℕ) → length xs ≤ next → Passes all vs xs [] kept next → items_document (take kept xs) ≡ items_with_answer None all 0 (items_document vs)
-passes_done all vs xs kept next over p =
-    let none : drop next xs ≡ [] = drop_all next xs over in
-    sym (joined-none (take kept xs)) ∙ ap (λ (ws : List Value). joined (take kept xs) (items_with_answer None [] next (items_document ws))) (sym none) ∙ p.same
+passes_done all vs xs kept next over p = grind (arith, drop_all, joined-none)
 
 -- as the code finds that no location is left
 pub passes_end : (depth : ℕ) (rest : List Location) (ys : List Value) {all : List Location} {vs xs : List Value} {kept next end to : ℕ} → length rest ≡ 0 → to ≡ length xs → length ys ≡ length xs
     → end ≡ kept + (to - next) → take end ys ≡ take kept xs ++ slice_range xs next to → drop to ys ≡ drop to xs → Passes all vs xs (beyond depth rest) kept next → items_document (take end ys) ≡ items_with_answer None all 0 (items_document vs)
-passes_end depth rest ys {all} {vs} {xs} {kept} {next} {end} {to} none whole len count front back q =
-    let p : Passes all vs xs [] kept next = subst (λ (r : List Location). Passes all vs xs (beyond depth r) kept next) (no_more rest none) q in
-    let within : next ≤ length xs = p.within in
-    passes_done all vs ys end to (omega arith) (passes_move all vs xs ys [] kept next end to (omega arith) (omega arith) len count front back (λ m h. refl) p)
+passes_end depth rest ys {all} {vs} {xs} {kept} {next} {end} {to} none whole len count front back q = grind (arith, no_more, passes_done, passes_move)

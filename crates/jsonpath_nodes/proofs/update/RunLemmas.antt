@@ -1,5 +1,5 @@
 -- A single update before a run is a run.
-use Rattle.std.proofs.Common.{◌≡◌, List, [], ◌∷◌, map, Option, Some, None, option_map, MatchOption, Bool, true, false, refl, sym, ap, subst, ◌∙◌}
+use Rattle.std.proofs.Common.{◌≡◌, List, [], ◌∷◌, map, Option, Some, None, option_map, MatchOption, Bool, true, false, refl, sym, ap, subst, ◌∙◌, arith}
 use Rattle.std.specs.Fn.{Called}
 use Rattle.std.specs.List.{FoldsTo, AllByRecursion as All}
 use Rattle.jsonpath_nodes.specs.document.Document.{Document}
@@ -16,11 +16,7 @@ module _ {F : Type 0} (calls : UpdateCalls F) where
       → MatchOption o ((asked ≡ false) × (g ≡ f) × (mid ≡ before))
       (λ d. (x : Value) × (answer : Option Value) × (asked ≡ true) × (value_document x ≡ d) × Called calls f (x, tt) answer g × (mid ≡ update l (option_map value_document answer) before))
       → RunsWith calls ls mid g h after → RunsWith calls (l ∷ ls) before f h after
-  next_at None l ls before mid after f g h asked e u r = record {
-    asked = r.asked;
-    called = subst (λ (x : F). FoldsTo (λ p c q. Called calls p (c.0, tt) c.1 q) x r.asked h) u.1 r.called;
-    run = rw e (subst (λ (x : Document). IsRun ls x (map asked_view r.asked) after) u.2 r.run);
-  }
+  next_at None l ls before mid after f g h asked e u r = grind arith
   next_at (Some d) l ls before mid after f g h asked e u r = record {
     asked = (u.0, u.1) ∷ r.asked;
     called = (g, u.4, r.called);

@@ -1,18 +1,16 @@
 -- Of the locations only what they cover matters to what is nulled and taken: not their order, nor repeats, nor those below another one.
-use Rattle.std.proofs.Common.{◌≡◌, ℕ, suc, List, [], ◌∷◌, fold, Option, Some, Bool, true, false, ◌&&◌, ◌||◌, not, Ordering, Less, Equal, Greater, nat_cmp, nat_eq, cond, is_eq, refl, sym, ap, ◌∙◌, ◌⊎◌, inl, inr, arith}
-use Rattle.std.proofs.Math.Bool.{and-false, or-false, or_assoc, or_comm, or_self}
-use Rattle.std.proofs.lemmas.Bool.{eqb-true}
-use Rattle.std.proofs.lemmas.Bool.Decides.{eqb_tells, nat_tests}
+use Rattle.std.proofs.Common.{◌≡◌, ℕ, suc, List, [], ◌∷◌, fold, Option, Bool, true, false, ◌&&◌, ◌||◌, not, Ordering, Equal, cond, is_eq, refl, sym, ap, ◌∙◌, arith}
+use Rattle.std.proofs.Math.Bool.{and-false, or-false, or_assoc, or_comm}
 use Rattle.std.proofs.lemmas.Cmp.{nat_list_cmp_total}
 use Rattle.std.specs.List.{list_any}
 use Rattle.std.specs.BTreeSet.{insert_key}
-use Rattle.std.specs.Cmp.{eq_by_cmp_equiv, nat_cmp_is}
+use Rattle.std.specs.Cmp.{eq_by_cmp_equiv}
 use Rattle.std.specs.Ordering.{match_ordering, ordering_then}
 use Rattle.jsonpath_nodes.specs.document.Document.{Document, array, object, Items, no_items, item, Members, no_members, member}
 use Rattle.jsonpath_nodes.specs.place.Location.{Step, name, index, Location, step_cmp, location_cmp}
 use Rattle.jsonpath_nodes.specs.place.Order.{location_total, once_in_order, step_total}
 use Rattle.jsonpath_nodes.specs.update.Update.{item_if, member_if}
-use Rattle.jsonpath_nodes.specs.update.Topmost.{begins_with, is_covered_by, same_step, under, elsewhere, has_root, with_answer_at_topmost, items_with_answer, members_with_answer}
+use Rattle.jsonpath_nodes.specs.update.Topmost.{is_covered_by, same_step, under, elsewhere, has_root, with_answer_at_topmost, items_with_answer, members_with_answer}
 use Rattle.jsonpath_nodes.proofs.update.TopmostLemmas.{piece}
 
 abbrev pub same_location : Location → Location → Bool
@@ -26,15 +24,8 @@ contains l ls = list_any (λ m. same_location m l) ls
 
 -- ---- steps that are the same
 
-nat_eq_at : (i j : ℕ) (b : Bool) → ((b ≡ true) × (i ≡ j)) ⊎ ((b ≡ false) × (i ≡ j → ⊥)) → b ≡ is_eq (nat_cmp i j)
-nat_eq_at i j b (inl h) = h.0 ∙ ap is_eq (nat_cmp_is i i Equal refl) ∙ ap (λ x. is_eq (nat_cmp i x)) h.1
-nat_eq_at i j b (inr h) = h.0 ∙ grind (arith, nat_tests)
-
 pub step_eq : (t s : Step) → same_step t s ≡ is_eq (step_cmp t s)
-step_eq (name k) (name l) = refl
-step_eq (name k) (index j) = refl
-step_eq (index i) (name l) = refl
-step_eq (index i) (index j) = nat_eq_at i j (nat_eq i j) (eqb_tells i j)
+step_eq t s = grind arith
 
 pub same_itself : (s : Step) → same_step s s ≡ true
 same_itself s = step_eq s s ∙ (eq_by_cmp_equiv step_total).refl s
@@ -43,12 +34,7 @@ pub same_back : (s t : Step) → same_step s t ≡ same_step t s
 same_back s t = step_eq s t ∙ (eq_by_cmp_equiv step_total).symm s t ∙ sym (step_eq t s)
 
 pub step_congr : (t r s : Step) → same_step t r ≡ true → same_step t s ≡ same_step r s
-step_congr (name k) (name l) (name q) e = (eq_by_cmp_equiv nat_list_cmp_total).congr k l q e
-step_congr (name k) (name l) (index i) e = refl
-step_congr (name k) (index j) s e = absurd (cc)
-step_congr (index i) (name l) s e = absurd (cc)
-step_congr (index i) (index j) (name q) e = refl
-step_congr (index i) (index j) (index n) e = ap (λ x. nat_eq x n) (eqb-true i j e)
+step_congr t r s e = grind (arith, nat_list_cmp_total)
 
 -- ---- what they cover
 
@@ -71,33 +57,15 @@ swapped x y c = sym (or_assoc x y c) ∙ ap (λ (b : Bool). b || c) (or_comm x y
 under_covers : (s : Step) (p : Location) (ls : List Location) → covers (s ∷ p) ls ≡ (has_root (under s ls) || covers p (under s ls))
 under_covers s p [] = refl
 under_covers s p ([] ∷ ls) = under_covers s p ls
-under_covers s p ((t ∷ l) ∷ ls) = ap (λ (b : Bool). (b && begins_with l p) || covers (s ∷ p) ls) (same_back s t) ∙ by (same_step t s) l (under_covers s p ls)
-  where
-    by : (b : Bool) (m : Location) → covers (s ∷ p) ls ≡ (has_root (under s ls) || covers p (under s ls))
-        → ((b && begins_with m p) || covers (s ∷ p) ls) ≡ (has_root (cond b (m ∷ under s ls) (under s ls)) || covers p (cond b (m ∷ under s ls) (under s ls)))
-    by true [] e = refl
-    by true (u ∷ m) e = ap (λ (x : Bool). begins_with (u ∷ m) p || x) e ∙ swapped (begins_with (u ∷ m) p) (has_root (under s ls)) (covers p (under s ls))
-    by false m e = e
+under_covers s p ((t ∷ l) ∷ ls) = grind (arith, same_back, under_covers s p ls)
 
 elsewhere_cases : (b c p q x : Bool) → (p ≡ true → b ≡ c) → cond b (not c && x) ((p && q) || (not c && x)) ≡ (not c && ((p && q) || x))
-elsewhere_cases true true p q x h = refl
-elsewhere_cases true false true q x h = absurd (let e : true ≡ false = h refl in cc)
-elsewhere_cases true false false q x h = refl
-elsewhere_cases false true true q x h = absurd (let e : false ≡ true = h refl in cc)
-elsewhere_cases false true false q x h = refl
-elsewhere_cases false false p q x h = refl
-
-elsewhere_at : (b : Bool) (t r : Step) (m p : Location) (e : List Location) (y : Bool) → covers (r ∷ p) e ≡ y
-    → covers (r ∷ p) (cond b e ((t ∷ m) ∷ e)) ≡ cond b y ((same_step r t && begins_with m p) || y)
-elsewhere_at true t r m p e y h = h
-elsewhere_at false t r m p e y h = ap (λ z. (same_step r t && begins_with m p) || z) h
+elsewhere_cases b c p q x h = grind arith
 
 elsewhere_covers : (s r : Step) (p : Location) (ls : List Location) → covers (r ∷ p) (elsewhere s ls) ≡ (not (same_step r s) && covers (r ∷ p) ls)
 elsewhere_covers s r p [] = sym (and-false (not (same_step r s)))
 elsewhere_covers s r p ([] ∷ ls) = elsewhere_covers s r p ls
-elsewhere_covers s r p ((t ∷ m) ∷ ls) =
-    elsewhere_at (same_step t s) t r m p (elsewhere s ls) _ (elsewhere_covers s r p ls)
-    ∙ elsewhere_cases (same_step t s) (same_step r s) (same_step r t) (begins_with m p) (covers (r ∷ p) ls) (λ e. sym (step_congr r t s e))
+elsewhere_covers s r p ((t ∷ m) ∷ ls) = grind (arith, elsewhere_cases, step_congr, elsewhere_covers s r p ls)
 
 cover_root : (s : Step) (ls ms : List Location) → SameCover ls ms → has_root (under s ls) ≡ has_root (under s ms)
 cover_root s ls ms h = root_of ls ∙ h (s ∷ []) ∙ sym (root_of ms)
@@ -117,14 +85,7 @@ cover_elsewhere s ls ms h (r ∷ p) = elsewhere_covers s r p ls ∙ ap (λ x. no
 
 same_piece : (a : Option Document) (ls ms : List Location) (d : Document) → has_root ls ≡ has_root ms
     → (has_root ls ≡ false → has_root ms ≡ false → with_answer_at_topmost a ls d ≡ with_answer_at_topmost a ms d) → piece a ls d ≡ piece a ms d
-same_piece a ls ms d root deep = by (has_root ls) (has_root ms) root deep
-  where
-    by : (b c : Bool) → b ≡ c → (b ≡ false → c ≡ false → with_answer_at_topmost a ls d ≡ with_answer_at_topmost a ms d)
-        → cond b a (Some (with_answer_at_topmost a ls d)) ≡ cond c a (Some (with_answer_at_topmost a ms d))
-    by true true e go = refl
-    by true false e go = cc
-    by false true e go = cc
-    by false false e go = ap Some (go refl refl)
+same_piece a ls ms d root deep = grind arith
 
 mutual
   pub topmost_same : (a : Option Document) (ls ms : List Location) (d : Document) → SameCover ls ms → with_answer_at_topmost a ls d ≡ with_answer_at_topmost a ms d
@@ -149,9 +110,7 @@ mutual
 -- ---- each once and in order, they are the same
 
 pub eq_then : (o r : Ordering) → is_eq (ordering_then o r) ≡ (is_eq o && is_eq r)
-eq_then Less r = refl
-eq_then Equal r = refl
-eq_then Greater r = refl
+eq_then o r = grind arith
 
 pub location_eq : (m l : Location) → same_location m l ≡ is_eq (location_cmp m l)
 location_eq [] [] = refl
@@ -162,26 +121,17 @@ location_eq (t ∷ m) (s ∷ l) = ap (λ x. x && same_location m l) (step_eq t s
 same_congr : (k x l : Location) → location_cmp k x ≡ Equal → same_location k l ≡ same_location x l
 same_congr k x l e = location_eq k l ∙ (eq_by_cmp_equiv location_total).congr k x l (ap is_eq e) ∙ sym (location_eq x l)
 
-twice : (y c : Bool) → (y || c) ≡ (y || (y || c))
-twice y c = ap (λ (b : Bool). b || c) (sym (or_self y)) ∙ or_assoc y y c
-
 insert_at : (o : Ordering) (k x l : Location) (xs : List Location) → location_cmp k x ≡ o → contains l (insert_key location_cmp xs k) ≡ (same_location k l || contains l xs)
     → contains l (match_ordering o (k ∷ x ∷ xs) (x ∷ xs) (x ∷ insert_key location_cmp xs k)) ≡ (same_location k l || (same_location x l || contains l xs))
-insert_at Less k x l xs e later = refl
-insert_at Equal k x l xs e later = rw (same_congr k x l e) (twice (same_location x l) (contains l xs))
-insert_at Greater k x l xs e later = ap (λ y. same_location x l || y) later ∙ swapped (same_location x l) (same_location k l) (contains l xs)
+insert_at o k x l xs e later = grind (arith, same_congr, swapped)
 
 insert_contains : (k l : Location) (xs : List Location) → contains l (insert_key location_cmp xs k) ≡ (same_location k l || contains l xs)
 insert_contains k l [] = refl
 insert_contains k l (x ∷ xs) = insert_at (location_cmp k x) k x l xs refl (insert_contains k l xs)
 
-joined : (x y c : Bool) → (x || (y || c)) ≡ ((y || x) || c)
-joined x y c = sym (or_assoc x y c) ∙ ap (λ (b : Bool). b || c) (or_comm x y)
-
 fold_contains : (l : Location) (ls xs : List Location) → contains l (fold (insert_key location_cmp) xs ls) ≡ (contains l ls || contains l xs)
 fold_contains l [] xs = refl
-fold_contains l (k ∷ ls) xs =
-    fold_contains l ls (insert_key location_cmp xs k) ∙ ap (λ y. contains l ls || y) (insert_contains k l xs) ∙ joined (contains l ls) (same_location k l) (contains l xs)
+fold_contains l (k ∷ ls) xs = grind (arith, insert_contains, fold_contains l ls (insert_key location_cmp xs k))
 
 pub once_in_order-same : (ls : List Location) (l : Location) → contains l (once_in_order ls) ≡ contains l ls
 once_in_order-same ls l = fold_contains l ls [] ∙ or-false (contains l ls)

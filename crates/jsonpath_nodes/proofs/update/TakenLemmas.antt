@@ -1,13 +1,12 @@
 -- One answer at each location, from the last back to the first, is that answer at the topmost locations.
-use Rattle.std.proofs.Common.{◌≡◌, ◌≢◌, ℕ, zero, suc, ◌+◌, ◌<◌, ◌≤◌, List, [], ◌∷◌, Option, Some, None, Bool, true, false, Ordering, Less, Equal, Greater, nat_cmp, nat_eq, cond, is_eq, ◌⊎◌, inl, inr, refl, sym, ap, ◌∙◌, arith}
+use Rattle.std.proofs.Common.{◌≡◌, ◌≢◌, ℕ, zero, suc, ◌+◌, ◌<◌, List, [], ◌∷◌, Option, None, Bool, true, false, Ordering, Less, Equal, nat_cmp, nat_eq, cond, is_eq, ◌⊎◌, refl, sym, ap, ◌∙◌, arith}
 use Rattle.std.proofs.lemmas.Bool.{ne_eqb, eq-eqb}
 use Rattle.std.proofs.lemmas.Bool.Decides.{eqb_tells}
 use Rattle.std.proofs.lemmas.Cmp.{ranked, nat_list_cmp_total}
-use Rattle.std.specs.Cmp.{nat_cmp_is}
 use Rattle.std.specs.Cmp.Lexicographic.{slice_cmp}
 use Rattle.std.specs.List.{AllByRecursion}
 use Rattle.std.specs.List.Sorted.{IsStrictlySortedBy}
-use Rattle.std.specs.Ordering.{ordering_then, ordering_reverse, MatchOrdering}
+use Rattle.std.specs.Ordering.{ordering_then}
 use Rattle.jsonpath_nodes.specs.document.Document.{Document, array, object, Items, no_items, item, Members, no_members, member}
 use Rattle.jsonpath_nodes.specs.place.Location.{Step, name, index, Location, location_cmp}
 use Rattle.jsonpath_nodes.specs.update.Update.{item_if, member_if, edit_item, edit_member, edit, with_answer_at}
@@ -21,27 +20,15 @@ Before l ls = AllByRecursion (λ m. location_cmp l m ≡ Less) ls
 
 -- ---- the locations that come later, seen from a child
 
-not_above : (o r : Ordering) (i j : ℕ) → MatchOrdering o (i < j) (i ≡ j) (j < i) → ordering_then o r ≡ Less → i ≤ j
-not_above Less r i j h e = omega arith
-not_above Equal r i j h e = omega arith
-not_above Greater r i j h e = absurd (cc)
-
 pub under_before : (i n : ℕ) (l : Location) (ls : List Location) → n < i → Before (index i ∷ l) ls → under (index n) ls ≡ []
 under_before i n l [] lt h = refl
 under_before i n l ([] ∷ ls) lt h = under_before i n l ls lt h.1
 under_before i n l ((name k ∷ m) ∷ ls) lt h = under_before i n l ls lt h.1
-under_before i n l ((index j ∷ m) ∷ ls) lt h =
-    let le : i ≤ j = not_above (nat_cmp i j) (location_cmp l m) i j (ranked i j (nat_cmp i j) refl) h.0 in
-    let other : nat_eq j n ≡ false = ne_eqb j n (λ q. omega arith) in
-    rw other (under_before i n l ls lt h.1)
+under_before i n l ((index j ∷ m) ∷ ls) lt h = grind (arith, ne_eqb, ranked, under_before i n l ls lt h.1)
 
 under_index_at : (i j : ℕ) (b : Bool) (l m : Location) (us : List Location) → ((b ≡ true) × (j ≡ i)) ⊎ ((b ≡ false) × (j ≢ i))
     → ordering_then (nat_cmp i j) (location_cmp l m) ≡ Less → Before l us → Before l (cond b (m ∷ us) us)
-under_index_at i j b l m us (inl h) e later =
-    let same : nat_cmp i j ≡ Equal = rw h.1 (sym (nat_cmp_is i i Equal refl)) in
-    let less : location_cmp l m ≡ Less = rw same at e in
-    rw h.0 (less, later)
-under_index_at i j b l m us (inr h) e later = rw h.0 later
+under_index_at i j b l m us h e later = grind arith
 
 pub under_index : (i : ℕ) (l : Location) (ls : List Location) → Before (index i ∷ l) ls → Before l (under (index i) ls)
 under_index i l [] h = h
@@ -51,13 +38,7 @@ under_index i l ((index j ∷ m) ∷ ls) h = under_index_at i j (nat_eq j i) l m
 
 under_name_at : (o : Ordering) (k p q : List ℕ) (l m : Location) (us : List Location) → slice_cmp nat_cmp p q ≡ o → slice_cmp nat_cmp k q ≡ Equal
     → ordering_then (slice_cmp nat_cmp k p) (location_cmp l m) ≡ Less → Before l us → Before l (cond (is_eq o) (m ∷ us) us)
-under_name_at Less k p q l m us e same h later = later
-under_name_at Equal k p q l m us e same h later =
-    let back : slice_cmp nat_cmp q p ≡ Equal = nat_list_cmp_total.antisymm q p ∙ ap ordering_reverse e in
-    let level : slice_cmp nat_cmp k p ≡ Equal = nat_list_cmp_total.congr k q p same ∙ back in
-    let less : location_cmp l m ≡ Less = rw level at h in
-    (less, later)
-under_name_at Greater k p q l m us e same h later = later
+under_name_at o k p q l m us e same h later = grind (arith, nat_list_cmp_total)
 
 pub under_name : (k q : List ℕ) (l : Location) (ls : List Location) → slice_cmp nat_cmp k q ≡ Equal → Before (name k ∷ l) ls → Before l (under (name q) ls)
 under_name k q l [] same h = h
@@ -66,8 +47,7 @@ under_name k q l ((index j ∷ m) ∷ ls) same h = under_name k q l ls same h.1
 under_name k q l ((name p ∷ m) ∷ ls) same h = under_name_at (slice_cmp nat_cmp p q) k p q l m (under (name q) ls) refl same h.0 (under_name k q l ls same h.1)
 
 elsewhere_at : (b : Bool) (l m : Location) (es : List Location) → location_cmp l m ≡ Less → Before l es → Before l (cond b es (m ∷ es))
-elsewhere_at true l m es h later = later
-elsewhere_at false l m es h later = (h, later)
+elsewhere_at b l m es h later = grind arith
 
 elsewhere_before : (s : Step) (l : Location) (ls : List Location) → Before l ls → Before l (elsewhere s ls)
 elsewhere_before s l [] h = h
@@ -91,8 +71,7 @@ module _ (a : Option Document) where
   Earlier u d l = (t : Step) (m : Location) → l ≡ t ∷ m → with_answer_at_topmost a ((t ∷ m) ∷ u) d ≡ edit (with_answer_at a m) t (with_answer_at_topmost a u d)
 
   piece_here : (l : Location) (u : List Location) (d : Document) → has_root u ≡ false → Earlier u d l → piece a (l ∷ u) d ≡ with_answer_at a l (with_answer_at_topmost a u d)
-  piece_here [] u d h e = refl
-  piece_here (t ∷ l) u d h e = rw h (ap Some (e t l refl))
+  piece_here l u d h e = grind arith
 
   item_here : (l : Location) (u : List Location) (d : Document) (ds : Items) → has_root u ≡ false → Earlier u d l
       → item_if (piece a (l ∷ u) d) ds ≡ edit_item (with_answer_at a l) zero (item_if (piece a u d) ds)
@@ -100,22 +79,14 @@ module _ (a : Option Document) where
 
   member_there : (o : Ordering) (p : Option Document) (f : Document → Option Document) (k q : List ℕ) (ms ns : Members) → slice_cmp nat_cmp k q ≡ o → is_eq o ≡ false
       → ns ≡ edit_member f k ms → member_if q p ns ≡ edit_member f k (member_if q p ms)
-  member_there o None f k q ms ns e other later = later
-  member_there Less (Some d) f k q ms ns e other later = rw e (ap (member q d) later)
-  member_there Equal (Some d) f k q ms ns e other later = absurd (cc)
-  member_there Greater (Some d) f k q ms ns e other later = rw e (ap (member q d) later)
+  member_there o p f k q ms ns e other later = grind arith
 
   member_at : (o : Ordering) (k q : List ℕ) (l : Location) (ls : List Location) (d : Document) (ms : Members) → slice_cmp nat_cmp k q ≡ o → Before (name k ∷ l) ls
       → ((t : Step) (m : Location) → Before (t ∷ m) (under (name q) ls) → with_answer_at_topmost a ((t ∷ m) ∷ under (name q) ls) d ≡ edit (with_answer_at a m) t (with_answer_at_topmost a (under (name q) ls) d))
       → members_with_answer a ((name k ∷ l) ∷ elsewhere (name q) ls) ms ≡ edit_member (with_answer_at a l) k (members_with_answer a (elsewhere (name q) ls) ms)
       → member_if q (piece a (cond (is_eq o) (l ∷ under (name q) ls) (under (name q) ls)) d) (members_with_answer a (cond (is_eq o) (elsewhere (name q) ls) ((name k ∷ l) ∷ elsewhere (name q) ls)) ms)
       ≡ edit_member (with_answer_at a l) k (member_if q (piece a (under (name q) ls) d) (members_with_answer a (elsewhere (name q) ls) ms))
-  member_at Less k q l ls d ms e h deep later = member_there Less (piece a (under (name q) ls) d) (with_answer_at a l) k q _ _ e refl later
-  member_at Equal k q l ls d ms e h deep later =
-      let b = under_name k q l ls e h in
-      let root = no_root l (under (name q) ls) b in
-      ap (λ p. member_if q p (members_with_answer a (elsewhere (name q) ls) ms)) (piece_here l (under (name q) ls) d root (λ t m is. deep t m (rw is at b))) ∙ rw (root, e) refl
-  member_at Greater k q l ls d ms e h deep later = member_there Greater (piece a (under (name q) ls) d) (with_answer_at a l) k q _ _ e refl later
+  member_at o k q l ls d ms e h deep later = grind (arith, member_there, no_root, piece, under_name)
 
   mutual
     -- a location more, before the others, is answered last

@@ -1,5 +1,5 @@
 -- Single updates that put null, one after another, null the topmost locations.
-use Rattle.std.proofs.Common.{◌≡◌, ℕ, zero, suc, ◌+◌, ◌≤◌, List, [], ◌∷◌, Option, Some, Bool, true, false, Ordering, Less, Equal, Greater, nat_cmp, nat_eq, cond, is_eq, refl, sym, ap, ◌∙◌, arith}
+use Rattle.std.proofs.Common.{◌≡◌, ℕ, zero, suc, ◌+◌, ◌≤◌, List, [], ◌∷◌, Option, Some, Bool, true, false, Ordering, nat_cmp, nat_eq, cond, is_eq, refl, sym, ap, ◌∙◌, arith}
 use Rattle.std.proofs.lemmas.Bool.{ne_eqb, eq-eqb}
 use Rattle.std.specs.Ordering.{match_ordering}
 use Rattle.std.specs.Cmp.Lexicographic.{slice_cmp}
@@ -17,9 +17,7 @@ piece a ls d = cond (has_root ls) a (Some (with_answer_at_topmost a ls d))
 
 pub same_items : (a : Option Document) (ls ms : List Location) (n : ℕ) (ds : Items) → ((m : ℕ) → n ≤ m → under (index m) ls ≡ under (index m) ms) → items_with_answer a ls n ds ≡ items_with_answer a ms n ds
 same_items a ls ms n no_items h = refl
-same_items a ls ms n (item d ds) h =
-    ap (λ u. item_if (piece a u d) (items_with_answer a ls (suc n) ds)) (h n (omega arith))
-    ∙ ap (λ r. item_if (piece a (under (index n) ms) d) r) (same_items a ls ms (suc n) ds (λ m le. h m (omega arith)))
+same_items a ls ms n (item d ds) h = grind (arith, same_items a ls ms (suc n) ds (λ m le. h m (omega arith)))
 
 pub root_members : (a : Option Document) (ls : List Location) (ms : Members) → members_with_answer a ([] ∷ ls) ms ≡ members_with_answer a ls ms
 root_members a ls no_members = refl
@@ -54,8 +52,7 @@ abbrev gone : Option Document
 gone = Some null
 
 null_piece : (b : Bool) (ls : List Location) → gone ≡ cond b gone (Some (with_answer_at_topmost gone ls null))
-null_piece true ls = refl
-null_piece false ls = refl
+null_piece b ls = grind arith
 
 -- what stands at the end of the steps, in the document that a further location's null stands in
 abbrev Later : List Location → Document → Type 0
@@ -63,21 +60,17 @@ Later u d = (t : Step) (l : Location) → with_answer_at_topmost gone ((t ∷ l)
 
 item_here : (l : Location) (u ls : List Location) (n : ℕ) (d : Document) (ds : Items) → under (index n) ls ≡ u → Later u d
     → item_if (piece gone (l ∷ u) d) (items_with_answer gone ls (suc n) ds) ≡ items_with_answer gone ls n (item_if (with_answer_at gone l d) ds)
-item_here [] u ls n d ds e h = ap (λ p. item_if p (items_with_answer gone ls (suc n) ds)) (null_piece (has_root u) u) ∙ rw e refl
-item_here (t ∷ l) u ls n d ds e h = ap (λ p. item_if (cond (has_root u) gone (Some p)) (items_with_answer gone ls (suc n) ds)) (h t l) ∙ rw e refl
+item_here l u ls n d ds e h = grind arith
 
 member_here : (l : Location) (k : List ℕ) (u e : List Location) (ls : List Location) (d : Document) (ms : Members) → under (name k) ls ≡ u → elsewhere (name k) ls ≡ e → Later u d
     → member_if k (piece gone (l ∷ u) d) (members_with_answer gone e ms) ≡ members_with_answer gone ls (member_if k (with_answer_at gone l d) ms)
-member_here [] k u e ls d ms is els h = ap (λ p. member_if k p (members_with_answer gone e ms)) (null_piece (has_root u) u) ∙ rw (is, els) refl
-member_here (t ∷ l) k u e ls d ms is els h = ap (λ p. member_if k (cond (has_root u) gone (Some p)) (members_with_answer gone e ms)) (h t l) ∙ rw (is, els) refl
+member_here l k u e ls d ms is els h = grind (arith, null_piece)
 
 member_at : (o : Ordering) (k q : List ℕ) (l : Location) (ls : List Location) (d : Document) (ms : Members) → Later (under (name q) ls) d
     → members_with_answer gone ((name k ∷ l) ∷ elsewhere (name q) ls) ms ≡ members_with_answer gone (elsewhere (name q) ls) (edit_member (with_answer_at gone l) k ms)
     → member_if q (piece gone (cond (is_eq o) (l ∷ under (name q) ls) (under (name q) ls)) d) (members_with_answer gone (cond (is_eq o) (elsewhere (name q) ls) ((name k ∷ l) ∷ elsewhere (name q) ls)) ms)
     ≡ members_with_answer gone ls (match_ordering o (member q d (edit_member (with_answer_at gone l) k ms)) (member_if q (with_answer_at gone l d) ms) (member q d (edit_member (with_answer_at gone l) k ms)))
-member_at Less k q l ls d ms h later = ap (λ r. member_if q (piece gone (under (name q) ls) d) r) later
-member_at Equal k q l ls d ms h later = member_here l q (under (name q) ls) (elsewhere (name q) ls) ls d ms refl refl h
-member_at Greater k q l ls d ms h later = ap (λ r. member_if q (piece gone (under (name q) ls) d) r) later
+member_at o k q l ls d ms h later = grind (arith, member_here)
 
 mutual
   -- a null more is the null put first

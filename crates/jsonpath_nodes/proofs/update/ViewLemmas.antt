@@ -1,5 +1,5 @@
 -- What a write to a list or a map does to the data that it stands for.
-use Rattle.std.proofs.Common.{◌≡◌, ℕ, zero, suc, List, [], ◌∷◌, Some, None, String, Global, Ordering, Less, Equal, Greater, string_bytes, nat_cmp, is_eq, cond, slice_set, refl, ap}
+use Rattle.std.proofs.Common.{◌≡◌, ℕ, zero, suc, List, [], ◌∷◌, Some, None, String, Global, Ordering, string_bytes, nat_cmp, is_eq, cond, slice_set, refl, ap, arith}
 use Rattle.std.specs.BTreeMap.{is_at}
 use Rattle.std.specs.Cmp.Lexicographic.{slice_cmp}
 use Rattle.std.specs.List.{remove}
@@ -39,9 +39,7 @@ named k = λ q. slice_cmp nat_cmp k (string_bytes q)
 
 members_view-set_value_at : (o : Ordering) (e : Entry) (es fs : List Entry) (w : Value) (ms : Members) → members_document fs ≡ ms
     → members_document (cond (is_eq o) ((e.0, w) ∷ es) (e ∷ fs)) ≡ match_ordering o (member (string_bytes e.0) (value_document e.1) ms) (member (string_bytes e.0) (value_document w) (members_document es)) (member (string_bytes e.0) (value_document e.1) ms)
-members_view-set_value_at Less e es fs w ms h = ap (member (string_bytes e.0) (value_document e.1)) h
-members_view-set_value_at Equal e es fs w ms h = refl
-members_view-set_value_at Greater e es fs w ms h = ap (member (string_bytes e.0) (value_document e.1)) h
+members_view-set_value_at o e es fs w ms h = grind arith
 
 pub members_view-set_value : (k : List ℕ) (es : List Entry) (w : Value) → members_document (set_value (is_at (named k)) es w) ≡ edit_member (λ _. Some (value_document w)) k (members_document es)
 members_view-set_value k [] w = refl
@@ -49,9 +47,7 @@ members_view-set_value k (e ∷ es) w = members_view-set_value_at (named k e.0) 
 
 members_view-remove_entry_at : (o : Ordering) (e : Entry) (es fs : List Entry) (ms : Members) → members_document fs ≡ ms
     → members_document (cond (is_eq o) es (e ∷ fs)) ≡ match_ordering o (member (string_bytes e.0) (value_document e.1) ms) (members_document es) (member (string_bytes e.0) (value_document e.1) ms)
-members_view-remove_entry_at Less e es fs ms h = ap (member (string_bytes e.0) (value_document e.1)) h
-members_view-remove_entry_at Equal e es fs ms h = refl
-members_view-remove_entry_at Greater e es fs ms h = ap (member (string_bytes e.0) (value_document e.1)) h
+members_view-remove_entry_at o e es fs ms h = grind arith
 
 pub members_view-remove_entry : (k : List ℕ) (es : List Entry) → members_document (remove_entry (is_at (named k)) es) ≡ edit_member (λ _. None) k (members_document es)
 members_view-remove_entry k [] = refl
@@ -60,9 +56,7 @@ members_view-remove_entry k (e ∷ es) = members_view-remove_entry_at (named k e
 remove_written_at : (o : Ordering) (k : List ℕ) (e : Entry) (es : List Entry) (w : Value) → named k e.0 ≡ o
     → remove_entry (is_at (named k)) (set_value (is_at (named k)) es w) ≡ remove_entry (is_at (named k)) es
     → remove_entry (is_at (named k)) (cond (is_eq o) ((e.0, w) ∷ es) (e ∷ set_value (is_at (named k)) es w)) ≡ cond (is_eq o) es (e ∷ remove_entry (is_at (named k)) es)
-remove_written_at Less k e es w is later = rw is (ap (λ r. e ∷ r) later)
-remove_written_at Equal k e es w is later = rw is refl
-remove_written_at Greater k e es w is later = rw is (ap (λ r. e ∷ r) later)
+remove_written_at o k e es w is later = grind arith
 
 pub remove_entry_set : (k : List ℕ) (es : List Entry) (w : Value) → remove_entry (is_at (named k)) (set_value (is_at (named k)) es w) ≡ remove_entry (is_at (named k)) es
 remove_entry_set k [] w = refl

@@ -1,12 +1,10 @@
 -- Tokens that may come one after the other are tokens of their own: none of them is longer by the one behind it.
-use Rattle.std.proofs.Common.{◌≡◌, ℕ, zero, Bool, true, false, not, List, [], ◌∷◌, ◌++◌, Some, None, refl, subst}
-use Rattle.std.specs.Prelude.{◌&&◌, ◌||◌, is_some, if◌then◌else◌}
+use Rattle.std.proofs.Common.{◌≡◌, ℕ, Bool, true, false, not, List, [], ◌∷◌, ◌++◌, Some, None, refl, arith}
+use Rattle.std.specs.Prelude.{◌&&◌, ◌||◌}
 use Rattle.std.proofs.lemmas.Bool.{and_from, and_parts}
-use Rattle.jsonpath_paths.specs.Literals.{truth_of}
-use Rattle.jsonpath_paths.specs.Numbers.{index_of, range_step_of, decimal_of}
 use Rattle.jsonpath_paths.specs.declared.token.tokens.Kind.{Kind}
 use Rattle.jsonpath_paths.specs.declared.token.tokens.Kind.TheVariants as k
-use Rattle.jsonpath_paths.specs.plan.Wants.{Want, Reaction, dollar, blanks, steps, step, word, after_dot, after_dots, close, inner, plain, indexes_range_or_names, after_first_index, more_indexes, index, range_to, range_step, after_name, more_names, quoted, open_group, condition, part, candidate_tail, behind_blank, tail, sign, term, literal, fraction, digits, move, moved, feed, takes, passes, refuses, if_word, literal_word, behind_left_side, may_pass}
+use Rattle.jsonpath_paths.specs.plan.Wants.{Want, Reaction, dollar, blanks, steps, step, word, after_dot, after_dots, close, more_indexes, index, range_to, range_step, after_name, more_names, quoted, open_group, condition, part, candidate_tail, behind_blank, tail, sign, term, literal, fraction, digits, move, moved, feed, takes, passes, refuses, if_word, literal_word, may_pass}
 use Rattle.jsonpath_paths.proofs.parser.SoundLemmas.{some_same}
 use Rattle.jsonpath_paths.proofs.parser.WantsLemmas.{real, all_real}
 
@@ -120,48 +118,21 @@ good kind v passes = true
 good kind v refuses = true
 
 good_word : (b : Bool) (v : Want) (us : List Want) → good k.Key v (takes us) ≡ true → good k.Key v (if_word b us) ≡ true
-good_word true v us h = h
-good_word false v us h = refl
+good_word b v us h = grind arith
 
 good_literal : (w : List ℕ) (v : Want) (us : List Want) → good k.Key v (takes us) ≡ true → good k.Key v (takes (fraction ∷ us)) ≡ true → good k.Key v (literal_word w us) ≡ true
-good_literal w v us h i = by_word (is_some (truth_of w)) (is_some (decimal_of w []))
-  where
-    by_word : (b d : Bool) → good k.Key v (if b then takes us else if_word d (fraction ∷ us)) ≡ true
-    by_word true d = h
-    by_word false true = i
-    by_word false false = refl
+good_literal w v us h i = grind arith
 
 good_move : (v : Want) (kind : Kind) (w : List ℕ) → good kind v (move v kind w) ≡ true
-good_move dollar k.Absolute w = refl
-good_move (inner zero) k.Question w = refl
-good_move (inner n) k.Key w = good_word (is_some (index_of w)) (inner n) (blanks ∷ after_first_index ∷ []) refl
-good_move plain k.Key w = good_word (is_some (index_of w)) plain (blanks ∷ after_first_index ∷ []) refl
-good_move indexes_range_or_names k.Key w = good_word (is_some (index_of w)) indexes_range_or_names (blanks ∷ after_first_index ∷ []) refl
-good_move index k.Key w = good_word (is_some (index_of w)) index [] refl
-good_move range_to k.Key w = good_word (is_some (index_of w)) range_to (blanks ∷ []) refl
-good_move range_step k.Key w = good_word (is_some (range_step_of w)) range_step (blanks ∷ []) refl
-good_move (condition zero) k.OpenParenthesis w = refl
-good_move (condition n) k.Key w = good_literal w (condition n) (behind_left_side n) refl refl
-good_move (part zero) k.OpenParenthesis w = refl
-good_move (part n) k.Key w = good_literal w (part n) (behind_left_side n) refl refl
-good_move (candidate_tail zero) k.And w = refl
-good_move (behind_blank zero) k.And w = refl
-good_move (tail zero) k.And w = refl
-good_move (term n) k.Key w = good_literal w (term n) [] refl refl
-good_move literal k.Key w = good_literal w literal [] refl refl
-good_move digits k.Key w = good_word (is_some (decimal_of (48 ∷ []) w)) digits [] refl
-good_move _ k.Absolute w = refl
-good_move _ _ w = refl
+good_move v kind w = grind (arith, good_literal, good_word)
 
 -- wants put upon others
 
 or_so : (b c : Bool) → (not b || c) ≡ true → b ≡ true → c ≡ true
-or_so true c h e = h
-or_so false c h e = cc e
+or_so b c h e = grind arith
 
 so_or : (b c : Bool) → (b ≡ true → c ≡ true) → (not b || c) ≡ true
-so_or true c h = h refl
-so_or false c h = refl
+so_or b c h = grind arith
 
 quiet_upon : (b : Bool) (t : Touch) (us vs : List Want) → (b ≡ true → quiet t vs ≡ true) → quiet_over b t us ≡ true → quiet t (us ++ vs) ≡ true
 quiet_upon b t [] vs f h = f h
@@ -190,14 +161,7 @@ fed_safe (v ∷ vs) us kind w s h =
   where
     by_move : (m : Reaction) → good kind v m ≡ true → ((t : Touch) → needs t v ≡ true → quiet t vs ≡ true) → safe vs ≡ true
         → (feed vs kind w ≡ Some us → (safe us ≡ true) × Apart kind us) → moved m vs (feed vs kind w) ≡ Some us → (safe us ≡ true) × Apart kind us
-    by_move (takes xs) g q s more h =
-        let p = and_parts (safe_over (λ t. needs t v) xs) (each (λ t. not (runs_on t kind) || quiet_over (needs t v) t xs)) g in
-        subst (λ x. (safe x ≡ true) × Apart kind x) (some_same (xs ++ vs) us h) (
-          safe_upon (λ t. needs t v) xs vs q s p.0,
-          λ t e. quiet_upon (needs t v) t xs vs (q t) (or_so (runs_on t kind) (quiet_over (needs t v) t xs) (each_is (λ t. not (runs_on t kind) || quiet_over (needs t v) t xs) p.1 t) e),
-        )
-    by_move passes g q s more h = more h
-    by_move refuses g q s more h = cc h
+    by_move m g q s more h = grind (arith, and_parts, or_so, quiet_upon, safe_upon, some_same)
 
 -- a token that may not come next
 
@@ -223,13 +187,10 @@ quiet_refuses t (v ∷ vs) kind w h q =
     (λ e. quiet_refuses t vs kind w h (or_so (may_pass v) (quiet t vs) p.1 e))
   where
     closed : (b c : Bool) → not b ≡ true → (b || c) ≡ true → c ≡ true
-    closed true c h i = cc h
-    closed false c h i = i
+    closed b c h i = grind arith
 
     by_move : (m : Reaction) → silent (may_pass v) m ≡ true → (may_pass v ≡ true → feed vs kind w ≡ None) → moved m vs (feed vs kind w) ≡ None
-    by_move (takes us) h more = cc h
-    by_move passes h more = more h
-    by_move refuses h more = refl
+    by_move m h more = grind arith
 
 pub safe_real : (ws : List Want) → safe ws ≡ true → all_real ws ≡ true
 safe_real [] h = refl

@@ -1,5 +1,5 @@
 -- What is spelled is what the parser reads.
-use Rattle.std.proofs.Common.{◌≡◌, ◌<◌, ℕ, zero, suc, Bool, true, false, List, [], ◌∷◌, length, Option, Some, None, ℤ, refl, sym, ◌∙◌, ap, cond, arith}
+use Rattle.std.proofs.Common.{◌≡◌, ◌<◌, ℕ, zero, suc, Bool, true, false, List, [], ◌∷◌, length, Option, Some, None, ℤ, refl, sym, ◌∙◌, ap, cond, arith, rules}
 use Rattle.std.specs.Prelude.{◌||◌, is_some}
 use Rattle.jsonpath_paths.specs.declared.text.str_reader.StrRange.{StrRange}
 use Rattle.jsonpath_paths.specs.declared.token.tokens.FilterToken.{FilterToken}
@@ -10,16 +10,15 @@ use Rattle.jsonpath_paths.specs.declared.token.tokens.ParseToken.TheVariants as 
 use Rattle.jsonpath_paths.specs.Grammar as grammar
 use Rattle.jsonpath_paths.proofs.parser.FormLemmas as g
 use Rattle.jsonpath_paths.specs.Grammar.{Lexemes, Takes}
-use Rattle.jsonpath_paths.proofs.parser.FormLemmas.{Eats, Quoted, quote_kind}
-use Rattle.jsonpath_paths.specs.Numbers.{index_of, range_step_of, decimal_of}
-use Rattle.jsonpath_paths.specs.Literals.{truth_of}
+use Rattle.jsonpath_paths.proofs.parser.FormLemmas.{Eats, Quoted}
+use Rattle.jsonpath_paths.specs.Numbers.{index_of}
 use Rattle.jsonpath_paths.specs.text.Characters.{bytes_at}
 use Rattle.jsonpath_paths.specs.tree.Tree.{Path, PathSteps, Inner, Condition, Term}
 use Rattle.jsonpath_paths.specs.tree.Tree as tree
 use Rattle.jsonpath_paths.specs.token.Kinds.{same_kind}
 use Rattle.jsonpath_paths.specs.plan.ParsedParts as d
 use Rattle.jsonpath_paths.specs.plan.ParsedParts.{Read, ◌>>=◌, choose, only_if, take_token, eat, quoted_at, by_kind, skip}
-use Rattle.jsonpath_paths.proofs.parser.SameKindLemmas.{same_kind_true, true_same_kind}
+use Rattle.jsonpath_paths.proofs.parser.SameKindLemmas.{true_same_kind}
 use Rattle.jsonpath_paths.proofs.parser.SoundLemmas.{some_same}
 use Rattle.jsonpath_paths.proofs.parser.WordLemmas.{digits_no_truth}
 use Rattle.jsonpath_paths.proofs.parser.ShorterLemmas.{skip_shorter, takes_shorter, eats_shorter, quoted_shorter, step_shorter}
@@ -56,23 +55,14 @@ behind_blank kind other [] to h e f = refl
 behind_blank kind other (p ∷ ps) to h e f = by_test (same_kind p.kind k.Whitespace) refl h
   where
     by_test : (b : Bool) → same_kind p.kind k.Whitespace ≡ b → Eats kind (cond b ps (p ∷ ps)) to → take_token other (p ∷ ps) ≡ None
-    by_test true is next = ap (λ x. only_if (same_kind x other) (p.span, ps)) (same_kind_true p.kind k.Whitespace is) ∙ ap (λ b. only_if b (p.span, ps)) f
-    by_test false is next = takes_other kind other next.0 (p ∷ ps) to next.1 e
+    by_test b is next = grind arith
 
 complete_quoted : (s : StrRange) (from to : Lexemes) → Quoted s from to → quoted_at from ≡ Some (s, to)
-complete_quoted s from to h = by_double h.0 h.1
-  where
-    by_double : (double : Bool) → Takes (quote_kind double) s from to → quoted_at from ≡ Some (s, to)
-    by_double true e = choose_to (take_token k.DoubleQuoted from) _ _ (s, to) _ (takes_take k.DoubleQuoted s from to e) refl
-    by_double false e = choose_past (take_token k.DoubleQuoted from) _ _ _ (takes_other k.SingleQuoted k.DoubleQuoted s from to e refl) (takes_take k.SingleQuoted s from to e)
+complete_quoted s from to h = grind arith
 
 quoted_other : (other : Kind) (s : StrRange) (from to : Lexemes) → Quoted s from to → same_kind k.SingleQuoted other ≡ false → same_kind k.DoubleQuoted other ≡ false
     → take_token other from ≡ None
-quoted_other other s from to h e f = by_double h.0 h.1
-  where
-    by_double : (double : Bool) → Takes (quote_kind double) s from to → take_token other from ≡ None
-    by_double true h = takes_other k.DoubleQuoted other s from to h f
-    by_double false h = takes_other k.SingleQuoted other s from to h e
+quoted_other other s from to h e f = grind arith
 
 complete_by_kind : (f : Kind → Option FilterToken) (kind : Kind) (o : FilterToken) (from to : Lexemes) → f kind ≡ Some o → Eats kind from to → by_kind f from ≡ Some (o, to)
 complete_by_kind f kind o from to e h = ap (by_kind f) h.1 ∙ ap (λ x. x >>= λ y. Some (y, to)) e
@@ -82,21 +72,16 @@ none_by_kind f kind from to e h = ap (by_kind f) h.1 ∙ ap (λ x. x >>= λ y. S
 
 module _ (text : List ℕ) where
   complete_index : (n : ℤ) (from to : Lexemes) → g.IndexAt text n from to → d.index_at text from ≡ Some (n, to)
-  complete_index n from to i =
-      bind_to (take_token k.Key from) _ (i.0, to) _ (takes_take k.Key i.0 from to i.1) (bind_to (index_of (bytes_at text i.0)) _ n _ i.2 refl)
+  complete_index n from to i = grind arith
 
   complete_bound : {low : Option ℤ} {from to : Lexemes} → g.BoundAt text low from to → take_token k.Key to ≡ None → d.range_bound_at text from ≡ Some (low, to)
   complete_bound (g.no_bound {ts = ts}) e = choose_past (take_token k.Key ts) _ _ _ e refl
-  complete_bound (g.bound {n = n} {from = from} mid i) e =
-      choose_to (take_token k.Key from) _ _ (i.0, mid) _ (takes_take k.Key i.0 from mid i.1) (bind_to (index_of (bytes_at text i.0)) _ n _ i.2 refl)
+  complete_bound (g.bound {n = n} {from = from} mid i) e = grind arith
 
   complete_step_part : {pace : Option ℕ} {from to : Lexemes} → g.StepPartAt text pace from to → take_token k.Key to ≡ None → eat k.Split to ≡ None → d.range_step_part_at text from ≡ Some (pace, to)
   complete_step_part (g.no_step_part {ts = ts}) e f = choose_past (eat k.Split ts) _ _ _ f refl
-  complete_step_part (g.bare_colon {from = from} a c) e f =
-      choose_to (eat k.Split from) _ _ a _ (eats_eat k.Split from a c) (choose_past (take_token k.Key (skip a)) _ _ _ e refl)
-  complete_step_part (g.step_part {n = n} {from = from} a b c i) e f =
-      choose_to (eat k.Split from) _ _ a _ (eats_eat k.Split from a c)
-      (choose_to (take_token k.Key (skip a)) _ _ (i.0, b) _ (takes_take k.Key i.0 (skip a) b i.1) (bind_to (range_step_of (bytes_at text i.0)) _ n _ i.2 refl))
+  complete_step_part (g.bare_colon {from = from} a c) e f = grind arith
+  complete_step_part (g.step_part {n = n} {from = from} a b c i) e f = grind arith
 
   complete_indexes : {ns : List ℤ} {from to : Lexemes} → g.IndexesAt text ns from to → (rest : Lexemes) → Eats k.CloseArray to rest → (fuel : ℕ) → length from < fuel
       → d.more_indexes_at text fuel from ≡ Some (ns, to)
@@ -112,8 +97,7 @@ module _ (text : List ℕ) where
   complete_names : (fuel : ℕ) {ss : List StrRange} {from to : Lexemes} → g.NamesAt text ss from to → (rest : Lexemes) → Eats k.CloseArray to rest → length from < fuel
       → d.more_names_at text fuel from ≡ Some (ss, to)
   complete_names zero h rest close less = absurd (omega arith)
-  complete_names (suc fuel) (g.no_name {ts = ts}) rest close less =
-      choose_past (eat k.Comma ts) _ _ _ (other_eat k.CloseArray k.Comma close.0 ts rest close.1 refl) refl
+  complete_names (suc fuel) (g.no_name {ts = ts}) rest close less = grind arith
   complete_names (suc fuel) (g.one_name {s = s} {ss = ss} {from = from} {to = to} a b c q more) rest close less =
       let shorter : length (skip b) < fuel = omega (arith, less, eats_shorter k.Comma from a c, skip_shorter a, quoted_shorter s (skip a) b q, skip_shorter b) in
       choose_to (eat k.Comma from) _ _ a _ (eats_eat k.Comma from a c)
@@ -122,34 +106,20 @@ module _ (text : List ℕ) where
 
   complete_word : {token : ParseToken} {from to : Lexemes} → g.WordAt text token from to → d.step_word_at text from ≡ Some (token, to)
   complete_word (g.dot_word {s = s} {from = from} {to = to} h) = choose_to (take_token k.Key from) _ _ (s, to) _ (takes_take k.Key s from to h) refl
-  complete_word (g.dot_all {from = from} {to = to} h) =
-      choose_past (take_token k.Key from) _ _ _ (takes_other k.Asterisk k.Key h.0 from to h.1 refl) (bind_to (eat k.Asterisk from) _ to _ (eats_eat k.Asterisk from to h) refl)
-
-  -- what `]` is not
-  close_key : (to rest : Lexemes) → Eats k.CloseArray to rest → take_token k.Key to ≡ None
-  close_key to rest h = takes_other k.CloseArray k.Key h.0 to rest h.1 refl
+  complete_word (g.dot_all {from = from} {to = to} h) = grind arith
 
   complete_range : {low high : Option ℤ} {pace : Option ℕ} (b c to rest : Lexemes) → g.BoundAt text high (skip b) c → g.StepPartAt text pace c to → Eats k.CloseArray to rest
       → take_token k.Key c ≡ None → d.rest_of_range text low b ≡ Some (t.Range low high pace, to)
-  complete_range {high = high} {pace = pace} b c to rest high_at step_part_at close e =
-      bind_to (d.range_bound_at text (skip b)) _ (high, c) _ (complete_bound high_at e)
-      (bind_to (d.range_step_part_at text c) _ (pace, to) _ (complete_step_part step_part_at (close_key to rest close) (other_eat k.CloseArray k.Split close.0 to rest close.1 refl)) refl)
+  complete_range {high = high} {pace = pace} b c to rest high_at step_part_at close e = grind (arith, bind_to, complete_bound, complete_step_part, other_eat)
 
   -- a colon or a bracket stands where a range's pace begins
   step_part_key : {pace : Option ℕ} {c to : Lexemes} (rest : Lexemes) → g.StepPartAt text pace c to → Eats k.CloseArray to rest → take_token k.Key c ≡ None
-  step_part_key rest (g.no_step_part {ts = ts}) close = close_key ts rest close
-  step_part_key rest (g.bare_colon {from = from} a c) close = takes_other k.Split k.Key c.0 from a c.1 refl
-  step_part_key rest (g.step_part {from = from} a b c i) close = takes_other k.Split k.Key c.0 from a c.1 refl
+  step_part_key rest h close = grind arith
 
   complete_plain : {token : ParseToken} {from to : Lexemes} → g.PlainAt text token from to → (rest : Lexemes) → Eats k.CloseArray to rest → d.plain_at text from ≡ Some (token, to)
   unfolding d.plain_at
   complete_plain (g.in_all {from = from} a h) rest close = choose_to (eat k.Asterisk from) _ _ a _ (eats_eat k.Asterisk from a h) refl
-  complete_plain (g.in_index {n = n} {from = from} a i) rest close =
-      choose_past (eat k.Asterisk from) _ _ _ (other_eat k.Key k.Asterisk i.0 from a i.1 refl)
-      (choose_to (take_token k.Key from) _ _ (i.0, a) _ (takes_take k.Key i.0 from a i.1)
-      (bind_to (index_of (bytes_at text i.0)) _ n _ i.2
-      (choose_past (eat k.Comma (skip a)) _ _ _ (other_eat k.CloseArray k.Comma close.0 (skip a) rest close.1 refl)
-      (choose_past (eat k.Split (skip a)) _ _ _ (other_eat k.CloseArray k.Split close.0 (skip a) rest close.1 refl) refl))))
+  complete_plain (g.in_index {n = n} {from = from} a i) rest close = grind arith
   complete_plain (g.in_union {n = n} {m = m} {ns = ns} {from = from} {to = to} a b c i h j more) rest close =
       choose_past (eat k.Asterisk from) _ _ _ (other_eat k.Key k.Asterisk i.0 from a i.1 refl)
       (choose_to (take_token k.Key from) _ _ (i.0, a) _ (takes_take k.Key i.0 from a i.1)
@@ -158,10 +128,7 @@ module _ (text : List ℕ) where
       (bind_to (d.index_at text (skip b)) _ (m, c) _ (complete_index m (skip b) c j)
       (bind_to (d.with_more_indexes text (n ∷ m ∷ []) c) _ (n ∷ m ∷ ns, to) _
       (bind_to (d.more_indexes_at text (suc (length c)) c) _ (ns, to) _ (complete_indexes more rest close (suc (length c)) (omega arith)) refl) refl)))))
-  complete_plain (g.in_range {to = to} a b c (g.no_bound {ts = ts}) h high step_part_at) rest close =
-      choose_past (eat k.Asterisk ts) _ _ _ (other_eat k.Split k.Asterisk h.0 ts b h.1 refl)
-      (choose_past (take_token k.Key ts) _ _ _ (takes_other k.Split k.Key h.0 ts b h.1 refl)
-      (choose_to (eat k.Split ts) _ _ b _ (eats_eat k.Split ts b h) (complete_range b c to rest high step_part_at close (step_part_key rest step_part_at close))))
+  complete_plain (g.in_range {to = to} a b c (g.no_bound {ts = ts}) h high step_part_at) rest close = search (rules, arith, choose_past, choose_to, complete_range, eats_eat, other_eat, step_part_key, takes_other)
   complete_plain (g.in_range {to = to} a b c (g.bound {n = n} {from = from} mid i) h high step_part_at) rest close =
       choose_past (eat k.Asterisk from) _ _ _ (other_eat k.Key k.Asterisk i.0 from mid i.1 refl)
       (choose_to (take_token k.Key from) _ _ (i.0, mid) _ (takes_take k.Key i.0 from mid i.1)
@@ -187,21 +154,10 @@ module _ (text : List ℕ) where
   -- what stands behind a term: no dot and no bracket
   complete_literal : {token : ParseToken} {from to : Lexemes} → g.LiteralAt text token from to → eat k.Dot to ≡ None → d.literal_at text from ≡ Some (token, to)
   unfolding d.literal_at
-  complete_literal (g.quoted {s = s} {from = from} {to = to} q) e =
-      choose_past (take_token k.Key from) _ _ _ (quoted_other k.Key s from to q refl refl) (bind_to (quoted_at from) _ (s, to) _ (complete_quoted s from to q) refl)
-  complete_literal (g.truth {b = b} {from = from} {to = to} s h f) e =
-      choose_to (take_token k.Key from) _ _ (s, to) _ (takes_take k.Key s from to h) (choose_to (truth_of (bytes_at text s)) _ _ b _ f refl)
-  complete_literal (g.number (g.whole {d = x} {from = from} {to = to} s h f)) e =
-      choose_to (take_token k.Key from) _ _ (s, to) _ (takes_take k.Key s from to h)
-      (choose_past (truth_of (bytes_at text s)) _ _ _ (digits_no_truth (bytes_at text s) [] x f)
-      (bind_to (d.rest_of_number text (bytes_at text s) to) _ (x, to) _ (choose_past (eat k.Dot to) _ _ _ e (bind_to (decimal_of (bytes_at text s) []) _ x _ f refl)) refl))
-  complete_literal (g.number (g.point {d = x} {from = from} {to = to} s a b f h i j v)) e =
-      choose_to (take_token k.Key from) _ _ (s, a) _ (takes_take k.Key s from a h)
-      (choose_past (truth_of (bytes_at text s)) _ _ _ (digits_no_truth (bytes_at text s) (bytes_at text f) x v)
-      (bind_to (d.rest_of_number text (bytes_at text s) a) _ (x, to) _
-      (choose_to (eat k.Dot a) _ _ b _ (eats_eat k.Dot a b i)
-      (bind_to (take_token k.Key b) _ (f, to) _ (takes_take k.Key f b to j) (bind_to (decimal_of (bytes_at text s) (bytes_at text f)) _ x _ v refl)))
-      refl))
+  complete_literal (g.quoted {s = s} {from = from} {to = to} q) e = grind arith
+  complete_literal (g.truth {b = b} {from = from} {to = to} s h f) e = grind arith
+  complete_literal (g.number (g.whole {d = x} {from = from} {to = to} s h f)) e = grind (arith, bind_to, choose_past, choose_to, digits_no_truth)
+  complete_literal (g.number (g.point {d = x} {from = from} {to = to} s a b f h i j v)) e = grind (arith, bind_to, choose_past, choose_to, digits_no_truth, eats_eat)
 
 -- what follows a part of a condition
 
@@ -212,13 +168,10 @@ record Closes (kind : Kind) : Type 0 where
   no_array : same_kind kind k.OpenArray ≡ false
 
 connective_closes : (kind : Kind) (o : FilterToken) → grammar.connective kind ≡ Some o → Closes kind × (same_kind kind k.CloseParenthesis ≡ false)
-connective_closes k.And o h = (record { no_comparison = refl; no_dot = refl; no_array = refl }, refl)
-connective_closes k.Or o h = (record { no_comparison = refl; no_dot = refl; no_array = refl }, refl)
-connective_closes _ o h = cc
+connective_closes kind o h = grind arith
 
 comparison_stops : (kind : Kind) (o : FilterToken) → grammar.comparison kind ≡ Some o → (same_kind kind k.Dot ≡ false) × (same_kind kind k.OpenArray ≡ false)
-comparison_stops k.Equal o h = (cc, cc)
-comparison_stops _ o h = (cc, cc)
+comparison_stops kind o h = grind arith
 
 -- no step goes on there
 record Stops (ts : Lexemes) : Type 0 where
@@ -230,15 +183,7 @@ stops_behind kind ts to h e f = record { no_dot = behind_blank kind k.Dot ts to 
 
 stops_end : (ts : Lexemes) → skip ts ≡ [] → Stops ts
 unfolding skip
-stops_end [] h = record { no_dot = refl; no_array = refl }
-stops_end (p ∷ ps) h = by_test (same_kind p.kind k.Whitespace) refl h
-  where
-    by_test : (b : Bool) → same_kind p.kind k.Whitespace ≡ b → (cond b ps (p ∷ ps)) ≡ [] → Stops (p ∷ ps)
-    by_test true is next =
-        let other = λ (kind : Kind) (e : same_kind k.Whitespace kind ≡ false).
-        ap (λ x. only_if {A = StrRange × Lexemes} (same_kind x kind) (p.span, ps)) (same_kind_true p.kind k.Whitespace is) ∙ ap (λ b. only_if {A = StrRange × Lexemes} b (p.span, ps)) e in
-        record { no_dot = other k.Dot refl; no_array = other k.OpenArray refl }
-    by_test false is next = cc
+stops_end ts h = grind arith
 
 -- a test of whether a step begins
 no_step_begins : (text : List ℕ) (deeper : Lexemes → Read Condition) (ts : Lexemes) → Stops ts → d.begins_step text deeper ts ≡ false
@@ -247,40 +192,23 @@ no_step_begins text deeper ts stops = ap (λ o. is_some o || is_some (take_token
 module _ (text : List ℕ) where
   step_begins : {n : ℕ} {leaves bracket : Bool} {inner : Inner} {from to : Lexemes} (deeper : Lexemes → Read Condition) → g.StepAt text n leaves bracket inner from to
       → d.begins_step text deeper from ≡ true
-  step_begins deeper (g.dot {from = from} a h w) = ap (λ o. is_some o || is_some (take_token k.OpenArray from)) (takes_take k.Dot h.0 from a h.1)
-  step_begins deeper (g.dots {from = from} a b h i w) = ap (λ o. is_some o || is_some (take_token k.OpenArray from)) (takes_take k.Dot h.0 from a h.1)
-  step_begins deeper (g.bracket {from = from} a b h i e) =
-      ap (λ o. is_some o || is_some (take_token k.OpenArray from)) (takes_other k.OpenArray k.Dot h.0 from a h.1 refl) ∙ ap is_some (takes_take k.OpenArray h.0 from a h.1)
-  step_begins deeper (g.dot_bracket {from = from} a b c h o i e) = ap (λ o. is_some o || is_some (take_token k.OpenArray from)) (takes_take k.Dot h.0 from a h.1)
-  step_begins deeper (g.dots_bracket {from = from} a b c e h j o i f) = ap (λ o. is_some o || is_some (take_token k.OpenArray from)) (takes_take k.Dot h.0 from a h.1)
+  step_begins deeper h = grind arith
 
   -- a word behind a dot is neither a dot nor a bracket
   word_other : {token : ParseToken} {from to : Lexemes} (other : Kind) → g.WordAt text token from to → same_kind k.Key other ≡ false → same_kind k.Asterisk other ≡ false
       → eat other from ≡ None
-  word_other other (g.dot_word {s = s} {from = from} {to = to} h) e f = other_eat k.Key other s from to h e
-  word_other other (g.dot_all {from = from} {to = to} h) e f = other_eat k.Asterisk other h.0 from to h.1 f
+  word_other other h e f = grind (arith, other_eat)
 
   -- what stands in brackets begins with no question mark, but for a filter
   plain_other : {token : ParseToken} {from to : Lexemes} → g.PlainAt text token from to → eat k.Question from ≡ None
-  plain_other (g.in_all {from = from} a h) = other_eat k.Asterisk k.Question h.0 from a h.1 refl
-  plain_other (g.in_index {from = from} a i) = other_eat k.Key k.Question i.0 from a i.1 refl
-  plain_other (g.in_union {from = from} a b c i h j more) = other_eat k.Key k.Question i.0 from a i.1 refl
-  plain_other (g.in_range a b c (g.no_bound {ts = ts}) h high step_part_at) = other_eat k.Split k.Question h.0 ts b h.1 refl
-  plain_other (g.in_range a b c (g.bound {from = from} mid i) h high step_part_at) = other_eat k.Key k.Question i.0 from mid i.1 refl
-  plain_other (g.in_name {s = s} {from = from} a q) = none_eat k.Question from (quoted_other k.Question s from a q refl refl)
-  plain_other (g.in_names {s = s} {from = from} a b c q h r more) = none_eat k.Question from (quoted_other k.Question s from a q refl refl)
+  plain_other h = grind arith
 
   literal_other : {token : ParseToken} {from to : Lexemes} (other : Kind) → g.LiteralAt text token from to → same_kind k.Key other ≡ false → same_kind k.SingleQuoted other ≡ false
       → same_kind k.DoubleQuoted other ≡ false → eat other from ≡ None
-  literal_other other (g.quoted {s = s} {from = from} {to = to} q) e f v = none_eat other from (quoted_other other s from to q f v)
-  literal_other other (g.truth {from = from} {to = to} s h w) e f v = other_eat k.Key other s from to h e
-  literal_other other (g.number (g.whole {from = from} {to = to} s h w)) e f v = other_eat k.Key other s from to h e
-  literal_other other (g.number (g.point {from = from} s a b x h i j w)) e f v = other_eat k.Key other s from a h e
+  literal_other other h e f v = grind (arith, none_eat, other_eat, quoted_other)
 
   term_other : {n : ℕ} {term : Term} {from to : Lexemes} → g.TermAt text n term from to → eat k.OpenParenthesis from ≡ None
-  term_other (g.relative {from = from} a h ss) = other_eat k.At k.OpenParenthesis h.0 from a h.1 refl
-  term_other (g.absolute {from = from} a h ss) = other_eat k.Absolute k.OpenParenthesis h.0 from a h.1 refl
-  term_other (g.of_literal l) = literal_other k.OpenParenthesis l refl refl refl
+  term_other h = grind (arith, literal_other)
 
   mutual
     unfolding d.step_at d.array_at d.inner_at d.part_at d.term_at d.steps_at d.condition_by

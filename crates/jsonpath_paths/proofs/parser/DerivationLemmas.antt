@@ -1,5 +1,5 @@
 -- The productions of the grammar spell what the forms spell that the parser meets.
-use Rattle.std.proofs.Common.{◌≡◌, ℕ, Bool, true, false, List, [], ◌∷◌, Option, Some, None, ℤ, refl, sym, subst, ap, cond}
+use Rattle.std.proofs.Common.{◌≡◌, ℕ, Bool, true, false, List, [], ◌∷◌, Option, Some, None, ℤ, refl, sym, subst, ap, cond, arith}
 use Rattle.jsonpath_paths.specs.declared.text.str_reader.StrRange.{StrRange}
 use Rattle.jsonpath_paths.specs.declared.decimal.Decimal.{Decimal}
 use Rattle.jsonpath_paths.specs.declared.token.tokens.FilterToken.{FilterToken}
@@ -29,49 +29,29 @@ unfolding skip
 takes_full {kind = kind} {s = s} {to = to} h e = subst Full (sym h) (ap (λ b. let p : Lexeme = record { kind = kind; span = s } in cond b to (p ∷ to)) e)
 
 connects_full : (kind : Kind) (o : FilterToken) → connective kind ≡ Some o → same_kind kind k.Whitespace ≡ false
-connects_full k.And o h = cc
-connects_full _ o h = cc
+connects_full kind o h = grind arith
 
 compares_full : (kind : Kind) (o : FilterToken) → comparison kind ≡ Some o → same_kind kind k.Whitespace ≡ false
-compares_full k.Equal o h = cc
-compares_full _ o h = cc
+compares_full kind o h = grind arith
 
 quoted_full : {s : StrRange} {from to : Lexemes} → Quoted s from to → Full from
-quoted_full {s = s} {from = from} {to = to} h = by_double h.0 h.1
-  where
-    by_double : (double : Bool) → Takes (f.quote_kind double) s from to → Full from
-    by_double true e = takes_full e refl
-    by_double false e = takes_full e refl
+quoted_full {s = s} {from = from} {to = to} h = grind (arith, takes_full)
 
 module _ (text : List ℕ) where
   literal_full : {token : ParseToken} {from to : Lexemes} → f.LiteralAt text token from to → Full from
-  literal_full (f.quoted q) = quoted_full q
-  literal_full (f.number (f.whole s h e)) = takes_full h refl
-  literal_full (f.number (f.point s a b r h i j e)) = takes_full h refl
-  literal_full (f.truth s h e) = takes_full h refl
+  literal_full h = grind (arith, takes_full)
 
   plain_full : {token : ParseToken} {from to : Lexemes} → f.PlainAt text token from to → Full from
-  plain_full (f.in_all a h) = takes_full h.1 refl
-  plain_full (f.in_index a i) = takes_full i.1 refl
-  plain_full (f.in_union a b c i h j more) = takes_full i.1 refl
-  plain_full (f.in_range a b c f.no_bound h high by) = takes_full h.1 refl
-  plain_full (f.in_range a b c (f.bound mid i) h high by) = takes_full i.1 refl
-  plain_full (f.in_name a q) = quoted_full q
-  plain_full (f.in_names a b c q h r more) = quoted_full q
+  plain_full h = grind (arith, takes_full)
 
   inner_full : {n : ℕ} {i : Inner} {from to : Lexemes} → f.InnerAt text n i from to → Full from
-  inner_full (f.in_plain p) = plain_full p
-  inner_full (f.in_filter a b d h o c) = takes_full h.1 refl
+  inner_full h = grind (arith, plain_full, takes_full)
 
   term_full : {n : ℕ} {side : Term} {from to : Lexemes} → f.TermAt text n side from to → Full from
-  term_full (f.relative a h ss) = takes_full h.1 refl
-  term_full (f.absolute a h ss) = takes_full h.1 refl
-  term_full (f.of_literal l) = literal_full l
+  term_full h = grind (arith, literal_full, takes_full)
 
   part_full : {n : ℕ} {c : Condition} {from to : Lexemes} → f.PartAt text n c from to → Full from
-  part_full (f.parentheses a h c) = takes_full h.1 refl
-  part_full (f.compared kind a b l e o r) = term_full l
-  part_full (f.found a h ss) = takes_full h.1 refl
+  part_full h = grind (arith, takes_full, term_full)
 
   -- ---- from productions to forms
 
@@ -79,8 +59,7 @@ module _ (text : List ℕ) where
   Spelled = g.SpellsPart text
 
   takes : {kind : Kind} {s : StrRange} {from to : Lexemes} → Spelled (g.token kind s) from to → Takes kind s from to
-  takes (g.one_token h) = h
-  takes (g.by p parts) = elim p [ ]
+  takes h = grind arith
 
   eats : {kind : Kind} {from to : Lexemes} → Spelled (g.mark kind) from to → Eats kind from to
   eats (g.by (g.a_mark s) (g.next h g.end)) = (s, takes h)

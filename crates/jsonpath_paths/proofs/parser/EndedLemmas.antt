@@ -55,8 +55,7 @@ ends_there us vs kind [] test apart h g = refl
 ends_there us vs kind (next ∷ kinds) test apart h g = by_test g (by_touch words) (by_touch white) (by_touch equals)
   where
     by_start : (t : Touch) (b : Bool) → starts t next ≡ b → (b ≡ true → ⊥) → (test : ℕ → Bool) → Tests t test → ends test (characters_of (next ∷ kinds)) ≡ true
-    by_start t true e never test is = absurd (never refl)
-    by_start t false e never test is = ends_at_sample t test next (characters_of kinds) is e
+    by_start t b e never test is = grind (arith, ends_at_sample)
 
     by_touch : (t : Touch) → runs_on t kind ≡ true → (test : ℕ → Bool) → Tests t test → ends test (characters_of (next ∷ kinds)) ≡ true
     by_touch t e = by_start t (starts t next) refl (λ s. let none : feed us next (sample next) ≡ None = quiet_refuses t us next (sample next) s (apart t e) in cc (h, none))
@@ -73,12 +72,10 @@ ends_there us vs kind (next ∷ kinds) test apart h g = by_test g (by_touch word
 
 alone : (kind : Kind) → first (sample kind ++ []) ≡ Some (kind, length (sample kind))
 unfolding first
-alone k.Absolute = refl
-alone _ = refl
+alone kind = grind arith
 
 some_sample : (kind : Kind) → 0 < length (sample kind)
-some_sample k.Absolute = omega arith
-some_sample _ = omega arith
+some_sample kind = grind arith
 
 nothing_there : first [] ≡ None
 unfolding first
@@ -100,16 +97,11 @@ added_tokens pos us vs (kind ∷ kinds) s h = by_fed (feed us kind (sample kind)
 
 pub added_scalars : (kinds : List Kind) → scalars (characters_of kinds) ≡ true
 added_scalars [] = refl
-added_scalars (kind ∷ kinds) = one kind (characters_of kinds) (added_scalars kinds)
-  where
-    one : (kind : Kind) (rest : List ℕ) → scalars rest ≡ true → scalars (sample kind ++ rest) ≡ true
-    one k.Absolute rest h = h
-    one _ rest h = h
+added_scalars (kind ∷ kinds) = grind (arith, added_scalars kinds)
 
 word_bytes : (kind : Kind) → encodes (sample kind) ≡ sample kind
 unfolding encode
-word_bytes k.Absolute = refl
-word_bytes _ = refl
+word_bytes kind = grind arith
 
 pub added_signs : (text : List ℕ) (pos : ℕ) (kinds : List Kind) → At text pos (characters_of kinds) → signs text (lexemes_of pos kinds) ≡ samples kinds
 added_signs text pos [] h = refl

@@ -1,5 +1,5 @@
 -- The longest front of a text with which a path begins, and the tokens that are tried behind it.
-use Rattle.std.proofs.Common.{◌≡◌, ◌<◌, ◌≤◌, ◌+◌, ◌-◌, ℕ, Bool, true, false, List, [], ◌∷◌, ◌++◌, length, take, Option, Some, None, refl, sym, subst, ap, ◌∙◌, arith, ◌⊎◌, inl, inr, cond, get_or, append-nil, length-append}
+use Rattle.std.proofs.Common.{◌≡◌, ◌<◌, ◌≤◌, ◌+◌, ◌-◌, ℕ, Bool, true, List, [], ◌∷◌, ◌++◌, length, take, Option, Some, None, refl, sym, subst, ap, ◌∙◌, arith, ◌⊎◌, inl, inr, cond, get_or, append-nil, length-append}
 use Rattle.std.specs.Prelude.{is_some, is_none, unwrap_or, option_map, slice_index, ◌==◌, ◌↔◌}
 use Rattle.std.specs.List.{list_any}
 use Rattle.std.specs.Str.{chars, IsUtf8, IsCharBoundary}
@@ -26,15 +26,14 @@ use Rattle.jsonpath_paths.specs.declared.token.tokens.Kind.{Kind}
 use Rattle.jsonpath_paths.specs.declared.token.tokens.Kind.TheVariants as k
 use Rattle.jsonpath_paths.specs.declared.token.tokens.Lexeme.{Lexeme}
 use Rattle.jsonpath_paths.specs.plan.Expecting.{all_fed}
-use Rattle.jsonpath_paths.specs.plan.Wants.{Want, Sign, stop, stop_on, feed, run, run_on, signs, may_end, whole_wants}
+use Rattle.jsonpath_paths.specs.plan.Wants.{Want, Sign, stop, stop_on, feed, run, run_on, signs, whole_wants}
 use Rattle.jsonpath_paths.proofs.parser.DerivationLemmas.{sound_path}
 use Rattle.jsonpath_paths.proofs.parser.ExpectedLemmas.{all_meant}
 use Rattle.jsonpath_paths.proofs.parser.FollowPathLemmas.{ends_read}
 use Rattle.jsonpath_paths.proofs.parser.RefusedAtLemmas.{Refused, stopped, begins, begins_all, begins_next, longer, never_begins, runs, run_stops, spelled_stops, path_there, signs_same, reach_end}
-use Rattle.jsonpath_paths.proofs.parser.SameKindLemmas.{true_same_kind}
 use Rattle.jsonpath_paths.proofs.parser.WantsLemmas.{sample}
 use Rattle.jsonpath_paths.proofs.token.FrontKeptLemmas.{Within, kept}
-use Rattle.jsonpath_paths.proofs.token.TokenizedLemmas.{read_so, found_spelled}
+use Rattle.jsonpath_paths.proofs.token.TokenizedLemmas.{read_so}
 
 -- a text with a word behind it
 
@@ -88,12 +87,10 @@ taken_next text word front kind us h ran =
     ∙ (ap (λ w. all_taken (option_map length (stop_on (feed us kind w) (t ∷ []) (λ vs. stop other vs [])))) bytes ∙ by_fed other t (feed us kind word))
   where
     by_end : (b : Bool) → all_taken (option_map length (cond {A = Option Lexemes} b None (Some []))) ≡ true
-    by_end true = refl
-    by_end false = refl
+    by_end b = grind arith
 
     by_fed : (other : List ℕ) (t : Lexeme) (o : Option (List Want)) → all_taken (option_map length (stop_on o (t ∷ []) (λ vs. stop other vs []))) ≡ is_some o
-    by_fed other t None = refl
-    by_fed other t (Some vs) = by_end (may_end vs)
+    by_fed other t o = grind arith
 
 -- the front
 
@@ -119,18 +116,13 @@ front_left text ts cs utf8 read = by_stop (stop text whole_wants ts) refl
         })
 
 none_left : (o : Option Lexemes) → is_none (option_map length o) ≡ true → o ≡ None
-none_left None h = refl
-none_left (Some ts) h = cc h
+none_left o h = grind arith
 
 pub a_path : (text : List ℕ) (ts : Lexemes) (cs : List ℕ) → TokensAt 0 (chars text) ts cs → cs ≡ [] → is_none (option_map length (stop text whole_wants ts)) ≡ true → IsInGrammar text
-a_path text ts cs read whole h =
-    let path = ends_read text ts (none_left (stop text whole_wants ts) h) in
-    (path.0, record { tokens = ts; read = subst (TokensAt 0 (chars text) ts) whole read; spelled = sound_path text ts path.0 path.1 })
+a_path text ts cs read whole h = grind (arith, ends_read, sound_path)
 
 pub no_path : (text : List ℕ) (ts : Lexemes) (cs : List ℕ) → TokensAt 0 (chars text) ts cs → (is_none (option_map length (stop text whole_wants ts)) ≡ true → cs ≡ [] → ⊥) → IsInGrammar text → ⊥
-no_path text ts cs read none g =
-    let whole : cs ≡ [] = sym (ap (λ r. r.rest) (read_so read)) ∙ (found_spelled text g.0 g.1).0 in
-    none (ap (λ o. is_none (option_map length o)) (path_there text ts (subst (TokensAt 0 (chars text) ts) whole read) g)) whole
+no_path text ts cs read none g = grind (arith, path_there, read_so)
 
 -- what may stand behind it
 
@@ -140,8 +132,7 @@ named _ = k.Key
 
 sample_meant : (e : Expected) → is_meant e (named e) (sample (named e)) ≡ true
 unfolding index_of range_step_of decimal_of fraction_of truth_of
-sample_meant (Token kind) = true_same_kind kind kind refl
-sample_meant _ = refl
+sample_meant e = grind arith
 
 abbrev first_word : List Sign → List ℕ
 first_word [] = []
@@ -197,5 +188,4 @@ are_expected text front expected left utf8 longest reported ended =
       where
         by_fed : (o : Option (List Want)) → feed us t.kind (bytes_at other t.span) ≡ o → list_any (λ e. is_meant e t.kind (bytes_at other t.span)) expected ≡ is_some o → run whole_wants (signs other front) ≡ Some us
             → BeginsPath other (front ++ t ∷ []) ↔ (list_any (λ e. is_meant e t.kind (bytes_at other t.span)) expected ≡ true)
-        by_fed None e m ran_there = (λ b. absurd (never_begins other front later t rest us read ran_there e b), λ h. cc (m, h))
-        by_fed (Some vs) e m ran_there = (λ b. m, λ h. begins_next other front later t rest us vs utf8 read ran_there e)
+        by_fed o e m ran_there = grind (arith, begins_next, never_begins)

@@ -1,14 +1,14 @@
 -- What is reported of the tokens that may come next is what the machine of wants takes.
-use Rattle.std.proofs.Common.{◌≡◌, ◌<◌, ◌+◌, ℕ, Bool, true, false, List, [], ◌∷◌, ◌++◌, length, take, get_or, Option, Some, None, refl, sym, ap, ap₂, ◌∙◌, codes, append-nil}
+use Rattle.std.proofs.Common.{◌≡◌, ◌<◌, ◌+◌, ℕ, Bool, true, false, List, [], ◌∷◌, ◌++◌, length, take, get_or, Option, Some, None, refl, sym, ap, ap₂, ◌∙◌, codes, append-nil, arith}
 use Rattle.std.proofs.Math.Bool.{and-false, or-false}
 use Rattle.std.proofs.lemmas.List.{take_more}
-use Rattle.std.specs.Prelude.{◌&&◌, ◌||◌, is_some, option_map, if◌then◌else◌}
+use Rattle.std.specs.Prelude.{◌&&◌, ◌||◌, is_some, if◌then◌else◌}
 use Rattle.std.specs.List.{list_any}
 use Rattle.std.specs.Option.{option_to_list}
 use Rattle.std.proofs.lemmas.List.Folds.{list_any-append}
 use Rattle.jsonpath_paths.specs.Expectations.{is_meant}
 use Rattle.jsonpath_paths.specs.Literals.{truth_of}
-use Rattle.jsonpath_paths.specs.Numbers.{index_of, range_step_of, decimal_of, fraction_of, decimal_from}
+use Rattle.jsonpath_paths.specs.Numbers.{index_of, range_step_of, decimal_of, fraction_of}
 use Rattle.jsonpath_paths.specs.token.Kinds.{same_kind}
 use Rattle.jsonpath_paths.specs.declared.parser.expected.Expected.{Expected}
 use Rattle.jsonpath_paths.specs.declared.parser.expected.Expected.TheVariants.{Token, Index, RangeStep, Literal, Fraction}
@@ -16,7 +16,7 @@ use Rattle.jsonpath_paths.specs.declared.parser.expected.TheConstants.{OTHER_KIN
 use Rattle.jsonpath_paths.specs.declared.token.tokens.Kind.{Kind}
 use Rattle.jsonpath_paths.specs.declared.token.tokens.Kind.TheVariants as k
 use Rattle.jsonpath_paths.specs.plan.Expecting.{kinds_fed, word_fed, all_fed}
-use Rattle.jsonpath_paths.specs.plan.Wants.{Want, dollar, blanks, steps, word, after_dot, after_dots, inner, plain, indexes_range_or_names, after_first_index, more_indexes, index, range_to, range_by, range_step, after_name, more_names, condition, part, term, literal, fraction, digits, move, moved, feed, if_word, literal_word, takes}
+use Rattle.jsonpath_paths.specs.plan.Wants.{Want, blanks, steps, word, after_dot, after_dots, inner, plain, indexes_range_or_names, after_first_index, more_indexes, index, range_to, range_by, range_step, after_name, more_names, condition, part, term, literal, fraction, digits, move, moved, feed, if_word, literal_word}
 use Rattle.jsonpath_paths.proofs.parser.SameKindLemmas.{same_kind_true}
 
 -- the words that may come next
@@ -66,24 +66,14 @@ are literals w = is_some (truth_of w) || is_some (decimal_of w [])
 are fractions w = is_some (fraction_of w)
 
 word_taken : (b : Bool) (us ws : List Want) (later : Option (List Want)) → is_some (moved (if_word b us) ws later) ≡ b
-word_taken true us ws later = refl
-word_taken false us ws later = refl
+word_taken b us ws later = grind arith
 
 literal_taken : (w : List ℕ) (us ws : List Want) (later : Option (List Want)) → is_some (moved (literal_word w us) ws later) ≡ (is_some (truth_of w) || is_some (decimal_of w []))
-literal_taken w us ws later = by_word (is_some (truth_of w)) (is_some (decimal_of w []))
-  where
-    by_word : (b d : Bool) → is_some (moved (if b then takes us else if_word d (fraction ∷ us)) ws later) ≡ (b || d)
-    by_word true d = refl
-    by_word false true = refl
-    by_word false false = refl
+literal_taken w us ws later = grind arith
 
 digits_behind_zero : (w : List ℕ) → is_some (decimal_of (48 ∷ []) w) ≡ is_some (fraction_of w)
 unfolding decimal_of
-digits_behind_zero w = by_fraction (fraction_of w)
-  where
-    by_fraction : (o : Option ℕ) → is_some (option_map (decimal_from false 0) o) ≡ is_some o
-    by_fraction None = refl
-    by_fraction (Some n) = refl
+digits_behind_zero w = grind arith
 
 -- a word is taken that is one of them
 word_taken_so : (us : List Want) (w : List ℕ) → is_some (feed us k.Key w) ≡ are (words_of us) w
@@ -119,25 +109,11 @@ words_tried no_word = refl
 words_tried _ = refl
 
 tried : (us : List Want) → word_fed us ≡ reported (words_of us)
-tried us =
-    ap (λ b. by_tries b (took (codes "true")) (took (codes "-1")) (took (codes "+1")) (took (codes "1"))) (so (codes "a")) ∙ (ap (λ b. by_tries (is (codes "a")) b (took (codes "-1")) (took (codes "+1")) (took (codes "1"))) (so (codes "true"))
-    ∙ (ap (λ b. by_tries (is (codes "a")) (is (codes "true")) b (took (codes "+1")) (took (codes "1"))) (so (codes "-1")) ∙ (ap (λ b. by_tries (is (codes "a")) (is (codes "true")) (is (codes "-1")) b (took (codes "1"))) (so (codes "+1"))
-    ∙ (ap (λ b. by_tries (is (codes "a")) (is (codes "true")) (is (codes "-1")) (is (codes "+1")) b) (so (codes "1")) ∙ words_tried (words_of us)))))
-  where
-    took : List ℕ → Bool
-    took w = is_some (feed us k.Key w)
-
-    is : List ℕ → Bool
-    is w = are (words_of us) w
-
-    so : (w : List ℕ) → took w ≡ is w
-    so w = word_taken_so us w
+tried us = grind (arith, word_taken_so, words_tried)
 
 -- other tokens are taken whatever their bytes are
 same_move : (v : Want) (kind : Kind) (w : List ℕ) → (kind ≡ k.Key → ⊥) → move v kind w ≡ move v kind []
-same_move dollar k.Absolute w h = refl
-same_move _ k.Key w h = absurd (h refl)
-same_move _ _ w h = refl
+same_move v kind w h = grind arith
 
 same_fed : (us : List Want) (kind : Kind) (w : List ℕ) → (kind ≡ k.Key → ⊥) → feed us kind w ≡ feed us kind []
 same_fed [] kind w h = refl
@@ -149,32 +125,15 @@ kinds_meant us kind w (other ∷ kinds) = by_kind (same_kind kind other) (is_som
   where
     by_kind : (b c : Bool) → same_kind kind other ≡ b → is_some (feed us other []) ≡ c → list_any (λ e. is_meant e kind w) (kinds_fed us kinds) ≡ (list_any (same_kind kind) kinds && is_some (feed us kind []))
         → list_any (λ e. is_meant e kind w) (if c then Token other ∷ kinds_fed us kinds else kinds_fed us kinds) ≡ ((b || list_any (same_kind kind) kinds) && is_some (feed us kind []))
-    by_kind false false e f h = h
-    by_kind false true e f h = ap (λ b. b || list_any (λ e. is_meant e kind w) (kinds_fed us kinds)) e ∙ h
-    by_kind true true e f h = ap (λ b. b || list_any (λ e. is_meant e kind w) (kinds_fed us kinds)) e ∙ sym (ap (λ x. is_some (feed us x [])) (same_kind_true kind other e) ∙ f)
-    by_kind true false e f h =
-        let none : is_some (feed us kind []) ≡ false = ap (λ x. is_some (feed us x [])) (same_kind_true kind other e) ∙ f in
-        h ∙ (ap (λ b. list_any (same_kind kind) kinds && b) none ∙ (and-false (list_any (same_kind kind) kinds) ∙ sym none))
-
-word_meant : (c : Words) (w : List ℕ) → list_any (λ e. is_meant e k.Key w) (option_to_list (reported c)) ≡ are c w
-word_meant no_word w = refl
-word_meant every_word w = refl
-word_meant c w = or-false (are c w)
+    by_kind b c e f h = grind (arith, and-false, same_kind_true)
 
 no_word_meant : (c : Words) (kind : Kind) (w : List ℕ) → (kind ≡ k.Key → ⊥) → list_any (λ e. is_meant e kind w) (option_to_list (reported c)) ≡ false
-no_word_meant c k.Key w h = absurd (h refl)
-no_word_meant no_word _ w h = refl
-no_word_meant _ _ w h = refl
+no_word_meant c kind w h = grind arith
 
 -- one kind more is tried
 kinds_upon : (us : List Want) (xs ys : List Kind) → kinds_fed us (xs ++ ys) ≡ kinds_fed us xs ++ kinds_fed us ys
 kinds_upon us [] ys = refl
-kinds_upon us (x ∷ xs) ys = by_fed (is_some (feed us x [])) (kinds_upon us xs ys)
-  where
-    by_fed : (b : Bool) → kinds_fed us (xs ++ ys) ≡ kinds_fed us xs ++ kinds_fed us ys
-        → (if b then Token x ∷ kinds_fed us (xs ++ ys) else kinds_fed us (xs ++ ys)) ≡ (if b then Token x ∷ kinds_fed us xs else kinds_fed us xs) ++ kinds_fed us ys
-    by_fed true h = ap (λ es. Token x ∷ es) h
-    by_fed false h = h
+kinds_upon us (x ∷ xs) ys = grind (arith, kinds_upon us xs ys)
 
 pub kinds_more : (us : List Want) (kinds : List Kind) (i : ℕ) (d : Kind) (b : Bool) (old new : List Expected) → i < length kinds → old ≡ kinds_fed us (take i kinds) → b ≡ is_some (feed us (get_or kinds i d) [])
     → new ≡ (if b then old ++ Token (get_or kinds i d) ∷ [] else old) → new ≡ kinds_fed us (take (i + 1) kinds)
@@ -196,5 +155,4 @@ all_meant us kind w =
     other kind h = ap (λ b. is_some (feed us kind []) || b) (no_word_meant (words_of us) kind w h) ∙ (or-false (is_some (feed us kind [])) ∙ ap is_some (sym (same_fed us kind w h)))
 
     by_kind : (kind : Kind) → ((list_any (same_kind kind) OTHER_KINDS && is_some (feed us kind [])) || list_any (λ e. is_meant e kind w) (option_to_list (reported (words_of us)))) ≡ is_some (feed us kind w)
-    by_kind k.Key = word_meant (words_of us) w ∙ sym (word_taken_so us w)
-    by_kind kind = other kind (λ e. cc e)
+    by_kind kind = grind (arith, word_taken_so, other)

@@ -14,15 +14,11 @@ use Rattle.jsonpath_paths.specs.plan.ParsedParts.{Read, ◌>>=◌, choose, only_
 use Rattle.jsonpath_paths.specs.plan.Wants.{Want, stop, stop_on, moved, move, feed, passes, refuses, if_word, may_pass, may_end, blanks, close, plain, indexes_range_or_names, range_or_names, after_first_index, more_indexes, index, range_to, range_by, range_step, after_name, more_names, quoted, open_group, dollar, fraction, digits}
 use Rattle.jsonpath_paths.proofs.parser.SoundLemmas.{take_takes, eat_eats}
 use Rattle.jsonpath_paths.proofs.parser.ListLemmas.{index_falls, name_falls}
-use Rattle.jsonpath_paths.proofs.parser.StopLemmas.{put, past_blanks, no_star, no_word, no_colon}
+use Rattle.jsonpath_paths.proofs.parser.StopLemmas.{past_blanks, no_star, no_word, no_colon}
 use Rattle.jsonpath_paths.proofs.parser.LiteralStopLemmas.{word_in, word_out}
 
 pub not_eaten : (kind : Kind) (ts : Lexemes) → eat kind ts ≡ None → take_token kind ts ≡ None
-not_eaten kind ts h = by_taken (take_token kind ts) h
-  where
-    by_taken : (o : Read StrRange) → (o >>= λ s. Some s.1) ≡ None → o ≡ None
-    by_taken None h = refl
-    by_taken (Some s) h = cc
+not_eaten kind ts h = grind arith
 
 -- a want that takes one kind of token alone
 abbrev pub Refuses : Want → Kind → Type 0
@@ -32,48 +28,37 @@ abbrev pub Passes : Want → Kind → Type 0
 Passes v kind = (other : Kind) (w : List ℕ) → same_kind other kind ≡ false → move v other w ≡ passes
 
 index_alone : Refuses index k.Key
-index_alone k.Key w h = cc
-index_alone _ w h = refl
+index_alone b w h = grind arith
 
 pub digits_alone : Refuses digits k.Key
-digits_alone k.Key w h = cc
-digits_alone _ w h = refl
+digits_alone b w h = grind arith
 
 pub close_alone : Refuses close k.CloseArray
-close_alone k.CloseArray w h = cc
-close_alone _ w h = refl
+close_alone b w h = grind arith
 
 pub opening_alone : Refuses open_group k.OpenParenthesis
-opening_alone k.OpenParenthesis w h = cc
-opening_alone _ w h = refl
+opening_alone b w h = grind arith
 
 pub dollar_alone : Refuses dollar k.Absolute
-dollar_alone k.Absolute w h = cc
-dollar_alone _ w h = refl
+dollar_alone b w h = grind arith
 
 range_to_passes : Passes range_to k.Key
-range_to_passes k.Key w h = cc
-range_to_passes _ w h = refl
+range_to_passes b w h = grind arith
 
 range_by_passes : Passes range_by k.Split
-range_by_passes k.Split w h = cc
-range_by_passes _ w h = refl
+range_by_passes b w h = grind arith
 
 range_step_passes : Passes range_step k.Key
-range_step_passes k.Key w h = cc
-range_step_passes _ w h = refl
+range_step_passes b w h = grind arith
 
 more_names_passes : Passes more_names k.Comma
-more_names_passes k.Comma w h = cc
-more_names_passes _ w h = refl
+more_names_passes b w h = grind arith
 
 pub fraction_passes : Passes fraction k.Dot
-fraction_passes k.Dot w h = cc
-fraction_passes _ w h = refl
+fraction_passes b w h = grind arith
 
 not_same : {A : Type 0} (b : Bool) (x : A) → only_if b x ≡ None → b ≡ false
-not_same true x h = cc
-not_same false x h = refl
+not_same b x h = grind arith
 
 module _ (text : List ℕ) where
   -- what is read goes on as the machine does behind these wants, of which some are left; where nothing is read it stops
@@ -87,9 +72,7 @@ module _ (text : List ℕ) where
       (p ∷ ps, ap (λ m. stop_on (moved m ws (feed ws p.kind (bytes_at text p.span))) (p ∷ ps) (λ us. stop text us ps)) (alone p.kind (bytes_at text p.span) (not_same _ _ h)))
 
   pub passes_by : (v : Want) (kind : Kind) (ws : List Want) (ts : Lexemes) → Passes v kind → may_pass v ≡ true → take_token kind ts ≡ None → stop text (v ∷ ws) ts ≡ stop text ws ts
-  passes_by v kind ws [] alone e h = ap (λ b. cond {A = Option Lexemes} (b && may_end ws) None (Some [])) e
-  passes_by v kind ws (p ∷ ps) alone e h =
-      ap (λ m. stop_on (moved m ws (feed ws p.kind (bytes_at text p.span))) (p ∷ ps) (λ us. stop text us ps)) (alone p.kind (bytes_at text p.span) (not_same _ _ h))
+  passes_by v kind ws ts alone e h = grind arith
 
   -- the first token is taken
   pub first_of : (vs : List Want) (kind : Kind) (ts to : Lexemes) (e : eat kind ts ≡ Some to) → stop text vs ts ≡ stop text vs (record { kind = kind; span = (eat_eats kind ts to e).0 } ∷ to)
@@ -105,26 +88,22 @@ module _ (text : List ℕ) where
   follows_by (Some r) vs us xs ts from e h = λ ws. e ws ∙ h ws
 
   pub follows_then : {A B : Type 0} (o : Read A) (f : A × Lexemes → Read B) (vs us xs : List Want) (ts : Lexemes) → Follows vs us o ts → ((r : A × Lexemes) → o ≡ Some r → Follows us xs (f r) r.1) → Follows vs xs (o >>= f) ts
-  follows_then None f vs us xs ts h g = h
-  follows_then (Some r) f vs us xs ts h g = follows_by (f r) vs us xs ts r.1 h (g r refl)
+  follows_then o f vs us xs ts h g = grind (arith, follows_by)
 
   pub follows_more : {A : Type 0} (o : Read A) (vs us xs : List Want) (ts : Lexemes) → Follows vs us o ts → Follows (vs ++ xs) (us ++ xs) o ts
   follows_more None vs us xs ts h = λ ws. let x = h (xs ++ ws) in (x.0, ap (λ l. stop text l ts) (append_assoc vs xs ws) ∙ x.1)
   follows_more (Some r) vs us xs ts h = λ ws. ap (λ l. stop text l ts) (append_assoc vs xs ws) ∙ (h (xs ++ ws) ∙ sym (ap (λ l. stop text l r.1) (append_assoc us xs ws)))
 
   pub follows_map : {A B : Type 0} (o : Read A) (g : A → B) (vs us : List Want) (ts : Lexemes) → Follows vs us o ts → Follows vs us (o >>= λ r. Some (g r.0, r.1)) ts
-  follows_map None g vs us ts h = h
-  follows_map (Some r) g vs us ts h = h
+  follows_map o g vs us ts h = grind arith
 
   pub follows_choose : {A B : Type 0} (o : Option A) (f : A → Read B) (other : Read B) (vs us : List Want) (ts : Lexemes) → ((x : A) → o ≡ Some x → Follows vs us (f x) ts) → (o ≡ None → Follows vs us other ts)
       → Follows vs us (choose o f other) ts
-  follows_choose None f other vs us ts g h = h refl
-  follows_choose (Some x) f other vs us ts g h = g x refl
+  follows_choose o f other vs us ts g h = grind arith
 
   pub follows_bind : {A B : Type 0} (o : Option A) (f : A → Read B) (vs us : List Want) (ts : Lexemes) → ((x : A) → o ≡ Some x → Follows vs us (f x) ts)
       → (o ≡ None → (ws : List Want) → (here : Lexemes) × (stop text (vs ++ ws) ts ≡ Some here)) → Follows vs us (o >>= f) ts
-  follows_bind None f vs us ts g h = h refl
-  follows_bind (Some x) f vs us ts g h = g x refl
+  follows_bind o f vs us ts g h = grind arith
 
   -- a word by its meaning, and what is read behind it
   follows_word : {N B : Type 0} (v : Want) (test : List ℕ → Option N) (us xs : List Want) (g : N → Read B) (ts : Lexemes) (w : StrRange × Lexemes)
@@ -146,13 +125,7 @@ module _ (text : List ℕ) where
       (λ e ws. refuses_by index k.Key ws ts index_alone refl e)
 
   no_quote : (ws : List Want) (ts : Lexemes) → take_token k.DoubleQuoted ts ≡ None → take_token k.SingleQuoted ts ≡ None → stop text (quoted ∷ ws) ts ≡ Some ts
-  no_quote ws [] h i = refl
-  no_quote ws (p ∷ ps) h i = by_first p.kind h i
-    where
-      by_first : (kind : Kind) → take_token k.DoubleQuoted (put kind p ps) ≡ None → take_token k.SingleQuoted (put kind p ps) ≡ None → stop text (quoted ∷ ws) (put kind p ps) ≡ Some (put kind p ps)
-      by_first k.DoubleQuoted h i = cc
-      by_first k.SingleQuoted h i = cc
-      by_first _ h i = refl
+  no_quote ws ts h i = grind arith
 
   pub follows_quoted : (ts : Lexemes) → Follows (quoted ∷ []) [] (quoted_at ts) ts
   follows_quoted ts =
@@ -166,30 +139,14 @@ module _ (text : List ℕ) where
 
   no_more_indexes : (ws : List Want) (ts : Lexemes) → take_token k.Comma ts ≡ None → stop text (more_indexes ∷ ws) ts ≡ stop text ws (skip ts)
   unfolding skip
-  no_more_indexes ws [] h = refl
-  no_more_indexes ws (p ∷ ps) h = by_first p.kind h
-    where
-      by_first : (kind : Kind) → take_token k.Comma (put kind p ps) ≡ None → stop text (more_indexes ∷ ws) (put kind p ps) ≡ stop text ws (skip (put kind p ps))
-      by_first k.Comma h = cc
-      by_first _ h = refl
+  no_more_indexes ws ts h = grind arith
 
   no_list_of_names : (ws : List Want) (ts : Lexemes) → take_token k.Comma ts ≡ None → stop text (after_name ∷ ws) ts ≡ stop text ws (skip ts)
   unfolding skip
-  no_list_of_names ws [] h = refl
-  no_list_of_names ws (p ∷ ps) h = by_first p.kind h
-    where
-      by_first : (kind : Kind) → take_token k.Comma (put kind p ps) ≡ None → stop text (after_name ∷ ws) (put kind p ps) ≡ stop text ws (skip (put kind p ps))
-      by_first k.Comma h = cc
-      by_first _ h = refl
+  no_list_of_names ws ts h = grind arith
 
   index_alone_there : (ws : List Want) (ts : Lexemes) → take_token k.Comma ts ≡ None → take_token k.Split ts ≡ None → stop text (after_first_index ∷ ws) ts ≡ stop text ws ts
-  index_alone_there ws [] h i = refl
-  index_alone_there ws (p ∷ ps) h i = by_first p.kind h i
-    where
-      by_first : (kind : Kind) → take_token k.Comma (put kind p ps) ≡ None → take_token k.Split (put kind p ps) ≡ None → stop text (after_first_index ∷ ws) (put kind p ps) ≡ stop text ws (put kind p ps)
-      by_first k.Comma h i = cc
-      by_first k.Split h i = cc
-      by_first _ h i = refl
+  index_alone_there ws ts h i = grind arith
 
   follows_indexes : (fuel : ℕ) (ts : Lexemes) → length ts < fuel → Follows (more_indexes ∷ []) [] (d.more_indexes_at text fuel ts) ts
   follows_indexes zero ts less = absurd (omega arith)

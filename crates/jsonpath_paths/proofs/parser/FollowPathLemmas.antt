@@ -17,8 +17,7 @@ use Rattle.jsonpath_paths.specs.plan.ParsedParts as d
 use Rattle.jsonpath_paths.specs.plan.ParsedParts.{Read, ◌>>=◌, take_token, eat, quoted_at, by_kind, skip, begins_step}
 use Rattle.jsonpath_paths.specs.plan.Wants.{Want, Reaction, stop, stop_on, moved, feed, takes, refuses, if_word, literal_word, blanks, steps, step, word, after_dot, after_dots, close, inner, plain, quoted, open_group, condition, part, candidate_tail, tail, sign, side_behind_sign, term, literal, fraction, digits, dollar, whole_wants}
 use Rattle.jsonpath_paths.proofs.parser.LevelLemmas.{falls}
-use Rattle.jsonpath_paths.proofs.parser.SoundLemmas.{eat_eats}
-use Rattle.jsonpath_paths.proofs.parser.StopLemmas.{put, past_blanks, no_question, no_path, no_group, no_word_literal, dot_word, dots_word, step_next, no_step_next, sign_next, no_sign_next, compared_next, alone_next, condition_past_blanks, tail_refused}
+use Rattle.jsonpath_paths.proofs.parser.StopLemmas.{past_blanks, no_question, no_path, no_group, no_word_literal, dot_word, dots_word, step_next, no_step_next, sign_next, no_sign_next, compared_next, alone_next, condition_past_blanks, tail_refused}
 use Rattle.jsonpath_paths.proofs.parser.DeeperStopLemmas.{tail_deeper, deeper_stop}
 use Rattle.jsonpath_paths.proofs.parser.LiteralStopLemmas.{word_in, word_out, any_whole, number_word}
 use Rattle.jsonpath_paths.proofs.parser.FollowLemmas.{Follows, not_eaten, refuses_by, passes_by, first_of, first_taken, follows_by, follows_then, follows_more, follows_map, follows_choose, follows_bind, follows_quoted, follows_plain, digits_alone, fraction_passes, close_alone, opening_alone, dollar_alone}
@@ -80,8 +79,7 @@ EndsWith None stopped = (here : Lexemes) × (stopped ≡ Some here)
 EndsWith (Some p) stopped = stopped ≡ None
 
 none_follows : {A : Type 0} (text : List ℕ) (o : Read A) (vs us : List Want) (ts : Lexemes) → o ≡ None → ((ws : List Want) → (here : Lexemes) × (stop text (vs ++ ws) ts ≡ Some here)) → Follows text vs us o ts
-none_follows text None vs us ts e h = h
-none_follows text (Some r) vs us ts e h = cc e
+none_follows text o vs us ts e h = grind arith
 
 follows_deeper : (text : List ℕ) (n : ℕ) (deeper : Lexemes → Read Condition) → Deep text n deeper → (vs us : List Want) (ts o : Lexemes)
     → ((ws : List Want) → stop text (vs ++ ws) ts ≡ deeper_stop text (us ++ ws) n ts o) → Follows text vs us (deeper o) ts
@@ -89,8 +87,7 @@ follows_deeper text zero deeper deep vs us ts o e = none_follows text (deeper o)
 follows_deeper text (suc m) deeper deep vs us ts o e = follows_by text (deeper o) vs (condition m ∷ us) us ts o e (follows_more text (deeper o) (condition m ∷ []) [] us o (deep o))
 
 filter_opened : (text : List ℕ) (n : ℕ) (ws : List Want) (ts q o : Lexemes) → eat k.Question ts ≡ Some q → eat k.OpenParenthesis q ≡ Some o → stop text (inner n ∷ ws) ts ≡ deeper_stop text (blanks ∷ ws) n ts o
-filter_opened text zero ws ts q o e i = first_of text (inner zero ∷ ws) k.Question ts q e ∙ ap Some (sym (eat_eats k.Question ts q e).1)
-filter_opened text (suc m) ws ts q o e i = first_of text (inner (suc m) ∷ ws) k.Question ts q e ∙ first_of text (open_group ∷ condition m ∷ blanks ∷ ws) k.OpenParenthesis q o i
+filter_opened text n ws ts q o e i = grind arith
 
 filter_unopened : (text : List ℕ) (n : ℕ) (ws : List Want) (ts q : Lexemes) → eat k.Question ts ≡ Some q → take_token k.OpenParenthesis q ≡ None → (here : Lexemes) × (stop text (inner n ∷ ws) ts ≡ Some here)
 filter_unopened text zero ws ts q e i = (_, first_of text (inner zero ∷ ws) k.Question ts q e)
@@ -98,26 +95,13 @@ filter_unopened text (suc m) ws ts q e i =
     let r = refuses_by text open_group k.OpenParenthesis (condition m ∷ blanks ∷ ws) q opening_alone refl i in (r.0, first_of text (inner (suc m) ∷ ws) k.Question ts q e ∙ r.1)
 
 group_opened : (text : List ℕ) (n : ℕ) (ws : List Want) (ts o : Lexemes) → eat k.OpenParenthesis ts ≡ Some o → stop text (part n ∷ ws) ts ≡ deeper_stop text (blanks ∷ tail n ∷ ws) n ts o
-group_opened text zero ws ts o e = first_of text (part zero ∷ ws) k.OpenParenthesis ts o e ∙ ap Some (sym (eat_eats k.OpenParenthesis ts o e).1)
-group_opened text (suc m) ws ts o e = first_of text (part (suc m) ∷ ws) k.OpenParenthesis ts o e
+group_opened text n ws ts o e = grind arith
 
 no_word_there : (text : List ℕ) (ws : List Want) (ts : Lexemes) → take_token k.Key ts ≡ None → take_token k.Asterisk ts ≡ None → stop text (word ∷ ws) ts ≡ Some ts
-no_word_there text ws [] h i = refl
-no_word_there text ws (p ∷ ps) h i = by_first p.kind h i
-  where
-    by_first : (kind : Kind) → take_token k.Key (put kind p ps) ≡ None → take_token k.Asterisk (put kind p ps) ≡ None → stop text (word ∷ ws) (put kind p ps) ≡ Some (put kind p ps)
-    by_first k.Key h i = cc
-    by_first k.Asterisk h i = cc
-    by_first _ h i = refl
+no_word_there text ws ts h i = grind arith
 
 no_step_there : (text : List ℕ) (n : ℕ) (ws : List Want) (ts : Lexemes) → take_token k.Dot ts ≡ None → take_token k.OpenArray ts ≡ None → stop text (step n ∷ ws) ts ≡ Some ts
-no_step_there text n ws [] h i = refl
-no_step_there text n ws (p ∷ ps) h i = by_first p.kind h i
-  where
-    by_first : (kind : Kind) → take_token k.Dot (put kind p ps) ≡ None → take_token k.OpenArray (put kind p ps) ≡ None → stop text (step n ∷ ws) (put kind p ps) ≡ Some (put kind p ps)
-    by_first k.Dot h i = cc
-    by_first k.OpenArray h i = cc
-    by_first _ h i = refl
+no_step_there text n ws ts h i = grind arith
 
 module _ (text : List ℕ) (n : ℕ) (deeper : Lexemes → Read Condition) (deep : Deep text n deeper) where
   follows_inner : (ts : Lexemes) → Follows text (inner n ∷ []) [] (d.inner_at text deeper ts) ts
@@ -250,8 +234,7 @@ module _ (text : List ℕ) (n : ℕ) (deeper : Lexemes → Read Condition) (deep
     whole_follows ts = by_root (eat k.Absolute ts) refl
       where
         by_end : (ss : PathSteps) (rest : Lexemes) → stop text (dollar ∷ steps n ∷ blanks ∷ []) ts ≡ stop text [] rest → EndsWith (d.if_end text ss rest) (stop text (dollar ∷ steps n ∷ blanks ∷ []) ts)
-        by_end ss [] e = e
-        by_end ss (q ∷ qs) e = (q ∷ qs, e)
+        by_end ss rest e = grind arith
 
         by_steps : (r : Lexemes) (o : Read PathSteps) → eat k.Absolute ts ≡ Some r → Follows text (steps n ∷ []) [] o r → EndsWith (o >>= λ ss. d.if_end text ss.0 (skip ss.1)) (stop text (dollar ∷ steps n ∷ blanks ∷ []) ts)
         by_steps r None e h = let x = h (blanks ∷ []) in (x.0, first_of text (dollar ∷ steps n ∷ blanks ∷ []) k.Absolute ts r e ∙ x.1)
@@ -278,5 +261,4 @@ pub ends_read : (text : List ℕ) (ts : Lexemes) → stop text whole_wants ts �
 ends_read text ts h = by_read (d.path_at text ts) (path_follows text ts)
   where
     by_read : (o : Option Path) → EndsWith o (stop text whole_wants ts) → (p : Path) × (o ≡ Some p)
-    by_read None e = cc (h, e.1)
-    by_read (Some p) e = (p, refl)
+    by_read o e = grind arith

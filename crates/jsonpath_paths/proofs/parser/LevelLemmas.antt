@@ -1,16 +1,16 @@
 -- Levels of conditions, and steps one after another.
-use Rattle.std.proofs.Common.{◌≡◌, ◌<◌, ℕ, zero, suc, ◌-◌, List, [], ◌∷◌, ◌++◌, length, Option, Some, None, refl, ap, sym, ◌∙◌, cond, Bool, true, false, arith}
+use Rattle.std.proofs.Common.{◌≡◌, ◌<◌, ℕ, zero, suc, ◌-◌, List, [], ◌∷◌, ◌++◌, length, Option, Some, None, refl, ap, ◌∙◌, cond, Bool, true, false, arith}
 use Rattle.jsonpath_paths.specs.Grammar.{Lexemes}
-use Rattle.std.specs.Prelude.{option_map, is_some, Result, Ok, Err, IfNone}
+use Rattle.std.specs.Prelude.{option_map, is_some, Result, Err, IfNone}
 use Rattle.jsonpath_paths.specs.declared.token.tokens.Lexeme.{Lexeme}
-use Rattle.std.proofs.Common.{Vec, Global, subst, slice_set}
+use Rattle.std.proofs.Common.{Vec, Global, slice_set}
 use Rattle.jsonpath_paths.specs.plan.Parsing.{Reads}
 use Rattle.jsonpath_paths.specs.plan.TokensLeft.{TokensLeft}
 use Rattle.jsonpath_paths.specs.declared.parser.tree_parser.Refusal.{Refusal}
 use Rattle.jsonpath_paths.specs.declared.parser.tree_parser.Refusal.TheVariants as fault
 use Rattle.jsonpath_paths.specs.declared.text.str_reader.StrRange.{StrRange}
 use Rattle.jsonpath_paths.specs.declared.token.tokens.Kind.TheVariants as k
-use Rattle.jsonpath_paths.specs.tree.Tree.{PathSteps, no_steps, step_then, Condition, Inner, path, at_path, literal}
+use Rattle.jsonpath_paths.specs.tree.Tree.{PathSteps, no_steps, step_then, Condition, Inner, path, at_path}
 use Rattle.jsonpath_paths.specs.plan.ParsedParts as d
 use Rattle.jsonpath_paths.specs.plan.ParsedParts.{Read, ◌>>=◌}
 use Rattle.jsonpath_paths.specs.tree.View.{steps_of_list, inner_of}
@@ -19,8 +19,7 @@ use Rattle.jsonpath_paths.proofs.parser.SoundLemmas as sound
 use Rattle.jsonpath_paths.proofs.parser.ShorterLemmas.{step_shorter}
 
 pub condition_below : (text : List ℕ) (n : ℕ) (ts : Lexemes) → 0 < n → d.condition_at text n ts ≡ d.condition_by text (d.condition_at text (n - 1)) ts
-condition_below text zero ts h = absurd (omega arith)
-condition_below text (suc n) ts h = ap (λ m. d.condition_by text (d.condition_at text m) ts) (omega arith)
+condition_below text n ts h = grind arith
 
 -- one list of steps behind another
 abbrev pub then_steps : PathSteps → PathSteps → PathSteps
@@ -35,8 +34,7 @@ then_assoc no_steps b c = refl
 then_assoc (step_then l k i ss) b c = ap (step_then l k i) (then_assoc ss b c)
 
 pub then_after : (a b : PathSteps) (read : Read PathSteps) → after_steps a (after_steps b read) ≡ after_steps (then_steps a b) read
-then_after a b None = refl
-then_after a b (Some r) = ap (λ ss. Some (ss, r.1)) (then_assoc a b r.0)
+then_after a b read = grind (arith, then_assoc)
 
 pub then_no_steps : (a : PathSteps) → then_steps a no_steps ≡ a
 then_no_steps no_steps = refl
@@ -56,8 +54,7 @@ module _ (text : List ℕ) (left : ℕ) where
   go_on fuel s = d.steps_from text deeper fuel s.1 >>= λ ss. Some (step_then s.0.0 s.0.1 s.0.2 ss.0, ss.1)
 
   by_found : (o : Option Found) (f g : Found → Read PathSteps) → ((s : Found) → o ≡ Some s → f s ≡ g s) → (o >>= f) ≡ (o >>= g)
-  by_found None f g h = refl
-  by_found (Some s) f g h = h s refl
+  by_found o f g h = grind arith
 
   -- more fuel than tokens is as good as any
   fuel_same : (f g : ℕ) (ts : Lexemes) → length ts < f → length ts < g → d.steps_from text deeper f ts ≡ d.steps_from text deeper g ts
@@ -72,11 +69,7 @@ module _ (text : List ℕ) (left : ℕ) where
   pub steps_more : (ts : Lexemes) (s : Found) → d.begins_step text deeper ts ≡ true → d.step_at text deeper ts ≡ Some s
       → d.steps_at text deeper ts ≡ after_steps (step_then s.0.0 s.0.1 s.0.2 no_steps) (d.steps_at text deeper s.1)
   unfolding d.steps_at
-  steps_more ts s b e =
-      let shorter = falls ts s e in
-      ap (λ t. cond t (d.step_at text deeper ts >>= go_on (length ts)) (Some (no_steps, ts))) b
-      ∙ (ap (λ o. o >>= go_on (length ts)) e
-      ∙ ap (λ r. r >>= λ ss. Some (step_then s.0.0 s.0.1 s.0.2 ss.0, ss.1)) (fuel_same (length ts) (suc (length s.1)) s.1 (omega arith) (omega arith)))
+  steps_more ts s h e = grind (arith, falls, fuel_same)
 
   pub steps_refused : (ts : Lexemes) → d.begins_step text deeper ts ≡ true → d.step_at text deeper ts ≡ None → d.steps_at text deeper ts ≡ None
   unfolding d.steps_at
@@ -97,32 +90,20 @@ step_filled (y ∷ xs) ys b x n is end = rw (is, end) (ap (λ (zs : List ParserS
 
 -- what was taken, where something was
 pub taken : (r : Option StrRange) (new : Lexemes) (read : Read StrRange) → option_map (λ s. (s, new)) r ≡ read → is_some r ≡ true → (s : StrRange) × (read ≡ Some (s, new))
-taken None new read h e = cc
-taken (Some s) new read h e = (s, sym h)
+taken r new read h e = grind arith
 
 pub term_relative : (text : List ℕ) (left : ℕ) (ts a to : Lexemes) (s : StrRange) (ss : PathSteps) → d.take_token k.At ts ≡ Some (s, a) → d.steps_at text (d.condition_at text left) a ≡ Some (ss, to)
     → d.term_at text (d.condition_at text left) ts ≡ Some (at_path (path false ss), to)
 unfolding d.term_at
-term_relative text left ts a to s ss e h =
-    ap (λ o. d.choose (o >>= λ x. Some x.1) (λ a. d.steps_at text (d.condition_at text left) a >>= λ ss. Some (at_path (path false ss.0), ss.1))
-    (d.choose (d.eat k.Absolute ts) (λ a. d.steps_at text (d.condition_at text left) a >>= λ ss. Some (at_path (path true ss.0), ss.1))
-    (d.literal_at text ts >>= λ l. Some (literal l.0, l.1)))) e
-    ∙ ap (λ o. o >>= λ ss. Some (at_path (path false ss.0), ss.1)) h
+term_relative text left ts a to s ss e h = grind arith
 
 pub term_absolute : (text : List ℕ) (left : ℕ) (ts a to : Lexemes) (s : StrRange) (ss : PathSteps) → d.take_token k.At ts ≡ None → d.take_token k.Absolute ts ≡ Some (s, a)
     → d.steps_at text (d.condition_at text left) a ≡ Some (ss, to) → d.term_at text (d.condition_at text left) ts ≡ Some (at_path (path true ss), to)
 unfolding d.term_at
-term_absolute text left ts a to s ss n e h =
-    ap (λ o. d.choose (o >>= λ x. Some x.1) (λ a. d.steps_at text (d.condition_at text left) a >>= λ ss. Some (at_path (path false ss.0), ss.1))
-    (d.choose (d.eat k.Absolute ts) (λ a. d.steps_at text (d.condition_at text left) a >>= λ ss. Some (at_path (path true ss.0), ss.1))
-    (d.literal_at text ts >>= λ l. Some (literal l.0, l.1)))) n
-    ∙ (ap (λ o. d.choose (o >>= λ x. Some x.1) (λ a. d.steps_at text (d.condition_at text left) a >>= λ ss. Some (at_path (path true ss.0), ss.1))
-    (d.literal_at text ts >>= λ l. Some (literal l.0, l.1))) e
-    ∙ ap (λ o. o >>= λ ss. Some (at_path (path true ss.0), ss.1)) h)
+term_absolute text left ts a to s ss n e h = grind arith
 
 pub not_taken : (r : Option StrRange) (new : Lexemes) (read : Read StrRange) → option_map (λ s. (s, new)) r ≡ read → is_some r ≡ false → read ≡ None
-not_taken None new read h e = sym h
-not_taken (Some s) new read h e = cc
+not_taken r new read h e = grind arith
 
 -- a step that is refused where one begins refuses the steps
 pub steps_fault : (text : List ℕ) (left : ℕ) (f : Refusal) (done : PathSteps) (old ahead new : TokensLeft) → ahead.text ≡ old.text
@@ -130,24 +111,16 @@ pub steps_fault : (text : List ℕ) (left : ℕ) (f : Refusal) (done : PathSteps
     → d.begins_step old.text (d.condition_at old.text left) ahead.lexemes ≡ true
     → Reads (λ (s : ParserStep). (s.leaves, s.bracket, inner_of s.inner)) (d.step_at ahead.text (d.condition_at ahead.text left) ahead.lexemes) (Err f) ahead new
     → Reads (λ (v : Vec ParserStep Global). steps_of_list v.items) (d.steps_at old.text (d.condition_at old.text left) old.lexemes) (Err f) old new
-steps_fault text left fault.Refused done old ahead new same read b h =
-    let none = subst (λ x. d.step_at x (d.condition_at x left) ahead.lexemes ≡ None) same h.0 in
-    (read ∙ ap (after_steps done) (steps_refused old.text left ahead.lexemes b none), h.1 ∙ same)
-steps_fault text left fault.OutOfMemory done old ahead new same read b h = h ∙ same
+steps_fault text left f done old ahead new same read b h = grind (arith, steps_refused)
 
 pub if_none : {A : Type 0} (r : Option A) (P : Type 0) → IfNone r P → is_some r ≡ false → P
-if_none None P h e = h
-if_none (Some x) P h e = cc
+if_none r P h e = grind arith
 
 pub pushed_same : (xs ys : List ParserStep) (x y : ParserStep) → steps_of_list xs ≡ steps_of_list ys → x.leaves ≡ y.leaves → x.bracket ≡ y.bracket → inner_of x.inner ≡ inner_of y.inner
     → steps_of_list (xs ++ x ∷ []) ≡ steps_of_list (ys ++ y ∷ [])
-pushed_same xs ys x y e l b i =
-    let last : step_then x.leaves x.bracket (inner_of x.inner) no_steps ≡ step_then y.leaves y.bracket (inner_of y.inner) no_steps = cc in
-    steps_pushed xs x ∙ (ap (λ ss. then_steps ss (step_then x.leaves x.bracket (inner_of x.inner) no_steps)) e ∙ (ap (then_steps (steps_of_list ys)) last ∙ sym (steps_pushed ys y)))
+pushed_same xs ys x y e l h i = grind (arith, steps_pushed)
 
 -- what is read from what is left is read from all, where that is the same
 pub reads_on : {A B : Type 0} (view : A → B) (all left : Option (B × List Lexeme)) (r : Result A Refusal) (old mid new : TokensLeft) → all ≡ left → mid.text ≡ old.text
     → Reads view left r mid new → Reads view all r old new
-reads_on view all left (Ok x) old mid new e same h = (e ∙ h.0, h.1 ∙ same)
-reads_on view all left (Err fault.Refused) old mid new e same h = (e ∙ h.0, h.1 ∙ same)
-reads_on view all left (Err fault.OutOfMemory) old mid new e same h = h ∙ same
+reads_on view all left r old mid new e same h = grind arith

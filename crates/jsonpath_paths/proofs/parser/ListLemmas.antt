@@ -9,12 +9,10 @@ use Rattle.jsonpath_paths.proofs.parser.SoundLemmas.{eat_eats, sound_index, soun
 use Rattle.jsonpath_paths.proofs.parser.ShorterLemmas.{skip_shorter, takes_shorter, eats_shorter, quoted_shorter}
 
 by_chosen : {A B : Type 0} (o : Option A) (f g : A → Option B) (other : Option B) → ((x : A) → o ≡ Some x → f x ≡ g x) → choose o f other ≡ choose o g other
-by_chosen None f g other h = refl
-by_chosen (Some x) f g other h = h x refl
+by_chosen o f g other h = grind arith
 
 by_found : {A B : Type 0} (o : Option A) (f g : A → Option B) → ((x : A) → o ≡ Some x → f x ≡ g x) → (o >>= f) ≡ (o >>= g)
-by_found None f g h = refl
-by_found (Some x) f g h = h x refl
+by_found o f g h = grind arith
 
 -- an entry put before those read
 abbrev add : {A : Type 0} → A → Read (List A) → Read (List A)

@@ -1,10 +1,10 @@
 -- Where the tokens of a literal stop.
-use Rattle.std.proofs.Common.{◌≡◌, ◌⊎◌, inl, inr, ℕ, Bool, true, false, List, [], ◌∷◌, ◌++◌, Option, Some, None, Result, Ok, Err, refl, sym, ◌∙◌, ap, cond}
-use Rattle.std.specs.Prelude.{is_some, option_map, ◌&&◌, MatchResult, if◌then◌else◌}
+use Rattle.std.proofs.Common.{◌≡◌, ◌⊎◌, inl, inr, ℕ, Bool, true, false, List, [], ◌∷◌, ◌++◌, Option, Some, None, Result, sym, ◌∙◌, ap, arith}
+use Rattle.std.specs.Prelude.{is_some, option_map, ◌&&◌, MatchResult}
 use Rattle.std.specs.Result.{is_ok}
 use Rattle.jsonpath_paths.specs.Grammar.{Lexemes}
 use Rattle.jsonpath_paths.specs.Literals.{truth_of}
-use Rattle.jsonpath_paths.specs.Numbers.{decimal_of, fraction_of, is_whole, decimal_from, is_negative, without_minus}
+use Rattle.jsonpath_paths.specs.Numbers.{decimal_of, fraction_of, is_whole}
 use Rattle.jsonpath_paths.specs.text.Characters.{bytes_at}
 use Rattle.jsonpath_paths.specs.declared.decimal.Decimal.{Decimal}
 use Rattle.jsonpath_paths.specs.declared.text.str_reader.StrRange.{StrRange}
@@ -15,10 +15,8 @@ use Rattle.jsonpath_paths.specs.declared.parser.tree_parser.Refusal.TheVariants 
 use Rattle.jsonpath_paths.specs.plan.ParsedParts.{take_token, eat, literal_from_word, rest_of_number}
 use Rattle.jsonpath_paths.specs.plan.Parsing.{Reads}
 use Rattle.jsonpath_paths.specs.plan.TokensLeft.{TokensLeft}
-use Rattle.jsonpath_paths.specs.plan.Wants.{Want, stop, stop_on, moved, feed, takes, if_word, literal_word, Stops, StopsBehind, literal, fraction, digits}
+use Rattle.jsonpath_paths.specs.plan.Wants.{Want, stop_on, moved, if_word, literal_word, Stops, StopsBehind, literal, fraction}
 use Rattle.jsonpath_paths.proofs.parser.SoundLemmas.{take_takes, then_some, choose_some}
-use Rattle.jsonpath_paths.proofs.parser.StopLemmas.{stops_by}
-use Rattle.std.specs.Str.Parse.{digits_value}
 use Rattle.std.proofs.lemmas.Bool.{and_parts}
 
 -- a word that is taken or refused
@@ -31,22 +29,15 @@ word_out b us ws later here go e = ap (λ b. stop_on (moved (if_word b us) ws la
 -- numbers
 
 mapped : {A B : Type 0} (f : A → B) (o : Option A) → is_some (option_map f o) ≡ is_some o
-mapped f None = refl
-mapped f (Some x) = refl
+mapped f o = grind arith
 
 decides : (w f : List ℕ) → is_some (decimal_of w f) ≡ (is_whole w && is_some (fraction_of f))
 unfolding decimal_of
-decides w f = by_test (is_whole w)
-  where
-    by_test : (b : Bool) → is_some (cond b (option_map (decimal_from (is_negative w) (digits_value 10 (without_minus w))) (fraction_of f)) None) ≡ (b && is_some (fraction_of f))
-    by_test true = mapped (decimal_from (is_negative w) (digits_value 10 (without_minus w))) (fraction_of f)
-    by_test false = refl
+decides w f = grind (arith, mapped)
 
 -- what may stand behind a point is the same for each whole part
 pub any_whole : (w f : List ℕ) → is_some (decimal_of w []) ≡ true → is_some (decimal_of w f) ≡ is_some (decimal_of (48 ∷ []) f)
-any_whole w f h =
-    let whole : is_whole w ≡ true = (and_parts (is_whole w) (is_some (fraction_of [])) (sym (decides w []) ∙ h)).0 in
-    decides w f ∙ (ap (λ b. b && is_some (fraction_of f)) whole ∙ sym (decides (48 ∷ []) f))
+any_whole w f h = grind (arith, and_parts, decides)
 
 first_part : (w f : List ℕ) → is_some (decimal_of w f) ≡ true → is_some (decimal_of w []) ≡ true
 unfolding fraction_of
@@ -57,30 +48,7 @@ pub number_stops : (w : List ℕ) (r : Result Decimal Refusal) (s f : StrRange) 
     → take_token k.Key dot.lexemes ≡ Some (f, new.lexemes)
     → MatchResult r (λ d. decimal_of w (bytes_at old.text f) ≡ Some d) (λ e. (e ≡ fault.Refused) × (decimal_of w (bytes_at old.text f) ≡ None))
     → (is_ok r ≡ true → last.lexemes ≡ new.lexemes) → (is_ok r ≡ false → last.lexemes ≡ dot.lexemes) → StopsBehind (if_word (is_some (decimal_of w [])) (fraction ∷ [])) r old last
-number_stops w r s f old dot new last point word found ok not_ok = by_word (is_some (decimal_of w [])) refl
-  where
-    bytes : List ℕ
-    bytes = bytes_at old.text f
-
-    start : (ws : List Want) → stop old.text (fraction ∷ ws) old.lexemes ≡ stop old.text (digits ∷ ws) dot.lexemes
-    start ws = ap (stop old.text (fraction ∷ ws)) (take_takes k.Dot old.lexemes (s, dot.lexemes) point)
-
-    here : (ws : List Want) → stop old.text (digits ∷ ws) dot.lexemes ≡ stop old.text (digits ∷ ws) (record { kind = k.Key; span = f } ∷ new.lexemes)
-    here ws = ap (stop old.text (digits ∷ ws)) (take_takes k.Key dot.lexemes (f, new.lexemes) word)
-
-    by_result : (r : Result Decimal Refusal) → is_some (decimal_of w []) ≡ true
-        → MatchResult r (λ d. decimal_of w bytes ≡ Some d) (λ e. (e ≡ fault.Refused) × (decimal_of w bytes ≡ None))
-        → (is_ok r ≡ true → last.lexemes ≡ new.lexemes) → (is_ok r ≡ false → last.lexemes ≡ dot.lexemes) → Stops (fraction ∷ []) r old last
-    by_result (Ok d) e found ok not_ok =
-        λ ws. start ws ∙ (here ws ∙ (word_in (is_some (decimal_of (48 ∷ []) bytes)) [] ws _ _ (λ us. stop old.text us new.lexemes) (sym (any_whole w bytes e) ∙ ap is_some found) ∙ ap (stop old.text ws) (sym (ok refl))))
-    by_result (Err fault.Refused) e found ok not_ok =
-        λ ws. start ws ∙ (here ws ∙ (word_out (is_some (decimal_of (48 ∷ []) bytes)) [] ws _ (record { kind = k.Key; span = f } ∷ new.lexemes) (λ us. stop old.text us new.lexemes) (sym (any_whole w bytes e) ∙ ap is_some found.1)
-        ∙ (ap Some (sym (take_takes k.Key dot.lexemes (f, new.lexemes) word)) ∙ ap Some (sym (not_ok refl)))))
-    by_result (Err fault.OutOfMemory) e found ok not_ok = tt
-
-    by_word : (b : Bool) → is_some (decimal_of w []) ≡ b → StopsBehind (if_word b (fraction ∷ [])) r old last
-    by_word true e = by_result r e found ok not_ok
-    by_word false e = tt
+number_stops w r s f old dot new last point word found ok not_ok = grind (arith, any_whole, take_takes, word_in)
 
 -- which words begin a literal
 abbrev pub Begins : List ℕ → Type 0
@@ -97,29 +65,12 @@ number_word text w ts r h =
     ]
 
 pub literal_begins : (text w : List ℕ) (ts : Lexemes) (r : ParseToken × Lexemes) → literal_from_word text w ts ≡ Some r → Begins w
-literal_begins text w ts r h =
-    elim (choose_some (truth_of w) _ _ r h) [
-      | inl x ↦ inl (ap is_some x.1)
-      | inr e ↦ let y = then_some (rest_of_number text w ts) _ r e.1 in inr (number_word text w ts y.0 y.1)
-    ]
+literal_begins text w ts r h = grind (arith, number_word, then_some)
 
 pub ok_begins : (r : Result ParseToken Refusal) (w : List ℕ) (old new : TokensLeft) → Reads (λ t. t) (literal_from_word old.text w old.lexemes) r old new → is_ok r ≡ true → Begins w
-ok_begins (Ok x) w old new h e = literal_begins old.text w old.lexemes (x, new.lexemes) h.0
-ok_begins (Err f) w old new h e = cc
+ok_begins r w old new h e = grind (arith, literal_begins)
 
 -- a literal that begins with a word
 pub literal_stops : (w : List ℕ) (r : Result ParseToken Refusal) (s : StrRange) (old mid new : TokensLeft) → take_token k.Key old.lexemes ≡ Some (s, mid.lexemes) → bytes_at old.text s ≡ w
     → mid.text ≡ old.text → Begins w → StopsBehind (literal_word w []) r mid new → Stops (literal ∷ []) r old new
-literal_stops w r s old mid new word same same_text begins h =
-    by_word (is_some (truth_of w)) (is_some (decimal_of w [])) begins h
-    (λ ws. ap (stop old.text (literal ∷ ws)) (take_takes k.Key old.lexemes (s, mid.lexemes) word)
-    ∙ ap (λ x. stop_on (moved (literal_word x []) ws (feed ws k.Key (bytes_at old.text s))) (record { kind = k.Key; span = s } ∷ mid.lexemes) (λ us. stop old.text us mid.lexemes)) same)
-  where
-    by_word : (b d : Bool) → (b ≡ true) ⊎ (d ≡ true) → StopsBehind (if b then takes [] else if_word d (fraction ∷ [])) r mid new
-        → ((ws : List Want) → stop old.text (literal ∷ ws) old.lexemes
-        ≡ stop_on (moved (if b then takes [] else if_word d (fraction ∷ [])) ws (feed ws k.Key (bytes_at old.text s))) (record { kind = k.Key; span = s } ∷ mid.lexemes) (λ us. stop old.text us mid.lexemes))
-        → Stops (literal ∷ []) r old new
-    by_word true d e h start = stops_by r (literal ∷ []) [] [] old mid new (λ ws. start ws ∙ ap (λ x. stop x ws mid.lexemes) (sym same_text)) same_text h
-    by_word false true e h start = stops_by r (literal ∷ []) (fraction ∷ []) [] old mid new (λ ws. start ws ∙ ap (λ x. stop x (fraction ∷ ws) mid.lexemes) (sym same_text)) same_text h
-    by_word false false (inl e) h start = cc
-    by_word false false (inr e) h start = cc
+literal_stops w r s old mid new word same same_text begins h = grind arith

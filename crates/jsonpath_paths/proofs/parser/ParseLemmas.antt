@@ -1,32 +1,29 @@
 -- What `parse` reads, in the words of the numbers.
-use Rattle.std.proofs.Common.{◌≡◌, ◌<◌, ◌≤◌, ◌&&◌, ◌^◌, ◌-◌, ◌*◌, ◌+◌, ℕ, zero, suc, Bool, true, false, List, [], ◌∷◌, Some, None, Result, Ok, Err, ℤ, refl, sym, ◌∙◌, ap, subst, cond, arith, ltb, leb, length}
-use Rattle.std.specs.Prelude.{slice_index, ◌==◌, option_map, ◌≢◌}
+use Rattle.std.proofs.Common.{◌≡◌, ◌<◌, ◌≤◌, ◌&&◌, ◌^◌, ◌-◌, ◌*◌, ◌+◌, ℕ, Bool, true, false, List, [], ◌∷◌, Some, None, Result, ℤ, refl, sym, ◌∙◌, ap, subst, cond, arith, ltb, leb, length}
+use Rattle.std.specs.Prelude.{slice_index, ◌==◌, ◌≢◌}
 use Rattle.std.specs.Result.{result_ok}
-use Rattle.std.proofs.lemmas.Bool.{and_parts, and_from, and_left, and_right, cond-true, cond-false, cond_both, lt-ltb, ltb-true, le-leb, lt-leb, leb-true, ne_eqb, eqb-false, false_from_ne_true}
+use Rattle.std.proofs.lemmas.Bool.{and_parts, and_from, cond-true, cond-false, lt-ltb, ltb-true, le-leb, lt-leb, leb-true, ne_eqb, eqb-false, false_from_ne_true}
 use Rattle.std.proofs.lemmas.Str.Parse.{IsNumeralModel, numerals_by_value, tells_all_ascii_digits, parse_plain, digits_value_short}
 use Rattle.std.specs.Result.{OkIff}
 use Rattle.std.proofs.lemmas.Nat.{pow-add}
 use Rattle.std.proofs.Math.Nat.{mul-lt-mul_of_pos_right, one-le-pow}
 use Rattle.std.specs.Str.{all_ascii_digits}
-use Rattle.std.specs.Str.Parse.{IsNumeral, digits_value, without_leading_plus, without_leading_sign, ParsesUnsigned, ParsesSigned}
+use Rattle.std.specs.Str.Parse.{IsNumeral, digits_value, without_leading_sign, ParsesUnsigned, ParsesSigned}
 use mir.Syntax.{w64}
 use mir.Val.{SFits}
 use Rattle.jsonpath_paths.proofs.parser.SoundLemmas.{some_same}
-use Rattle.jsonpath_paths.specs.Numbers.{index_of, range_step_of, digits_of, decimal_of, fraction_of, decimal_from, is_digits, is_negative, is_whole, is_fraction, without_minus, whole_bound, signed}
+use Rattle.jsonpath_paths.specs.Numbers.{index_of, range_step_of, digits_of, decimal_of, fraction_of, decimal_from, is_digits, is_negative, is_whole, without_minus, whole_bound, signed}
 
 -- r is an Ok just where the test passes
 pub by_test : {T E : Type 0} (r : Result T E) (P : Type 0) (v x : T) (b : Bool) → OkIff r P v → (b ≡ true → P) → (P → b ≡ true) → v ≡ x
     → result_ok r ≡ cond b (Some x) None
-by_test (Ok y) P v x b h to from e = sym (ap (λ t. cond t (Some x) None) (from h.0) ∙ ap Some (sym (h.1 ∙ e)))
-by_test (Err y) P v x b h to from e = sym (ap (λ t. cond t (Some x) None) (false_from_ne_true b (λ t. h (to t))))
+by_test r P v x b h to from e = grind arith
 
 own : IsNumeralModel (λ ds. all_ascii_digits ds ≡ true) (digits_value 10)
 own = numerals_by_value _ tells_all_ascii_digits
 
 pub numeral_to : (ds : List ℕ) → is_digits ds ≡ true → IsNumeral 10 ds
-numeral_to ds h =
-    let p = and_parts (ltb 0 (length ds)) (all_ascii_digits ds) h in
-    (ltb-true 0 (length ds) p.0, own.to ds p.1)
+numeral_to ds h = grind (arith, ltb-true, own)
 
 pub numeral_from : (ds : List ℕ) → IsNumeral 10 ds → is_digits ds ≡ true
 numeral_from ds h = and_from (ltb 0 (length ds)) (all_ascii_digits ds) (lt-ltb 0 (length ds) h.0) (own.from ds h.1)
@@ -35,14 +32,10 @@ abbrev bound : Bool → ℕ
 bound negative = cond negative (2 ^ 63) (2 ^ 63 - 1)
 
 fits_to : (negative : Bool) (n : ℕ) → n ≤ bound negative → SFits w64 (signed negative n)
-fits_to true zero h = record { sfits = omega arith }
-fits_to true (suc n) h = record { sfits = omega arith }
-fits_to false n h = record { sfits = omega arith }
+fits_to negative n h = grind arith
 
 fits_from : (negative : Bool) (n : ℕ) → SFits w64 (signed negative n) → n ≤ bound negative
-fits_from true zero h = omega arith
-fits_from true (suc n) h = omega (arith, h.sfits)
-fits_from false n h = omega (arith, h.sfits)
+fits_from negative n h = grind arith
 
 pub parses_index : {E : Type 0} (bs : List ℕ) (r : Result ℤ E) → ParsesSigned w64 10 bs r → result_ok r ≡ index_of bs
 unfolding index_of
@@ -58,27 +51,11 @@ parses_index bs r h =
 -- an index is a whole number of 64 bits with a sign
 pub index_fits : (bs : List ℕ) (n : ℤ) → index_of bs ≡ Some n → SFits w64 n
 unfolding index_of
-index_fits bs n h =
-    let ds = without_leading_sign bs in
-    let few = leb (digits_value 10 ds) (bound (is_negative bs)) in
-    by_test_of (is_digits ds && few) refl h
-  where
-    by_test_of : (b : Bool) → (is_digits (without_leading_sign bs) && leb (digits_value 10 (without_leading_sign bs)) (bound (is_negative bs))) ≡ b
-        → cond b (Some (signed (is_negative bs) (digits_value 10 (without_leading_sign bs)))) None ≡ Some n → SFits w64 n
-    by_test_of true e h =
-        let within = (and_parts (is_digits (without_leading_sign bs)) (leb (digits_value 10 (without_leading_sign bs)) (bound (is_negative bs))) e).1 in
-        subst (SFits w64) (some_same _ n h) (fits_to (is_negative bs) (digits_value 10 (without_leading_sign bs)) (leb-true _ _ within))
-    by_test_of false e h = cc h
+index_fits bs n h = grind (arith, and_parts, fits_to, leb-true, some_same)
 
 pub parses_range_step : {E : Type 0} (bs : List ℕ) (r : Result ℕ E) → ParsesUnsigned 64 10 bs r → result_ok r ≡ range_step_of bs
 unfolding range_step_of
-parses_range_step bs r h =
-    let ds = without_leading_plus bs in
-    let n = digits_value 10 ds in
-    by_test r _ _ n (is_digits ds && ltb n (2 ^ 64)) h
-    (λ t. let p = and_parts (is_digits ds) (ltb n (2 ^ 64)) t in (numeral_to ds p.0, ltb-true n (2 ^ 64) p.1))
-    (λ p. and_from (is_digits ds) (ltb n (2 ^ 64)) (numeral_from ds p.0) (lt-ltb n (2 ^ 64) p.1))
-    refl
+parses_range_step bs r h = grind (arith, and_from, and_parts, by_test, lt-ltb, numeral_from, numeral_to)
 
 pub no_first : (c : ℕ) (bs : List ℕ) → 0 < c → ((rest : List ℕ) → bs ≢ c ∷ rest) → (slice_index bs 0 == c) ≡ false
 no_first c [] p h = ne_eqb 0 c (λ e. absurd (omega arith))
@@ -97,15 +74,11 @@ parses_digits bs r h none =
 
 pub fraction_none : (bs : List ℕ) → length bs ≡ 0 → Some 0 ≡ fraction_of bs
 unfolding fraction_of
-fraction_none [] h = refl
-fraction_none (b ∷ bs) h = cc
+fraction_none bs h = grind arith
 
 pub fraction_long : (bs : List ℕ) → 18 < length bs → None ≡ fraction_of bs
 unfolding fraction_of
-fraction_long [] h = absurd (omega arith)
-fraction_long (b ∷ bs) h =
-    let long : is_fraction (b ∷ bs) ≡ false = and_right (is_digits (b ∷ bs)) (leb (length (b ∷ bs)) 18) (lt-leb (length (b ∷ bs)) 18 h) in
-    sym (cond-false (is_fraction (b ∷ bs)) _ None long)
+fraction_long bs h = grind (arith, cond-false, lt-leb)
 
 few_digits : (bs : List ℕ) → is_digits bs ≡ true → length bs ≤ 18 → digits_value 10 bs < 10 ^ 18
 few_digits bs h l = digits_value_short own bs 18 (and_parts (ltb 0 (length bs)) (all_ascii_digits bs) h).1 l
@@ -115,32 +88,14 @@ digits_some bs h l = cond-true (is_digits bs && ltb (digits_value 10 bs) (2 ^ 64
 
 pub fraction_refused : (bs : List ℕ) → 0 < length bs → length bs ≤ 18 → None ≡ digits_of bs → None ≡ fraction_of bs
 unfolding fraction_of
-fraction_refused [] n l h = absurd (omega arith)
-fraction_refused (b ∷ bs) n l h = by_digits (is_digits (b ∷ bs)) refl
-  where
-    by_digits : (t : Bool) → is_digits (b ∷ bs) ≡ t → None ≡ fraction_of (b ∷ bs)
-    by_digits true e =
-        let small = few_digits (b ∷ bs) e l in
-        let some = digits_some (b ∷ bs) e (omega arith) in
-        cc (h, some)
-    by_digits false e = sym (cond-false (is_fraction (b ∷ bs)) _ None (and_left (is_digits (b ∷ bs)) (leb (length (b ∷ bs)) 18) e))
+fraction_refused bs n l h = grind (arith, cond-false, digits_some, few_digits)
 
 digits_is : (bs : List ℕ) (n : ℕ) → Some n ≡ digits_of bs → (is_digits bs ≡ true) × (n ≡ digits_value 10 bs)
-digits_is bs n h = by_pass (is_digits bs && ltb (digits_value 10 bs) (2 ^ 64)) refl
-  where
-    by_pass : (t : Bool) → (is_digits bs && ltb (digits_value 10 bs) (2 ^ 64)) ≡ t → (is_digits bs ≡ true) × (n ≡ digits_value 10 bs)
-    by_pass true e =
-        let some = cond-true (is_digits bs && ltb (digits_value 10 bs) (2 ^ 64)) (Some (digits_value 10 bs)) None e in
-        ((and_parts (is_digits bs) (ltb (digits_value 10 bs) (2 ^ 64)) e).0, cc (h, some))
-    by_pass false e = let none = cond-false (is_digits bs && ltb (digits_value 10 bs) (2 ^ 64)) (Some (digits_value 10 bs)) None e in cc (h, none)
+digits_is bs n h = grind arith
 
 pub fraction_some : (bs : List ℕ) (n : ℕ) → 0 < length bs → length bs ≤ 18 → Some n ≡ digits_of bs → Some (n * 10 ^ (18 - length bs)) ≡ fraction_of bs
 unfolding fraction_of
-fraction_some [] n p l h = absurd (omega arith)
-fraction_some (b ∷ bs) n p l h =
-    let is = digits_is (b ∷ bs) n h in
-    let passes : is_fraction (b ∷ bs) ≡ true = and_from (is_digits (b ∷ bs)) (leb (length (b ∷ bs)) 18) is.0 (le-leb (length (b ∷ bs)) 18 l) in
-    ap (λ m. Some (m * 10 ^ (18 - length (b ∷ bs)))) is.1 ∙ sym (cond-true (is_fraction (b ∷ bs)) _ None passes)
+fraction_some bs n p l h = grind (arith, and_from, cond-true, digits_is, le-leb)
 
 pub fraction_small : (bs : List ℕ) (n : ℕ) → length bs ≤ 18 → Some n ≡ digits_of bs → n * 10 ^ (18 - length bs) < 10 ^ 18
 fraction_small bs n l h =
@@ -154,13 +109,7 @@ fraction_small bs n l h =
 -- decimals
 
 whole_digits : (w : List ℕ) → is_whole w ≡ true → digits_of (without_minus w) ≡ Some (digits_value 10 (without_minus w))
-whole_digits w h =
-    let p = and_parts (is_digits (without_minus w)) _ h in
-    digits_some (without_minus w) p.0 (bounded (is_negative w) _ (leb-true _ _ p.1))
-  where
-    bounded : (t : Bool) (n : ℕ) → n ≤ whole_bound t → n < 2 ^ 64
-    bounded true n h = omega arith
-    bounded false n h = omega arith
+whole_digits w h = grind (arith, digits_some, leb-true)
 
 not_whole : (w fraction : List ℕ) → (is_whole w ≡ true → ⊥) → None ≡ decimal_of w fraction
 unfolding decimal_of
@@ -170,21 +119,13 @@ pub decimal_no_digits : (w fraction : List ℕ) → None ≡ digits_of (without_
 decimal_no_digits w fraction h = not_whole w fraction (λ e. cc (h, whole_digits w e))
 
 pub decimal_large : (w fraction : List ℕ) (n : ℕ) → Some n ≡ digits_of (without_minus w) → leb n (whole_bound (is_negative w)) ≡ false → None ≡ decimal_of w fraction
-decimal_large w fraction n h large =
-    let is = digits_is (without_minus w) n h in
-    not_whole w fraction (λ e. cc ((and_parts (is_digits (without_minus w)) _ e).1, large, is.1))
+decimal_large w fraction n h large = grind (arith, digits_is, not_whole)
 
 pub decimal_no_fraction : (w fraction : List ℕ) → None ≡ fraction_of fraction → None ≡ decimal_of w fraction
 unfolding decimal_of
-decimal_no_fraction w fraction h =
-    let none = ap (option_map (decimal_from (is_negative w) (digits_value 10 (without_minus w)))) h in
-    cond_both (is_whole w) _ None (λ x. None ≡ x) (λ _. none) (λ _. refl)
+decimal_no_fraction w fraction h = grind arith
 
 pub decimal_some : (w fraction : List ℕ) (n u : ℕ) → Some n ≡ digits_of (without_minus w) → leb n (whole_bound (is_negative w)) ≡ true → Some u ≡ fraction_of fraction
     → Some (decimal_from (is_negative w) n u) ≡ decimal_of w fraction
 unfolding decimal_of
-decimal_some w fraction n u h small e =
-    let is = digits_is (without_minus w) n h in
-    let passes : is_whole w ≡ true = and_from (is_digits (without_minus w)) _ is.0 (subst (λ m. leb m (whole_bound (is_negative w)) ≡ true) is.1 small) in
-    ap (λ m. Some (decimal_from (is_negative w) m u)) is.1 ∙ (ap (option_map (decimal_from (is_negative w) (digits_value 10 (without_minus w)))) e
-    ∙ sym (cond-true (is_whole w) _ None passes))
+decimal_some w fraction n u h small e = grind arith

@@ -1,5 +1,5 @@
 -- Where the machine of wants stops, the grammar refuses the text.
-use Rattle.std.proofs.Common.{◌≡◌, ◌≤◌, ◌+◌, ℕ, zero, suc, Bool, true, false, List, [], ◌∷◌, ◌++◌, length, take, drop, Option, Some, None, cond, refl, sym, subst, ap, ap₂, ◌∙◌, arith, append_assoc, append-nil, length-append, ◌⊎◌, inl, inr}
+use Rattle.std.proofs.Common.{◌≡◌, ◌≤◌, ◌+◌, ℕ, zero, suc, Bool, true, false, List, [], ◌∷◌, ◌++◌, length, take, drop, Option, Some, None, cond, refl, sym, subst, ap, ap₂, ◌∙◌, arith, append_assoc, append-nil, length-append, ◌⊎◌, inl, inr, rules}
 use Rattle.std.specs.Prelude.{if◌then◌else◌}
 use Rattle.std.specs.Char.{len_utf8}
 use Rattle.std.specs.Str.{chars, IsUtf8}
@@ -57,8 +57,7 @@ stopped text ws [] here h = by_end (may_end ws) h
     at_start e = subst (StoppedSo text ws []) e (record { front = []; left = ws; split = refl; ran = refl }, tt)
 
     by_end : (b : Bool) → cond {A = Option Lexemes} b None (Some []) ≡ Some here → StoppedSo text ws [] here
-    by_end true h = cc h
-    by_end false h = at_start (some_same [] here h)
+    by_end b h = grind (arith, at_start)
 stopped text ws (p ∷ ps) here h = by_fed (feed ws p.kind (bytes_at text p.span)) refl h (λ us i. stopped text us ps here i)
   where
     by_fed : (o : Option (List Want)) → feed ws p.kind (bytes_at text p.span) ≡ o → stop_on o (p ∷ ps) (λ us. stop text us ps) ≡ Some here
@@ -73,17 +72,12 @@ abbrev AllRan : List ℕ → List Want → Lexemes → Type 0
 AllRan text ws ts = (us : List Want) × (run ws (signs text ts) ≡ Some us) × (may_end us ≡ true)
 
 all_ran : (text : List ℕ) (ws : List Want) (ts : Lexemes) → stop text ws ts ≡ None → AllRan text ws ts
-all_ran text ws [] h = by_end (may_end ws) refl h
-  where
-    by_end : (b : Bool) → may_end ws ≡ b → cond {A = Option Lexemes} b None (Some []) ≡ None → AllRan text ws []
-    by_end true e h = (ws, refl, e)
-    by_end false e h = cc h
+all_ran text ws [] h = grind arith
 all_ran text ws (p ∷ ps) h = by_fed (feed ws p.kind (bytes_at text p.span)) refl h (λ us i. all_ran text us ps i)
   where
     by_fed : (o : Option (List Want)) → feed ws p.kind (bytes_at text p.span) ≡ o → stop_on o (p ∷ ps) (λ us. stop text us ps) ≡ None
         → ((us : List Want) → stop text us ps ≡ None → AllRan text us ps) → AllRan text ws (p ∷ ps)
-    by_fed None e h more = cc h
-    by_fed (Some us) e h more = let r = more us h in (r.0, ap (λ o. run_on o (λ vs. run vs (signs text ps))) e ∙ r.1, r.2)
+    by_fed o e h more = grind arith
 
 pub run_stops : (text : List ℕ) (ws us : List Want) (front here : Lexemes) → run ws (signs text front) ≡ Some us → stop text ws (front ++ here) ≡ stop text us here
 run_stops text ws us [] here h = ap (λ vs. stop text vs here) (some_same ws us h)
@@ -91,8 +85,7 @@ run_stops text ws us (p ∷ ps) here h = by_fed (feed ws p.kind (bytes_at text p
   where
     by_fed : (o : Option (List Want)) → run_on o (λ vs. run vs (signs text ps)) ≡ Some us
         → ((vs : List Want) → run vs (signs text ps) ≡ Some us → stop text vs (ps ++ here) ≡ stop text us here) → stop_on o (p ∷ (ps ++ here)) (λ vs. stop text vs (ps ++ here)) ≡ stop text us here
-    by_fed None h more = cc h
-    by_fed (Some vs) h more = more vs h
+    by_fed o h more = grind arith
 
 -- the machine stops behind all tokens, or they are the end of a path
 pub stops_behind : (text : List ℕ) (us : List Want) (front : Lexemes) → run whole_wants (signs text front) ≡ Some us → stop text whole_wants front ≡ stop text us []
@@ -134,16 +127,11 @@ ran_apart text vs us [] s h = (subst (λ x. safe x ≡ true) (some_same vs us h)
 ran_apart text vs us (p ∷ ps) s h = by_fed (feed vs p.kind (bytes_at text p.span)) refl h (λ ws g i. ran_apart text ws us ps g i)
   where
     last : (ws : List Want) (ps : Lexemes) → run ws (signs text ps) ≡ Some us → Apart p.kind ws → LastApart ps us → LastApart (p ∷ ps) us
-    last ws [] h a b = subst (Apart p.kind) (some_same ws us h) a
-    last ws (q ∷ ps) h a b = b
+    last ws ps h a b = grind arith
 
     by_fed : (o : Option (List Want)) → feed vs p.kind (bytes_at text p.span) ≡ o → run_on o (λ ws. run ws (signs text ps)) ≡ Some us
         → ((ws : List Want) → safe ws ≡ true → run ws (signs text ps) ≡ Some us → (safe us ≡ true) × LastApart ps us) → (safe us ≡ true) × LastApart (p ∷ ps) us
-    by_fed None e h more = cc h
-    by_fed (Some ws) e h more =
-        let left = fed_safe vs ws p.kind (bytes_at text p.span) s e in
-        let r = more ws left.0 h in
-        (r.0, last ws ps h left.1 r.1)
+    by_fed o e h more = grind (arith, fed_safe, last)
 
 last_ends : (us vs : List Want) (ps : Lexemes) (kinds : List Kind) → LastApart ps us → run us (samples kinds) ≡ Some vs → LastEnds ps (characters_of kinds)
 last_ends us vs [] kinds a h = tt
@@ -151,8 +139,7 @@ last_ends us vs (p ∷ []) kinds a h = λ test g. ends_there us vs p.kind kinds 
 last_ends us vs (p ∷ q ∷ ps) kinds a h = last_ends us vs (q ∷ ps) kinds a h
 
 pub reach_end : (front : Lexemes) → reach 0 front ≡ end_of front
-reach_end [] = refl
-reach_end (p ∷ ps) = refl
+reach_end front = grind arith
 
 front_bytes : (cs ds : List ℕ) → take (byte_len cs) (encodes (cs ++ ds)) ≡ encodes cs
 front_bytes cs ds = ap₂ (λ n xs. take n xs) (byte_len_is cs) (encodes-append cs ds) ∙ take-append_seam (encodes cs) (encodes ds)
@@ -223,17 +210,11 @@ runs text front here rest read b =
   where
     by_run : {x : List Want} (f : List Want → Option (List Want)) (o : Option (List Want)) → run whole_wants (signs text front) ≡ o → run_on o f ≡ Some x
         → (us : List Want) × (run whole_wants (signs text front) ≡ Some us)
-    by_run f None e h = cc h
-    by_run f (Some us) e h = (us, e)
+    by_run f o e h = grind arith
 
 -- what one more token does
 fed_next : (text : List ℕ) (front : Lexemes) (t : Lexeme) (us : List Want) → run whole_wants (signs text front) ≡ Some us → run whole_wants (signs text (front ++ t ∷ [])) ≡ feed us t.kind (bytes_at text t.span)
-fed_next text front t us ran =
-    ap (run whole_wants) (signs_upon text front (t ∷ [])) ∙ (run_behind whole_wants (signs text front) (signs text (t ∷ [])) ∙ (ap (λ o. run_on o (λ vs. run vs (signs text (t ∷ [])))) ran ∙ same (feed us t.kind (bytes_at text t.span))))
-  where
-    same : (o : Option (List Want)) → run_on o (λ vs. Some vs) ≡ o
-    same None = refl
-    same (Some vs) = refl
+fed_next text front t us ran = grind (arith, run_behind, signs_upon)
 
 -- and no path begins with one more that is refused
 pub never_begins : (text : List ℕ) (front here : Lexemes) (t : Lexeme) (rest : List ℕ) (us : List Want) → TokensAt 0 (chars text) (front ++ t ∷ here) rest → run whole_wants (signs text front) ≡ Some us
@@ -265,11 +246,7 @@ refused_token text ts later t rest utf8 read h =
 
 -- all tokens may begin a path
 pub begins_all : (text : List ℕ) (ts : Lexemes) (rest : List ℕ) → IsUtf8 text → TokensAt 0 (chars text) ts rest → (stop text whole_wants ts ≡ Some []) ⊎ (stop text whole_wants ts ≡ None) → BeginsPath text ts
-begins_all text ts rest utf8 read (inl h) =
-    let s = stopped text whole_wants ts [] h in
-    let same : ts ≡ s.0.front = s.0.split ∙ append-nil s.0.front in
-    let tokens = subst (λ ps. TokensAt 0 (chars text) ps rest) s.0.split read in
-    subst (BeginsPath text) (sym same) (begins text s.0.front [] rest s.0.left utf8 tokens s.0.ran)
+begins_all text ts rest utf8 read (inl h) = search (rules, arith, begins, stopped)
 begins_all text ts rest utf8 read (inr h) =
     let r = all_ran text whole_wants ts h in
     begins text ts [] rest r.0 utf8 (subst (λ ps. TokensAt 0 (chars text) ps rest) (sym (append-nil ts)) read) r.1
@@ -283,8 +260,7 @@ tile_end from to (p ∷ []) h = ap (λ n. n + p.span.offset) h.0 ∙ h.1
 tile_end from to (p ∷ q ∷ ps) h = tile_end (from + p.span.offset) to (q ∷ ps) h.1
 
 pub all_tokens : (text : List ℕ) (ts : Lexemes) → ts ≡ (reading_from 0 0 (chars text)).lexemes → TokensAt 0 (chars text) ts (reading_from 0 0 (chars text)).rest
-all_tokens text ts same =
-    subst (λ ps. TokensAt 0 (chars text) ps (reading_from 0 0 (chars text)).rest) (sym same) (reads (suc (length (chars text))) 0 (chars text) (omega arith))
+all_tokens text ts same = grind (arith, reads)
 
 -- a path that is written with these tokens alone
 pub path_there : (text : List ℕ) (ts : Lexemes) → TokensAt 0 (chars text) ts [] → IsInGrammar text → stop text whole_wants ts ≡ None
@@ -300,9 +276,7 @@ refused_left text ts (c ∷ cs) utf8 read (inr h) = at_character ts c cs read (b
 
 module _ (text : List ℕ) (ts : Lexemes) (p : Place) (utf8 : IsUtf8 text) (same : ts ≡ (reading_from 0 0 (chars text)).lexemes) (left : (reading_from 0 0 (chars text)).rest ≡ ahead p) (tile : Tile 0 ts p.pos) where
   behind_all : (stop text whole_wants ts ≡ Some []) ⊎ ((stop text whole_wants ts ≡ None) × (ahead p ≡ [] → ⊥)) → RefusedAt text (behind_character text p.pos (ahead p))
-  behind_all h =
-      subst (λ n. RefusedAt text (behind_character text n (ahead p))) (sym (reach_end ts) ∙ tile_end 0 p.pos ts tile)
-      (refused_left text ts (ahead p) utf8 (subst (TokensAt 0 (chars text) ts) left (all_tokens text ts same)) h)
+  behind_all h = grind (arith, all_tokens, reach_end, refused_left, tile_end)
 
   -- where the tokens stop, or what is behind them
   pub refused_there : (here : Lexemes) → stop text whole_wants ts ≡ Some here → RefusedAt text (refused_place text here p)

@@ -1,26 +1,19 @@
 -- The position of a refusal is at most the text's length.
-use Rattle.std.proofs.Common.{◌≡◌, ◌≤◌, ◌+◌, ◌==◌, ℕ, Bool, true, false, List, [], ◌∷◌, ◌++◌, length, take, drop, refl, sym, ap, ◌∙◌, subst, arith, append_assoc}
+use Rattle.std.proofs.Common.{◌≡◌, ◌≤◌, ◌+◌, ℕ, List, [], ◌∷◌, ◌++◌, length, take, drop, refl, sym, ap, ◌∙◌, subst, arith, append_assoc}
 use Rattle.std.proofs.lemmas.List.{take-append-drop}
 use Rattle.std.proofs.lemmas.Str.{encodes-chars}
-use Rattle.std.specs.Prelude.{if◌then◌else◌}
-use Rattle.std.specs.Char.{len_utf8}
 use Rattle.std.specs.Str.{chars, IsUtf8}
 use Rattle.jsonpath_paths.specs.Grammar.{Lexemes}
 use Rattle.jsonpath_paths.specs.RefusedAt.{RefusedAt, at_token, at_character, at_end, end_of, place_in}
-use Rattle.jsonpath_paths.specs.text.Characters.{byte_len, byte_len_is, is_quote}
+use Rattle.jsonpath_paths.specs.text.Characters.{byte_len, byte_len_is}
 use Rattle.jsonpath_paths.specs.token.Refusals.{MatchPlace}
 use Rattle.jsonpath_paths.specs.token.Tokens.{TokensAt, no_token, one_token}
 use Rattle.jsonpath_paths.specs.declared.token.tokens.TokenError.{TokenError}
-use Rattle.jsonpath_paths.specs.declared.token.tokens.TokenError.TheVariants.{Eof, Position}
 use Rattle.jsonpath_paths.proofs.token.FrontKeptLemmas.{reach, reach_on, byte_len_upon, kept}
 use Rattle.jsonpath_paths.proofs.parser.RefusedAtLemmas.{reach_end}
 
 place_within : (text : List ℕ) (n : ℕ) → n ≤ length text → MatchPlace (place_in text n) (length text)
-place_within text n h = by_end (n == length text)
-  where
-    by_end : (b : Bool) → MatchPlace (if b then Eof else Position n) (length text)
-    by_end true = tt
-    by_end false = h
+place_within text n h = grind arith
 
 -- the tokens and the rest have all bytes between them
 all_bytes : (pos : ℕ) (cs rest : List ℕ) (ps : Lexemes) → TokensAt pos cs ps rest → reach pos ps + byte_len rest ≡ pos + byte_len cs
@@ -38,12 +31,5 @@ within_text text error utf8 (at_token front later token rest read begins none) =
     let k = kept all later (chars text) rest (subst (λ ps. TokensAt 0 (chars text) ps rest) (sym (append_assoc front (token ∷ []) later)) read) in
     let parts : byte_len (chars text) ≡ byte_len k.characters + byte_len k.tail = ap byte_len k.split ∙ byte_len_upon k.characters k.tail in
     place_within text (end_of all) (omega (arith, reach_end all, k.end, parts, size text utf8))
-within_text text error utf8 (at_character front c rest read begins) = by_quote (is_quote c)
-  where
-    behind : end_of front + len_utf8 c ≤ length text
-    behind = omega (arith, reach_end front, all_bytes 0 (chars text) (c ∷ rest) front read, size text utf8)
-
-    by_quote : (b : Bool) → MatchPlace (if b then Eof else place_in text (end_of front + len_utf8 c)) (length text)
-    by_quote true = tt
-    by_quote false = place_within text (end_of front + len_utf8 c) behind
+within_text text error utf8 (at_character front c rest read begins) = grind (arith, all_bytes, place_within, size)
 within_text text error utf8 (at_end front read begins none) = tt

@@ -1,9 +1,7 @@
 -- What is left behind a part is no longer than what the part began with.
-use Rattle.std.proofs.Common.{cond, ◌≡◌, ◌≤◌, ◌<◌, ℕ, suc, Bool, true, false, List, [], ◌∷◌, length, Option, ℤ, ap, arith}
-use Rattle.jsonpath_paths.specs.token.Kinds.{same_kind}
+use Rattle.std.proofs.Common.{◌≡◌, ◌≤◌, ◌<◌, ℕ, suc, Bool, List, length, Option, ℤ, ap, arith}
 use Rattle.jsonpath_paths.specs.plan.ParsedParts.{skip}
 use Rattle.jsonpath_paths.specs.declared.text.str_reader.StrRange.{StrRange}
-use Rattle.jsonpath_paths.specs.declared.decimal.Decimal.{Decimal}
 use Rattle.jsonpath_paths.specs.declared.token.tokens.Kind.{Kind}
 use Rattle.jsonpath_paths.specs.declared.token.tokens.Kind.TheVariants as k
 use Rattle.jsonpath_paths.specs.declared.token.tokens.ParseToken.{ParseToken}
@@ -14,12 +12,7 @@ use Rattle.jsonpath_paths.specs.tree.Tree.{PathSteps, Inner, Condition, Term}
 
 pub skip_shorter : (ts : Lexemes) → length (skip ts) ≤ length ts
 unfolding skip
-skip_shorter [] = omega arith
-skip_shorter (p ∷ ps) = by_test (same_kind p.kind k.Whitespace)
-  where
-    by_test : (b : Bool) → length (cond b ps (p ∷ ps)) ≤ suc (length ps)
-    by_test true = omega arith
-    by_test false = omega arith
+skip_shorter ts = grind arith
 
 pub takes_shorter : (kind : Kind) (s : StrRange) (from to : Lexemes) → Takes kind s from to → length from ≡ suc (length to)
 takes_shorter kind s from to h = ap length h
@@ -32,8 +25,7 @@ quoted_shorter s from to h = ap length h.1
 
 module _ (text : List ℕ) where
   pub bound_shorter : {low : Option ℤ} {from to : Lexemes} → g.BoundAt text low from to → length to ≤ length from
-  bound_shorter g.no_bound = omega arith
-  bound_shorter (g.bound {from = from} mid i) = omega (arith, takes_shorter k.Key i.0 from mid i.1, skip_shorter mid)
+  bound_shorter h = grind (arith, skip_shorter)
 
   pub step_part_shorter : {pace : Option ℕ} {from to : Lexemes} → g.StepPartAt text pace from to → length to ≤ length from
   step_part_shorter g.no_step_part = omega arith
@@ -51,29 +43,20 @@ module _ (text : List ℕ) where
       omega (arith, eats_shorter k.Comma from a c, skip_shorter a, quoted_shorter s (skip a) b q, skip_shorter b, names_shorter more)
 
   pub word_shorter : {token : ParseToken} {from to : Lexemes} → g.WordAt text token from to → length from ≡ suc (length to)
-  word_shorter (g.dot_word {s = s} {from = from} {to = to} h) = takes_shorter k.Key s from to h
-  word_shorter (g.dot_all {from = from} {to = to} h) = eats_shorter k.Asterisk from to h
+  word_shorter h = grind arith
 
   pub plain_shorter : {token : ParseToken} {from to : Lexemes} → g.PlainAt text token from to → length to ≤ length from
   plain_shorter (g.in_all {from = from} a h) = omega (arith, eats_shorter k.Asterisk from a h, skip_shorter a)
   plain_shorter (g.in_index {from = from} a i) = omega (arith, takes_shorter k.Key i.0 from a i.1, skip_shorter a)
   plain_shorter (g.in_union {from = from} a b c i h j more) =
       omega (arith, takes_shorter k.Key i.0 from a i.1, skip_shorter a, eats_shorter k.Comma (skip a) b h, skip_shorter b, takes_shorter k.Key j.0 (skip b) c j.1, indexes_shorter more)
-  plain_shorter (g.in_range a b c low h high step_part_at) =
-      omega (arith, bound_shorter low, eats_shorter k.Split a b h, skip_shorter b, bound_shorter high, step_part_shorter step_part_at)
+  plain_shorter (g.in_range a b c low h high step_part_at) = grind (arith, bound_shorter, skip_shorter, step_part_shorter)
   plain_shorter (g.in_name {s = s} {from = from} a q) = omega (arith, quoted_shorter s from a q, skip_shorter a)
   plain_shorter (g.in_names {s = s} {s' = s'} {from = from} a b c q h r more) =
       omega (arith, quoted_shorter s from a q, eats_shorter k.Comma a b h, skip_shorter b, quoted_shorter s' (skip b) c r, skip_shorter c, names_shorter more)
 
-  pub number_shorter : {d : Decimal} {from to : Lexemes} → g.NumberAt text d from to → length to ≤ length from
-  number_shorter (g.whole {from = from} {to = to} s h e) = omega (arith, takes_shorter k.Key s from to h)
-  number_shorter (g.point {from = from} {to = to} s a b f h i j e) =
-      omega (arith, takes_shorter k.Key s from a h, eats_shorter k.Dot a b i, takes_shorter k.Key f b to j)
-
   pub literal_shorter : {token : ParseToken} {from to : Lexemes} → g.LiteralAt text token from to → length to ≤ length from
-  literal_shorter (g.quoted {s = s} {from = from} {to = to} q) = omega (arith, quoted_shorter s from to q)
-  literal_shorter (g.number h) = number_shorter h
-  literal_shorter (g.truth {from = from} {to = to} s h e) = omega (arith, takes_shorter k.Key s from to h)
+  literal_shorter h = grind arith
 
   mutual
     pub steps_shorter : {n : ℕ} {ss : PathSteps} {from to : Lexemes} → g.StepsAt text n ss from to → length to ≤ length from

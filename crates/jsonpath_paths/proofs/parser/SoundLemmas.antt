@@ -1,5 +1,5 @@
 -- What the parser reads is spelled so.
-use Rattle.std.proofs.Common.{◌≡◌, ◌⊎◌, inl, inr, ℕ, zero, suc, Bool, true, false, List, [], ◌∷◌, length, Option, Some, None, ℤ, refl, sym, ◌∙◌, ap, subst, cond}
+use Rattle.std.proofs.Common.{◌≡◌, ◌⊎◌, inl, inr, ℕ, zero, suc, Bool, true, false, List, [], ◌∷◌, length, Option, Some, None, ℤ, refl, sym, ◌∙◌, ap, subst, cond, arith}
 use Rattle.jsonpath_paths.specs.declared.text.str_reader.StrRange.{StrRange}
 use Rattle.jsonpath_paths.specs.declared.decimal.Decimal.{Decimal}
 use Rattle.jsonpath_paths.specs.declared.token.tokens.FilterToken.{FilterToken}
@@ -9,52 +9,34 @@ use Rattle.jsonpath_paths.specs.declared.token.tokens.ParseToken.{ParseToken}
 use Rattle.jsonpath_paths.specs.declared.token.tokens.ParseToken.TheVariants as t
 use Rattle.jsonpath_paths.specs.Grammar as grammar
 use Rattle.jsonpath_paths.proofs.parser.FormLemmas as g
-use Rattle.jsonpath_paths.proofs.parser.SameKindLemmas.{same_kind_true}
 use Rattle.jsonpath_paths.specs.Grammar.{Lexemes, Takes, whole_number}
 use Rattle.jsonpath_paths.proofs.parser.FormLemmas.{Eats, Quoted}
 use Rattle.jsonpath_paths.specs.Numbers.{index_of, range_step_of, decimal_of}
 use Rattle.jsonpath_paths.specs.Literals.{truth_of}
 use Rattle.jsonpath_paths.specs.text.Characters.{bytes_at}
-use Rattle.jsonpath_paths.specs.declared.token.tokens.Lexeme.{Lexeme}
 use Rattle.jsonpath_paths.specs.tree.Tree.{Path, PathSteps, Inner, Condition, Term}
 use Rattle.jsonpath_paths.specs.tree.Tree as tree
-use Rattle.jsonpath_paths.specs.token.Kinds.{same_kind}
 use Rattle.jsonpath_paths.specs.plan.ParsedParts as d
-use Rattle.jsonpath_paths.specs.plan.ParsedParts.{Read, ◌>>=◌, choose, only_if, take_token, eat, quoted_at, by_kind, skip}
+use Rattle.jsonpath_paths.specs.plan.ParsedParts.{Read, ◌>>=◌, choose, take_token, eat, quoted_at, by_kind, skip}
 
 pub then_some : {A B : Type 0} (o : Option A) (f : A → Option B) (y : B) → (o >>= f) ≡ Some y → (x : A) × (o ≡ Some x) × (f x ≡ Some y)
-then_some None f y h = cc
-then_some (Some x) f y h = (x, refl, h)
+then_some o f y h = grind arith
 
 pub choose_some : {A B : Type 0} (o : Option A) (f : A → Option B) (other : Option B) (y : B) → choose o f other ≡ Some y
     → ((x : A) × (o ≡ Some x) × (f x ≡ Some y)) ⊎ ((o ≡ None) × (other ≡ Some y))
-choose_some None f other y h = inr (refl, h)
-choose_some (Some x) f other y h = inl (x, refl, h)
+choose_some o f other y h = grind arith
 
 pub some_same : {A : Type 0} (x y : A) → Some x ≡ Some y → x ≡ y
 some_same x y h = cc
 
-only_if_some : {A : Type 0} (b : Bool) (x y : A) → only_if b x ≡ Some y → (b ≡ true) × (x ≡ y)
-only_if_some true x y h = (refl, some_same x y h)
-only_if_some false x y h = cc
-
 pub take_takes : (kind : Kind) (ts : Lexemes) (r : StrRange × Lexemes) → take_token kind ts ≡ Some r → Takes kind r.0 ts r.1
-take_takes kind [] r h = cc
-take_takes kind (p ∷ ps) r h =
-    let q = only_if_some (same_kind p.kind kind) (p.span, ps) r h in
-    subst (λ z. Takes kind z.0 (p ∷ ps) z.1) q.1 (ap (λ x. let y : Lexeme = record { kind = x; span = p.span } in y ∷ ps) (same_kind_true p.kind kind q.0))
+take_takes kind ts r h = grind arith
 
 pub eat_eats : (kind : Kind) (ts to : Lexemes) → eat kind ts ≡ Some to → Eats kind ts to
-eat_eats kind ts to h =
-    let a = then_some (take_token kind ts) _ to h in
-    (a.0.0, subst (λ z. Takes kind a.0.0 ts z) (some_same a.0.1 to a.2) (take_takes kind ts a.0 a.1))
+eat_eats kind ts to h = grind (arith, some_same, take_takes)
 
 pub sound_quoted : (ts : Lexemes) (r : StrRange × Lexemes) → quoted_at ts ≡ Some r → Quoted r.0 ts r.1
-sound_quoted ts r h =
-    elim (choose_some (take_token k.DoubleQuoted ts) _ _ r h) [
-      | inl a ↦ (true, subst (λ z. Takes k.DoubleQuoted z.0 ts z.1) (some_same a.0 r a.2) (take_takes k.DoubleQuoted ts a.0 a.1))
-      | inr b ↦ (false, take_takes k.SingleQuoted ts r b.1)
-    ]
+sound_quoted ts r h = grind arith
 
 pub sound_by_kind : (f : Kind → Option FilterToken) (ts : Lexemes) (r : FilterToken × Lexemes) → by_kind f ts ≡ Some r
     → (kind : Kind) × (f kind ≡ Some r.0) × Eats kind ts r.1
@@ -65,10 +47,7 @@ sound_by_kind f (p ∷ ps) r h =
 
 module _ (text : List ℕ) where
   pub sound_index : (ts : Lexemes) (r : ℤ × Lexemes) → d.index_at text ts ≡ Some r → g.IndexAt text r.0 ts r.1
-  sound_index ts r h =
-      let a = then_some (take_token k.Key ts) _ r h in
-      let b = then_some (index_of (bytes_at text a.0.0)) _ r a.2 in
-      subst (λ z. g.IndexAt text z.0 ts z.1) (some_same (b.0, a.0.1) r b.2) (a.0.0, take_takes k.Key ts a.0 a.1, b.1)
+  sound_index ts r h = grind arith
 
   pub sound_bound : (ts : Lexemes) (r : Option ℤ × Lexemes) → d.range_bound_at text ts ≡ Some r → g.BoundAt text r.0 ts r.1
   sound_bound ts r h =
@@ -246,9 +225,7 @@ module _ (text : List ℕ) where
 
     word_parts : (leaves : Bool) (ts : Lexemes) (r : Step × Lexemes) → d.word_step text deeper leaves ts ≡ Some r
         → (w : ParseToken) × (a : Lexemes) × g.WordAt text w ts a × (let s : Step × Lexemes = ((leaves, false, tree.plain w), a) in s ≡ r)
-    word_parts leaves ts r h =
-        let w = then_some (d.step_word_at text ts) _ r h in
-        (w.0.0, w.0.1, sound_word ts w.0 w.1, some_same ((leaves, false, tree.plain w.0.0), w.0.1) r w.2)
+    word_parts leaves ts r h = grind (arith, sound_word, then_some)
 
     pub sound_step : (ts : Lexemes) (r : Step × Lexemes) → d.step_at text deeper ts ≡ Some r → StepIs r ts
     unfolding d.step_at
@@ -372,8 +349,7 @@ module _ (text : List ℕ) where
   sound_condition (suc n) ts r h = (n, refl, sound_condition_by n (d.condition_at text n) (sound_condition n) ts r h)
 
   pub sound_end : (ss : PathSteps) (ts : Lexemes) (p : Path) → d.if_end text ss ts ≡ Some p → (ts ≡ []) × (p ≡ tree.path true ss)
-  sound_end ss [] p h = (refl, sym (some_same (tree.path true ss) p h))
-  sound_end ss (q ∷ qs) p h = cc
+  sound_end ss ts p h = grind arith
 
   pub sound_path : (ts : Lexemes) (p : Path) → d.path_at text ts ≡ Some p → g.PathAt text p ts
   unfolding d.path_at d.steps_at

@@ -1,9 +1,9 @@
 -- From what the parser reads to what the text spells.
-use Rattle.std.proofs.Common.{◌≡◌, ℕ, List, Some, None, Result, Ok, Err, ◌∙◌}
+use Rattle.std.proofs.Common.{◌≡◌, ℕ, List, Some, None, Result, Err, ◌∙◌, arith}
 use Rattle.std.specs.Prelude.{IfOk, IfErr, IsTrue, ◌↔◌}
 use Rattle.jsonpath_paths.specs.Grammar.{Lexemes, SpellsPath, levels}
 use Rattle.jsonpath_paths.specs.tree.Tree.{Path, PathSteps, path}
-use Rattle.std.proofs.Common.{Vec, Global, ap, subst, Bool, true, false, refl, rules, [], ◌∷◌}
+use Rattle.std.proofs.Common.{Vec, Global, ap, subst, Bool, true, false, []}
 use Rattle.jsonpath_paths.specs.plan.ParsedParts.{path_at, Read, ◌>>=◌, take_token, steps_at, condition_at, if_end, skip}
 use Rattle.jsonpath_paths.specs.plan.Parsing.{Reads}
 use Rattle.jsonpath_paths.specs.plan.TokensLeft.{TokensLeft}
@@ -17,14 +17,11 @@ use Rattle.jsonpath_paths.specs.declared.parser.tree_parser.Refusal.TheVariants 
 use Rattle.jsonpath_paths.proofs.parser.DerivationLemmas.{sound_path, complete_path}
 
 pub exact_found : {A : Type 0} (view : A → Path) (text : List ℕ) (ts : Lexemes) (r : Result A Refusal) → IsPathAnswer view (path_at text ts) r → IfOk r (λ p. SpellsPath text (view p) ts)
-exact_found view text ts (Ok x) h = sound_path text ts (view x) h
-exact_found view text ts (Err e) h = tt
+exact_found view text ts r h = grind (arith, sound_path)
 
 pub exact_only : {A : Type 0} (view : A → Path) (text : List ℕ) (ts : Lexemes) (r : Result A Refusal) → IsPathAnswer view (path_at text ts) r
     → IfErr r (λ e. e ≡ fault.Refused → (p : Path) → SpellsPath text p ts → ⊥)
-exact_only view text ts (Ok x) h = tt
-exact_only view text ts (Err fault.Refused) h = λ same p spelled. cc (h, complete_path text ts p spelled)
-exact_only view text ts (Err fault.OutOfMemory) h = λ same p spelled. cc same
+exact_only view text ts r h = grind (arith, complete_path)
 
 abbrev steps_read : List ℕ → Lexemes → Read PathSteps
 steps_read text ts = steps_at text (condition_at text levels) ts
@@ -45,10 +42,7 @@ exact_end text ts s old new ss e same h =
     path_by text ts old.lexemes s e ∙ ap (λ o. o >>= λ ss. if_end text ss.0 (skip ss.1)) (subst (λ x. steps_read x old.lexemes ≡ Some (ss, new.lexemes)) same h)
 
 pub end_of_none : (b : Bool) (text : List ℕ) (ss : PathSteps) (ps : Lexemes) → (IsTrue b ↔ (ps ≡ [])) → b ≡ true → if_end text ss ps ≡ Some (path true ss)
-end_of_none true text ss ps h e = ap (if_end text ss) (h.0 (search rules))
-end_of_none false text ss ps h e = cc
+end_of_none b text ss ps h e = grind arith
 
 pub end_of_some : (b : Bool) (text : List ℕ) (ss : PathSteps) (ps : Lexemes) → (IsTrue b ↔ (ps ≡ [])) → b ≡ false → if_end text ss ps ≡ None
-end_of_some true text ss ps h e = cc
-end_of_some false text ss [] h e = cc (h.1 refl)
-end_of_some false text ss (p ∷ ps) h e = refl
+end_of_some b text ss ps h e = grind arith

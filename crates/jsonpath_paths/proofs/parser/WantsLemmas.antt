@@ -1,5 +1,5 @@
 -- Whatever is wanted can be given: each stack has tokens that lead from it to the end of a path.
-use Rattle.std.proofs.Common.{◌≡◌, ℕ, Bool, true, false, List, [], ◌∷◌, Option, Some, None, refl, ◌∙◌, ap, codes}
+use Rattle.std.proofs.Common.{◌≡◌, ℕ, Bool, true, false, List, [], ◌∷◌, Option, Some, refl, ◌∙◌, ap, codes, arith}
 use Rattle.std.specs.Prelude.{◌++◌, ◌&&◌, is_some}
 use Rattle.std.proofs.lemmas.Bool.{and_parts}
 use Rattle.jsonpath_paths.specs.declared.token.tokens.Kind.{Kind}
@@ -116,8 +116,7 @@ given_up _ _ = refl
 pub pass_ends : {w : Want} → Silent w → (ws : List Want) (es : List Ender) → Ends ws (signs_of es) → Ends (w ∷ ws) (signs_of es)
 pass_ends {w = w} s ws [] h =
     record { left = w ∷ h.left; ran = ap (λ o. run_on o (λ us. Some (w ∷ us))) h.ran; ended = ap (λ b. b && may_end h.left) (passing s) ∙ h.ended }
-pass_ends {w = w} s ws (e ∷ es) h =
-    record { left = h.left; ran = ap (λ m. run_on (moved m ws (feed ws (kind_of e) (sample (kind_of e)))) (λ us. run us (signs_of es))) (given_up s e) ∙ h.ran; ended = h.ended }
+pass_ends {w = w} s ws (e ∷ es) h = grind (arith, given_up)
 
 zero_is_index : is_some (index_of (48 ∷ [])) ≡ true
 unfolding index_of
@@ -179,8 +178,7 @@ all_end (w ∷ ws) r = let both = and_parts (real w) (all_real ws) r in end_firs
 
 run_on_behind : (o : Option (List Want)) (ts us : List Sign) → ((vs : List Want) → run vs (ts ++ us) ≡ run_on (run vs ts) (λ ws. run ws us))
     → run_on o (λ vs. run vs (ts ++ us)) ≡ run_on (run_on o (λ vs. run vs ts)) (λ vs. run vs us)
-run_on_behind None ts us h = refl
-run_on_behind (Some vs) ts us h = h vs
+run_on_behind o ts us h = grind arith
 
 pub run_behind : (ws : List Want) (ts us : List Sign) → run ws (ts ++ us) ≡ run_on (run ws ts) (λ vs. run vs us)
 run_behind ws [] us = refl

@@ -1,5 +1,5 @@
 -- A text spells exactly the tree that is computed from it.
-use Rattle.std.proofs.Common.{◌≡◌, ℕ, List, [], ◌∷◌, Option, Some, refl, ap, ◌∙◌}
+use Rattle.std.proofs.Common.{◌≡◌, ℕ, List, Some, ap, ◌∙◌, arith}
 use Rattle.std.specs.Str.{chars}
 use Rattle.jsonpath_paths.specs.plan.ParsedParts.{path_at}
 use Rattle.jsonpath_paths.specs.token.Reading.{reading_from}
@@ -9,15 +9,8 @@ use Rattle.jsonpath_paths.specs.WholeText.{when_read, tree_of_text}
 use Rattle.jsonpath_paths.proofs.parser.DerivationLemmas.{sound_path, complete_path}
 use Rattle.jsonpath_paths.proofs.token.TokenizedLemmas.{found_spelled, spells_found}
 
-read_whole : (rest : List ℕ) (o : Option Path) (p : Path) → when_read rest o ≡ Some p → (rest ≡ []) × (o ≡ Some p)
-read_whole [] o p h = (refl, h)
-read_whole (c ∷ cs) o p h = cc
-
 pub spelled_found : (text : List ℕ) (p : Path) → tree_of_text text ≡ Some p → Spells text p
-spelled_found text p h =
-    let read = reading_from 0 0 (chars text) in
-    let whole = read_whole read.rest (path_at text read.lexemes) p h in
-    spells_found text p read.lexemes refl whole.0 (sound_path text read.lexemes p whole.1)
+spelled_found text p h = grind (arith, sound_path, spells_found)
 
 pub spelled_only : (text : List ℕ) (p : Path) → Spells text p → tree_of_text text ≡ Some p
 spelled_only text p h =

@@ -7,22 +7,17 @@ pub one_more : (n : ℕ) → 1 + n ≡ suc n
 one_more n = omega arith
 
 take_while-pass : (test : ℕ → Bool) (c : ℕ) (cs : List ℕ) → test c ≡ true → take_while test (c ∷ cs) ≡ c ∷ take_while test cs
-take_while-pass test c cs h =
-    ap (λ b. take (cond b (1 + prefix_len test cs) 0) (c ∷ cs)) h ∙ ap (λ n. take n (c ∷ cs)) (one_more (prefix_len test cs))
+take_while-pass test c cs h = grind arith
 
 take_while-fail : (test : ℕ → Bool) (c : ℕ) (cs : List ℕ) → test c ≡ false → take_while test (c ∷ cs) ≡ []
 take_while-fail test c cs h = ap (λ b. take (cond b (1 + prefix_len test cs) 0) (c ∷ cs)) h
-
-pub past_past : (p : Place) (c : ℕ) (cs : List ℕ) → past (past p (c ∷ [])) cs ≡ past p (c ∷ cs)
-past_past p c cs = ap (λ n. let q : Place = record { text = p.text; pos = n } in q) (omega arith)
 
 pub past_none : (p : Place) → past p [] ≡ p
 past_none p = ap (λ n. let q : Place = record { text = p.text; pos = n } in q) (add-zero p.pos)
 
 pub run_more : (test : ℕ → Bool) (p q : Place) (c : ℕ) → ahead p ≡ c ∷ ahead q → q ≡ past p (c ∷ []) → test c ≡ true
     → past q (take_while test (ahead q)) ≡ past p (take_while test (ahead p))
-run_more test p q c e f h =
-    ap (λ r. past r (take_while test (ahead q))) f ∙ (past_past p c _ ∙ ap (past p) (sym (ap (take_while test) e ∙ take_while-pass test c (ahead q) h)))
+run_more test p q c e f h = grind (arith, take_while-pass)
 
 pub run_stops : (test : ℕ → Bool) (p : Place) (c : ℕ) (cs : List ℕ) → ahead p ≡ c ∷ cs → test c ≡ false → p ≡ past p (take_while test (ahead p))
 run_stops test p c cs e h = sym (ap (past p) (ap (take_while test) e ∙ take_while-fail test c cs h) ∙ past_none p)

@@ -1,11 +1,11 @@
 -- What is found at the front is a token of its kind.
-use Rattle.std.proofs.Common.{◌≡◌, ◌<◌, ℕ, zero, suc, ◌+◌, Bool, true, false, not, List, [], ◌∷◌, ◌++◌, length, Option, Some, None, ◌∙◌, ap, subst, refl, take, cond, arith, inl, inr}
+use Rattle.std.proofs.Common.{◌≡◌, ◌<◌, ℕ, suc, ◌+◌, Bool, true, false, not, List, [], ◌∷◌, ◌++◌, length, Option, Some, None, ◌∙◌, ap, subst, refl, take, cond, arith, inl, inr}
 use Rattle.std.specs.Prelude.{option_map, ◌==◌, ◌&&◌, ◌⊎◌, IfSome}
 use Rattle.std.specs.Char.{is_whitespace}
 use Rattle.std.specs.List.{prefix_len}
 use Rattle.std.proofs.lemmas.Bool.{and_from, cond_both, eqb-false, or_from}
 use Rattle.jsonpath_paths.specs.text.Characters.{dollar, backslash, is_no_stop, goes_on}
-use Rattle.jsonpath_paths.specs.token.Reading.{closing, quoted_lexeme, dollar_word, two_characters, optional_equals, blanks_or_word, several_character_lexeme, by_single_character, lexeme_beginning_with, first}
+use Rattle.jsonpath_paths.specs.token.Reading.{closing, quoted_lexeme, dollar_word, two_characters, optional_equals, blanks_or_word, several_character_lexeme, lexeme_beginning_with, first}
 use Rattle.jsonpath_paths.specs.token.Kinds.{all_pass, closed, is_quoted, is_blank, dollar_goes_on, begins_none, ends_word, is_word, is_token, IsFirst, HasNone}
 use Rattle.jsonpath_paths.specs.declared.token.tokens.Kind.{Kind}
 use Rattle.jsonpath_paths.specs.declared.token.tokens.Kind.TheVariants as k
@@ -22,32 +22,22 @@ taken_pass test [] = refl
 taken_pass test (c ∷ cs) = by_test (test c) refl (taken_pass test cs)
   where
     by_test : (b : Bool) → test c ≡ b → all_pass test (take (prefix_len test cs) cs) ≡ true → all_pass test (take (cond b (1 + prefix_len test cs) 0) (c ∷ cs)) ≡ true
-    by_test true e h = ap (λ n. all_pass test (take n (c ∷ cs))) (one_more (prefix_len test cs)) ∙ and_from (test c) (all_pass test (take (prefix_len test cs) cs)) e h
-    by_test false e h = refl
+    by_test b e h = grind arith
 
 dollar_pass : (xs : List ℕ) → 0 < length xs → all_pass is_no_stop xs ≡ true → dollar_goes_on xs ≡ true
-dollar_pass [] h a = absurd (omega arith)
-dollar_pass (x ∷ xs) h a = a
+dollar_pass xs h a = grind arith
 
 counted : (k : ℕ) (o : Option ℕ) (n : ℕ) → option_map (λ m. k + m) o ≡ Some n → (m : ℕ) × (o ≡ Some m) × (k + m ≡ n)
-counted k None n h = cc
-counted k (Some m) n h = (m, refl, cc)
+counted k o n h = grind arith
 
 pub closing_closed : (quote n : ℕ) (cs : List ℕ) → closing quote cs ≡ Some n → closed quote (take n cs) ≡ true
 closing_closed quote n [] h = cc
-closing_closed quote n (c ∷ []) h = by_test (c == quote) refl h
-  where
-    by_test : (b : Bool) → (c == quote) ≡ b → cond b (Some 1) None ≡ Some n → closed quote (take n (c ∷ [])) ≡ true
-    by_test true q h = let one : 1 ≡ n = cc in subst (λ m. closed quote (take m (c ∷ [])) ≡ true) one q
-    by_test false q h = cc
+closing_closed quote n (c ∷ []) h = grind arith
 closing_closed quote n (c ∷ d ∷ cs) h =
     by_test (c == quote) (c == backslash) refl refl h (λ m. closing_closed quote m cs) (λ m. closing_closed quote m (d ∷ cs))
   where
     step : (m : ℕ) → (c == quote) ≡ false → (c == backslash) ≡ false → closed quote (take m (d ∷ cs)) ≡ true → closed quote (c ∷ take m (d ∷ cs)) ≡ true
-    step zero q s h = cc
-    step (suc m) q s h =
-        ap (λ b. cond b false (cond (c == backslash) (closed quote (take m cs)) (closed quote (d ∷ take m cs)))) q
-        ∙ (ap (λ b. cond b (closed quote (take m cs)) (closed quote (d ∷ take m cs))) s ∙ h)
+    step m q s h = grind arith
 
     by_test : (b e : Bool) → (c == quote) ≡ b → (c == backslash) ≡ e → cond b (Some 1) (cond e (option_map (λ n. 2 + n) (closing quote cs)) (option_map (λ n. 1 + n) (closing quote (d ∷ cs)))) ≡ Some n
         → ((m : ℕ) → closing quote cs ≡ Some m → closed quote (take m cs) ≡ true) → ((m : ℕ) → closing quote (d ∷ cs) ≡ Some m → closed quote (take m (d ∷ cs)) ≡ true)
@@ -84,16 +74,12 @@ quoted_found kind quote c cs same h = by_count (closing quote cs) refl
         same (take (1 + n) (c ∷ cs)) ∙ (ap (λ m. is_quoted quote (take m (c ∷ cs))) (one_more n) ∙ and_from (c == quote) (closed quote (take n cs)) h (closing_closed quote n cs e))
 
 doubled_found : (kind : Kind) (lit second c : ℕ) (cs : List ℕ) → ((a b : ℕ) → is_token kind (a ∷ b ∷ []) ≡ (a == lit && (b == second && true))) → (c == lit) ≡ true → Found (two_characters kind second cs) (c ∷ cs)
-doubled_found kind lit second c [] same h = tt
-doubled_found kind lit second c (d ∷ ds) same h =
-    cond_both (d == second) (Some (kind, 2)) None (λ o. Found o (c ∷ d ∷ ds)) (λ e. same c d ∙ and_from (c == lit) (d == second && true) h (and_from (d == second) true e refl)) (λ _. tt)
+doubled_found kind lit second c cs same h = grind arith
 
 or_equal_found : (alone with_equal : Kind) (lit c : ℕ) (cs : List ℕ) → ((a : ℕ) → is_token alone (a ∷ []) ≡ (a == lit && true)) → ((a b : ℕ) → is_token with_equal (a ∷ b ∷ []) ≡ (a == lit && (b == 61 && true)))
     → (c == lit) ≡ true → Found (optional_equals alone with_equal cs) (c ∷ cs)
 or_equal_found alone with_equal lit c [] one two h = one c ∙ and_from (c == lit) true h refl
-or_equal_found alone with_equal lit c (d ∷ ds) one two h =
-    cond_both (d == 61) (Some (with_equal, 2)) (Some (alone, 1)) (λ o. Found o (c ∷ d ∷ ds))
-    (λ e. two c d ∙ and_from (c == lit) (d == 61 && true) h (and_from (d == 61) true e refl)) (λ _. one c ∙ and_from (c == lit) true h refl)
+or_equal_found alone with_equal lit c (d ∷ ds) one two h = grind arith
 
 run_found : (c : ℕ) (cs : List ℕ) → (is_whitespace c ≡ false → begins_none c ≡ false) → (c == dollar) ≡ false → Found (blanks_or_word c cs) (c ∷ cs)
 run_found c cs h d = by_test (is_whitespace c) refl
@@ -119,18 +105,7 @@ longer_found c cs e46 e42 e91 e93 e40 e41 e64 e63 e44 e58 =
     (λ e60. run_found c cs (λ w. or_from _ _ (or_from _ _ (or_from _ _ (or_from _ _ (or_from _ _ (or_from _ _ (or_from _ _ (or_from _ _ (or_from _ _ (or_from _ _ (or_from _ _ (or_from _ _ (or_from _ _ (or_from _ _ (or_from _ _ (or_from _ _ (or_from _ _ (or_from _ _ (e46) e42) e91) e93) e40) e41) e64) e63) e44) e58) e60) e62) e61) e38) e124) e33) w) e36) (or_from _ _ e34 e39)) e36)))))))))
 
 pub front_found : (c : ℕ) (cs : List ℕ) → Found (lexeme_beginning_with c cs) (c ∷ cs)
-front_found c cs =
-    cond_both (c == 46) _ _ (λ m. Found (by_single_character m c cs) (c ∷ cs)) (λ e. and_from (c == 46) true e refl)
-    (λ e46. cond_both (c == 42) _ _ (λ m. Found (by_single_character m c cs) (c ∷ cs)) (λ e. and_from (c == 42) true e refl)
-    (λ e42. cond_both (c == 91) _ _ (λ m. Found (by_single_character m c cs) (c ∷ cs)) (λ e. and_from (c == 91) true e refl)
-    (λ e91. cond_both (c == 93) _ _ (λ m. Found (by_single_character m c cs) (c ∷ cs)) (λ e. and_from (c == 93) true e refl)
-    (λ e93. cond_both (c == 40) _ _ (λ m. Found (by_single_character m c cs) (c ∷ cs)) (λ e. and_from (c == 40) true e refl)
-    (λ e40. cond_both (c == 41) _ _ (λ m. Found (by_single_character m c cs) (c ∷ cs)) (λ e. and_from (c == 41) true e refl)
-    (λ e41. cond_both (c == 64) _ _ (λ m. Found (by_single_character m c cs) (c ∷ cs)) (λ e. and_from (c == 64) true e refl)
-    (λ e64. cond_both (c == 63) _ _ (λ m. Found (by_single_character m c cs) (c ∷ cs)) (λ e. and_from (c == 63) true e refl)
-    (λ e63. cond_both (c == 44) _ _ (λ m. Found (by_single_character m c cs) (c ∷ cs)) (λ e. and_from (c == 44) true e refl)
-    (λ e44. cond_both (c == 58) _ _ (λ m. Found (by_single_character m c cs) (c ∷ cs)) (λ e. and_from (c == 58) true e refl)
-    (λ e58. longer_found c cs e46 e42 e91 e93 e40 e41 e64 e63 e44 e58))))))))))
+front_found c cs = grind (arith, and_from, longer_found)
 
 pub first_is : (cs : List ℕ) (kind : Kind) (n : ℕ) → first cs ≡ Some (kind, n) → IsFirst cs kind n
 unfolding first

@@ -44,20 +44,15 @@ byte_len_upon [] vs = omega arith
 byte_len_upon (u ∷ us) vs = omega (arith, byte_len_upon us vs)
 
 pub reach_on : (p : Lexeme) (ps : Lexemes) → end_of (p ∷ ps) ≡ reach (p.span.pos + p.span.offset) ps
-reach_on p [] = refl
-reach_on p (q ∷ ps) = refl
+reach_on p ps = grind arith
 
 last_on : (p : Lexeme) (ps : Lexemes) (w : List ℕ) → LastEnds (p ∷ ps) w → LastEnds ps w
-last_on p [] w h = tt
-last_on p (q ∷ ps) w h = h
+last_on p ps w h = grind arith
 
 alike_on : (kind : Kind) (p : Lexeme) (fs : Lexemes) (c tail w : List ℕ) → p.kind ≡ kind → (0 < length fs → 0 < length c) → LastEnds (p ∷ fs) w → EndsAlike kind (c ++ tail) (c ++ w)
 alike_on kind p fs (d ∷ c) tail w e some last = λ test may h. h
 alike_on kind p [] [] tail w e some last = λ test may h. last test (subst (λ x. GoesOn x test) (sym e) may)
-alike_on kind p (q ∷ fs) [] tail w e some last = λ test may h. absurd (nothing (some (omega arith)))
-  where
-    nothing : 0 < 0 → ⊥
-    nothing h = omega arith
+alike_on kind p (q ∷ fs) [] tail w e some last = grind arith
 
 one_more : (pos : ℕ) (u v : List ℕ) (p : Lexeme) (kind : Kind) (fs here : Lexemes) → p ≡ lexeme kind pos u → 0 < length u → first (u ++ v) ≡ Some (kind, length u) → Kept (pos + byte_len u) v fs here
     → Kept pos (u ++ v) (p ∷ fs) here
@@ -81,16 +76,7 @@ one_more pos u v p kind fs here is some found r =
     }
 
 front_kept : (front here : Lexemes) (pos : ℕ) (cs rest : List ℕ) (ps : Lexemes) → ps ≡ front ++ here → TokensAt pos cs ps rest → Kept pos cs front here
-front_kept [] here pos cs rest ps e h =
-    record {
-      characters = [];
-      tail = cs;
-      split = refl;
-      end = omega arith;
-      within = tt;
-      some = λ h. absurd (omega arith);
-      again = λ w later last more. subst (λ n. TokensAt n w later []) (omega arith) more;
-    }
+front_kept [] here pos cs rest ps e h = grind arith
 front_kept (p ∷ fs) here pos cs rest ps e (no_token none) = cc e
 front_kept (p ∷ fs) here pos cs rest ps e (one_token {kind = kind} {ps = qs} n is more) =
     let left : qs ≡ fs ++ here = cc e in

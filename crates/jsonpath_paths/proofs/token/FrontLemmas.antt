@@ -1,86 +1,56 @@
 -- How many characters the lexeme at the front takes.
-use Rattle.std.proofs.Common.{◌≡◌, ◌<◌, ◌≤◌, ℕ, zero, suc, ◌+◌, ◌-◌, Bool, true, false, List, [], ◌∷◌, length, Option, Some, None, sym, ◌∙◌, ap, refl, take, cond, arith}
+use Rattle.std.proofs.Common.{◌≡◌, ◌<◌, ◌≤◌, ℕ, suc, ◌+◌, ◌-◌, Bool, List, [], ◌∷◌, length, Option, Some, None, ◌∙◌, ap, refl, take, cond, arith}
 use Rattle.std.specs.Prelude.{option_map, ◌==◌, IfSome}
-use Rattle.std.specs.Char.{is_whitespace}
-use Rattle.std.specs.List.{prefix_len}
 use Rattle.jsonpath_paths.specs.text.TextPlace.{Place, ahead, past}
-use Rattle.jsonpath_paths.specs.text.Characters.{backslash, dollar, is_no_stop, goes_on}
+use Rattle.jsonpath_paths.specs.text.Characters.{backslash, dollar}
 use Rattle.jsonpath_paths.specs.token.Reading.{closing, quoted_lexeme, dollar_word, two_characters, optional_equals, blanks_or_word, single_character_kind, operator_blanks_or_word, by_single_character, lexeme_beginning_with, first}
 use Rattle.jsonpath_paths.specs.plan.NextToken.{ends_at, first_at}
 use Rattle.jsonpath_paths.specs.declared.token.tokens.Kind.{Kind}
 use Rattle.jsonpath_paths.specs.declared.token.tokens.Kind.TheVariants as k
 use Rattle.std.proofs.lemmas.List.Sums.{prefix_len-le-length}
-use Rattle.jsonpath_paths.proofs.text.RunLemmas.{past_past}
 
 -- one character or more, and no more than there are
 abbrev pub Within : Option (Kind × ℕ) → ℕ → Type 0
 Within o most = IfSome o (λ f. (0 < f.1) × (f.1 ≤ most))
 
 within_cond : (most : ℕ) (b : Bool) (x y : Option (Kind × ℕ)) → Within x most → Within y most → Within (cond b x y) most
-within_cond most true x y h i = h
-within_cond most false x y h i = i
+within_cond most b x y h i = grind arith
 
 dollar_within : (cs : List ℕ) → Within (dollar_word cs) (suc (length cs))
-dollar_within cs = by_test (prefix_len is_no_stop cs == 0)
-  where
-    by_test : (b : Bool) → Within (Some (cond b (k.Absolute, 1) (k.Key, 1 + prefix_len is_no_stop cs))) (suc (length cs))
-    by_test true = (omega arith, omega arith)
-    by_test false = (omega arith, omega (arith, prefix_len-le-length is_no_stop cs))
+dollar_within cs = grind (arith, prefix_len-le-length)
 
 run_within : (c : ℕ) (cs : List ℕ) → Within (blanks_or_word c cs) (suc (length cs))
-run_within c cs = by_test (is_whitespace c)
-  where
-    by_test : (b : Bool) → Within (Some (cond b (k.Whitespace, 1 + prefix_len is_whitespace cs) (k.Key, 1 + prefix_len goes_on cs))) (suc (length cs))
-    by_test true = (omega arith, omega (arith, prefix_len-le-length is_whitespace cs))
-    by_test false = (omega arith, omega (arith, prefix_len-le-length goes_on cs))
+run_within c cs = grind (arith, prefix_len-le-length)
 
 doubled_within : (kind : Kind) (second : ℕ) (cs : List ℕ) → Within (two_characters kind second cs) (suc (length cs))
-doubled_within kind second [] = tt
-doubled_within kind second (c ∷ cs) = within_cond (suc (suc (length cs))) (c == second) (Some (kind, 2)) None (omega arith, omega arith) tt
+doubled_within kind second cs = grind arith
 
 or_equal_within : (alone with_equal : Kind) (cs : List ℕ) → Within (optional_equals alone with_equal cs) (suc (length cs))
-or_equal_within alone with_equal [] = (omega arith, omega arith)
-or_equal_within alone with_equal (c ∷ cs) = within_cond (suc (suc (length cs))) (c == 61) (Some (with_equal, 2)) (Some (alone, 1)) (omega arith, omega arith) (omega arith, omega arith)
+or_equal_within alone with_equal cs = grind arith
 
 closing_within : (quote : ℕ) (cs : List ℕ) → IfSome (closing quote cs) (λ n. n ≤ length cs)
 closing_within quote [] = tt
-closing_within quote (c ∷ []) = by_test (c == quote)
-  where
-    by_test : (b : Bool) → IfSome (cond b (Some 1) None) (λ n. n ≤ 1)
-    by_test true = omega arith
-    by_test false = tt
+closing_within quote (c ∷ []) = grind arith
 closing_within quote (c ∷ d ∷ cs) = by_test (c == quote) (c == backslash) (closing_within quote cs) (closing_within quote (d ∷ cs))
   where
     two : (o : Option ℕ) → IfSome o (λ n. n ≤ length cs) → IfSome (option_map (λ n. 2 + n) o) (λ n. n ≤ suc (suc (length cs)))
-    two None h = tt
-    two (Some n) h = omega arith
+    two o h = grind arith
 
     one : (o : Option ℕ) → IfSome o (λ n. n ≤ suc (length cs)) → IfSome (option_map (λ n. 1 + n) o) (λ n. n ≤ suc (suc (length cs)))
-    one None h = tt
-    one (Some n) h = omega arith
+    one o h = grind arith
 
     by_test : (b e : Bool) → IfSome (closing quote cs) (λ n. n ≤ length cs) → IfSome (closing quote (d ∷ cs)) (λ n. n ≤ suc (length cs))
         → IfSome (cond b (Some 1) (cond e (option_map (λ n. 2 + n) (closing quote cs)) (option_map (λ n. 1 + n) (closing quote (d ∷ cs))))) (λ n. n ≤ suc (suc (length cs)))
-    by_test true e h i = omega arith
-    by_test false true h i = two (closing quote cs) h
-    by_test false false h i = one (closing quote (d ∷ cs)) i
+    by_test b e h i = grind (arith, one, two)
 
 quoted_within : (kind : Kind) (quote : ℕ) (cs : List ℕ) → Within (quoted_lexeme kind quote cs) (suc (length cs))
 quoted_within kind quote cs = by_count (closing quote cs) (closing_within quote cs)
   where
     by_count : (o : Option ℕ) → IfSome o (λ n. n ≤ length cs) → Within (option_map (λ n. (kind, 1 + n)) o) (suc (length cs))
-    by_count None h = tt
-    by_count (Some n) h = (omega arith, omega arith)
+    by_count o h = grind arith
 
 operator_within : (c : ℕ) (cs : List ℕ) → Within (operator_blanks_or_word c cs) (suc (length cs))
-operator_within c cs =
-    let most = suc (length cs) in
-    within_cond most (c == 61) _ _ (doubled_within k.Equal 61 cs)
-    (within_cond most (c == 33) _ _ (doubled_within k.NotEqual 61 cs)
-    (within_cond most (c == 38) _ _ (doubled_within k.And 38 cs)
-    (within_cond most (c == 124) _ _ (doubled_within k.Or 124 cs)
-    (within_cond most (c == 62) _ _ (or_equal_within k.Greater k.GreaterOrEqual cs)
-    (within_cond most (c == 60) _ _ (or_equal_within k.Little k.LittleOrEqual cs) (run_within c cs))))))
+operator_within c cs = grind (arith, doubled_within, or_equal_within, run_within)
 
 pub front_within : (c : ℕ) (cs : List ℕ) → Within (lexeme_beginning_with c cs) (suc (length cs))
 front_within c cs = by_kind (single_character_kind c)
@@ -94,9 +64,7 @@ front_within c cs = by_kind (single_character_kind c)
 
 -- the place behind a character and others, from the place behind it
 behind_one : (p r : Place) (c n : ℕ) (cs : List ℕ) → r ≡ past p (c ∷ []) → 0 < n → past p (take n (c ∷ cs)) ≡ past r (take (n - 1) cs)
-behind_one p r c zero cs e h = absurd (omega arith)
-behind_one p r c (suc n) cs e h =
-    sym (past_past p c (take n cs)) ∙ (ap (λ q. past q (take n cs)) (sym e) ∙ ap (λ m. past r (take m cs)) (omega arith))
+behind_one p r c n cs e h = grind arith
 
 pub first_ends : (p r q : Place) (c : ℕ) (o : Option Kind) → ahead p ≡ c ∷ ahead r → r ≡ past p (c ∷ []) → ends_at (lexeme_beginning_with c (ahead r)) r ≡ option_map (λ kind. (kind, q)) o
     → first_at p ≡ option_map (λ kind. (kind, q)) o

@@ -35,32 +35,18 @@ pub data GoesOn : Kind → (ℕ → Bool) → Type 0 where
 abbrev pub EndsAlike : Kind → List ℕ → List ℕ → Type 0
 EndsAlike kind v w = (test : ℕ → Bool) → GoesOn kind test → ends test v ≡ true → ends test w ≡ true
 
-one_less : (n m : ℕ) → 1 + n ≡ suc m → n ≡ m
-one_less n m h = omega arith
-
 prefix_ends : (test : ℕ → Bool) (us v w : List ℕ) → prefix_len test (us ++ v) ≡ length us → (ends test v ≡ true → ends test w ≡ true) → prefix_len test (us ++ w) ≡ length us
 prefix_ends test [] v w h e = none w (e (ended v h))
   where
     ended : (v : List ℕ) → prefix_len test v ≡ 0 → ends test v ≡ true
-    ended [] h = refl
-    ended (c ∷ cs) h = by_test (test c) h
-      where
-        by_test : (b : Bool) → cond b (1 + prefix_len test cs) 0 ≡ 0 → not b ≡ true
-        by_test true h = absurd (omega arith)
-        by_test false h = refl
+    ended v h = grind arith
 
     none : (w : List ℕ) → ends test w ≡ true → prefix_len test w ≡ 0
-    none [] h = refl
-    none (c ∷ cs) h = by_test (test c) h
-      where
-        by_test : (b : Bool) → not b ≡ true → cond b (1 + prefix_len test cs) 0 ≡ 0
-        by_test true h = cc h
-        by_test false h = refl
+    none w h = grind arith
 prefix_ends test (u ∷ us) v w h e = by_test (test u) h (λ i. prefix_ends test us v w i e)
   where
     by_test : (b : Bool) → cond b (1 + prefix_len test (us ++ v)) 0 ≡ suc (length us) → (prefix_len test (us ++ v) ≡ length us → prefix_len test (us ++ w) ≡ length us) → cond b (1 + prefix_len test (us ++ w)) 0 ≡ suc (length us)
-    by_test true h more = let i = more (one_less (prefix_len test (us ++ v)) (length us) h) in omega (arith, i)
-    by_test false h more = absurd (omega arith)
+    by_test b h more = grind arith
 
 -- it is a token of the kind and of so many characters
 abbrev pub IsAt : Kind → ℕ → Option (Kind × ℕ) → Type 0
@@ -75,8 +61,7 @@ module _ (us v w : List ℕ) (kind : Kind) (alike : EndsAlike kind v w) where
 
   -- the one answer, where the other is it
   by_either : (b : Bool) (x x' y y' : Option (Kind × ℕ)) → (Is x → Is x') → (Is y → Is y') → Is (cond b x y) → Is (cond b x' y')
-  by_either true x x' y y' f g h = f h
-  by_either false x x' y y' f g h = g h
+  by_either b x x' y y' f g h = grind arith
 
   dollar_ends : Is (dollar_word (us ++ v)) → Is (dollar_word (us ++ w))
   dollar_ends h = by_none (prefix_len is_no_stop (us ++ v) == 0) refl h
@@ -109,11 +94,7 @@ IsOf us kind o = IsAt kind (suc (length us)) o
 two_ends : (us v w : List ℕ) (kind own : Kind) (second : ℕ) → IsOf us kind (two_characters own second (us ++ v)) → IsOf us kind (two_characters own second (us ++ w))
 two_ends (u ∷ us) v w kind own second h = h
 two_ends [] [] w kind own second h = cc h
-two_ends [] (c ∷ cs) w kind own second h = by_test (c == second) h
-  where
-    by_test : (b : Bool) → IsAt kind 1 (cond b (Some (own, 2)) None) → IsAt kind 1 (two_characters own second w)
-    by_test true h = let p = pair_is own kind 2 1 h in absurd (omega (arith, p.1))
-    by_test false h = cc h
+two_ends [] (c ∷ cs) w kind own second h = grind arith
 
 equals_ends : (us v w : List ℕ) (kind own with_equal : Kind) → GoesOn own is_equals → EndsAlike kind v w → IsOf us kind (optional_equals own with_equal (us ++ v)) → IsOf us kind (optional_equals own with_equal (us ++ w))
 equals_ends (u ∷ us) v w kind own with_equal may alike h = h
@@ -128,12 +109,7 @@ equals_ends [] v w kind own with_equal may alike h = none w (alike is_equals (su
         by_test false h = ((pair_is own kind 1 1 h).0, refl)
 
     none : (w : List ℕ) → ends is_equals w ≡ true → IsAt kind 1 (optional_equals own with_equal w)
-    none [] e = ap {B = Option (Kind × ℕ)} (λ x. Some (x, 1)) (ended v h).0
-    none (c ∷ cs) e = by_test (c == 61) e
-      where
-        by_test : (b : Bool) → not b ≡ true → IsAt kind 1 (cond b (Some (with_equal, 2)) (Some (own, 1)))
-        by_test true e = cc e
-        by_test false e = ap {B = Option (Kind × ℕ)} (λ x. Some (x, 1)) (ended v h).0
+    none w e = grind (arith, ended)
 
 module _ (us v w : List ℕ) (kind : Kind) (alike : EndsAlike kind v w) where
   run_ends : (c : ℕ) → IsOf us kind (blanks_or_word c (us ++ v)) → IsOf us kind (blanks_or_word c (us ++ w))

@@ -1,18 +1,18 @@
 -- The lexeme at the front is the longest front that is a token.
 use Rattle.std.proofs.Common.{◌≡◌, ◌≤◌, ℕ, suc, ◌+◌, Bool, true, false, not, List, [], ◌∷◌, ◌++◌, length, Option, Some, None, sym, ◌∙◌, ap, subst, refl, take, drop, cond, arith, length-take, codes, rules}
-use Rattle.std.specs.Prelude.{option_map, ◌==◌, ◌&&◌}
+use Rattle.std.specs.Prelude.{◌==◌, ◌&&◌}
 use Rattle.std.specs.Char.{is_whitespace}
 use Rattle.std.specs.List.{prefix_len}
 use Rattle.std.specs.Str.{bytes_eq}
 use Rattle.std.proofs.lemmas.Slice.Eq.{bytes_eq-Decides}
 use Rattle.std.proofs.lemmas.List.{take-append-drop}
-use Rattle.std.proofs.lemmas.Bool.{and_parts, cond-false, eqb-true, eqb-false, false_from_ne_true, or_right, or_left, not-true}
-use Rattle.jsonpath_paths.specs.text.Characters.{dollar, backslash, is_no_stop, goes_on}
+use Rattle.std.proofs.lemmas.Bool.{and_parts, cond-false, eqb-true, false_from_ne_true, or_right, or_left, not-true}
+use Rattle.jsonpath_paths.specs.text.Characters.{goes_on}
 use Rattle.jsonpath_paths.specs.token.Reading.{closing, quoted_lexeme, dollar_word, optional_equals, blanks_or_word, single_character_kind, by_single_character, lexeme_beginning_with, first}
 use Rattle.jsonpath_paths.specs.token.Kinds.{all_pass, closed, dollar_goes_on, begins_none, ends_word, is_token, HasNone}
 use Rattle.jsonpath_paths.specs.declared.token.tokens.Kind.{Kind}
 use Rattle.jsonpath_paths.specs.declared.token.tokens.Kind.TheVariants as k
-use Rattle.jsonpath_paths.proofs.text.QuoteLemmas.{closing_here, closing_plain, closing_guard}
+use Rattle.jsonpath_paths.proofs.text.QuoteLemmas.{closing_here, closing_guard}
 
 -- at least so many characters, and as many only for this kind
 abbrev Covers : Option (Kind × ℕ) → Kind → ℕ → Type 0
@@ -32,10 +32,7 @@ blank_front c cs h = ap (λ m. by_single_character m c cs) mark_none ∙ (cond-f
     mark_none = cond-false (c == 46) _ _ (differs no_blank 46 c refl h) ∙ (cond-false (c == 42) _ _ (differs no_blank 42 c refl h) ∙ (cond-false (c == 91) _ _ (differs no_blank 91 c refl h) ∙ (cond-false (c == 93) _ _ (differs no_blank 93 c refl h) ∙ (cond-false (c == 40) _ _ (differs no_blank 40 c refl h) ∙ (cond-false (c == 41) _ _ (differs no_blank 41 c refl h) ∙ (cond-false (c == 64) _ _ (differs no_blank 64 c refl h) ∙ (cond-false (c == 63) _ _ (differs no_blank 63 c refl h) ∙ (cond-false (c == 44) _ _ (differs no_blank 44 c refl h) ∙ (cond-false (c == 58) _ _ (differs no_blank 58 c refl h) ∙ (refl))))))))))
 
 word_front : (c : ℕ) (cs : List ℕ) → begins_none c ≡ false → lexeme_beginning_with c cs ≡ blanks_or_word c cs
-word_front c cs h = ap (λ m. by_single_character m c cs) mark_none ∙ (cond-false (c == 36) _ _ (differs begins_none 36 c refl h) ∙ (cond-false (c == 34) _ _ (differs begins_none 34 c refl h) ∙ (cond-false (c == 39) _ _ (differs begins_none 39 c refl h) ∙ (cond-false (c == 61) _ _ (differs begins_none 61 c refl h) ∙ (cond-false (c == 33) _ _ (differs begins_none 33 c refl h) ∙ (cond-false (c == 38) _ _ (differs begins_none 38 c refl h) ∙ (cond-false (c == 124) _ _ (differs begins_none 124 c refl h) ∙ (cond-false (c == 62) _ _ (differs begins_none 62 c refl h) ∙ (cond-false (c == 60) _ _ (differs begins_none 60 c refl h) ∙ (refl))))))))))
-  where
-    mark_none : single_character_kind c ≡ None
-    mark_none = cond-false (c == 46) _ _ (differs begins_none 46 c refl h) ∙ (cond-false (c == 42) _ _ (differs begins_none 42 c refl h) ∙ (cond-false (c == 91) _ _ (differs begins_none 91 c refl h) ∙ (cond-false (c == 93) _ _ (differs begins_none 93 c refl h) ∙ (cond-false (c == 40) _ _ (differs begins_none 40 c refl h) ∙ (cond-false (c == 41) _ _ (differs begins_none 41 c refl h) ∙ (cond-false (c == 64) _ _ (differs begins_none 64 c refl h) ∙ (cond-false (c == 63) _ _ (differs begins_none 63 c refl h) ∙ (cond-false (c == 44) _ _ (differs begins_none 44 c refl h) ∙ (cond-false (c == 58) _ _ (differs begins_none 58 c refl h) ∙ (refl))))))))))
+word_front c cs h = search (rules, arith, cond-false, differs)
 
 prefix_covers : (test : ℕ → Bool) (t rest : List ℕ) → all_pass test t ≡ true → length t ≤ prefix_len test (t ++ rest)
 prefix_covers test [] rest h = omega arith
@@ -48,41 +45,20 @@ prefix_covers test (c ∷ cs) rest h =
 pub closed_covers : (quote : ℕ) (t rest : List ℕ) → closed quote t ≡ true → closing quote (t ++ rest) ≡ Some (length t)
 closed_covers quote [] rest h = cc
 closed_covers quote (c ∷ []) rest h = closing_here quote c rest h
-closed_covers quote (c ∷ d ∷ cs) rest h = by_test (c == quote) (c == backslash) refl refl h (closed_covers quote cs rest) (closed_covers quote (d ∷ cs) rest)
-  where
-    by_test : (b e : Bool) → (c == quote) ≡ b → (c == backslash) ≡ e → cond b false (cond e (closed quote cs) (closed quote (d ∷ cs))) ≡ true
-        → (closed quote cs ≡ true → closing quote (cs ++ rest) ≡ Some (length cs)) → (closed quote (d ∷ cs) ≡ true → closing quote (d ∷ cs ++ rest) ≡ Some (suc (length cs)))
-        → closing quote (c ∷ d ∷ cs ++ rest) ≡ Some (suc (suc (length cs)))
-    by_test true e q s h f g = cc
-    by_test false true q s h f g = closing_guard quote c d (cs ++ rest) q s ∙ (ap (option_map (λ n. 2 + n)) (f h) ∙ ap Some (omega arith))
-    by_test false false q s h f g = closing_plain quote c (d ∷ cs ++ rest) q s ∙ (ap (option_map (λ n. 1 + n)) (g h) ∙ ap Some (omega arith))
+closed_covers quote (c ∷ d ∷ cs) rest h = grind (arith, closing_guard, closed_covers quote cs rest, closed_covers quote (d ∷ cs) rest)
 
 quoted_covers : (kind : Kind) (quote : ℕ) (t rest : List ℕ) → closed quote t ≡ true → Covers (quoted_lexeme kind quote (t ++ rest)) kind (suc (length t))
-quoted_covers kind quote t rest h =
-    subst (λ o. Covers (option_map (λ n. (kind, 1 + n)) o) kind (suc (length t))) (sym (closed_covers quote t rest h)) (omega arith, λ _. refl)
+quoted_covers kind quote t rest h = grind (arith, closed_covers)
 
 dollar_covers : (t rest : List ℕ) → dollar_goes_on t ≡ true → Covers (dollar_word (t ++ rest)) k.Key (suc (length t))
-dollar_covers [] rest h = cc
-dollar_covers (c ∷ cs) rest h = by_count (prefix_len is_no_stop (c ∷ cs ++ rest)) (prefix_covers is_no_stop (c ∷ cs) rest h) (prefix_len is_no_stop (c ∷ cs ++ rest) == 0) refl
-  where
-    by_count : (n : ℕ) → suc (length cs) ≤ n → (b : Bool) → (n == 0) ≡ b → Covers (Some (cond b (k.Absolute, 1) (k.Key, 1 + n))) k.Key (suc (suc (length cs)))
-    by_count n h true e = absurd (omega (arith, eqb-true n 0 e))
-    by_count n h false e = (omega arith, λ _. refl)
+dollar_covers t rest h = grind (arith, eqb-true, prefix_covers)
 
 bare_covers : (rest : List ℕ) → Covers (dollar_word rest) k.Absolute 1
-bare_covers rest = by_count (prefix_len is_no_stop rest) (prefix_len is_no_stop rest == 0) refl
-  where
-    by_count : (n : ℕ) (b : Bool) → (n == 0) ≡ b → Covers (Some (cond b (k.Absolute, 1) (k.Key, 1 + n))) k.Absolute 1
-    by_count n true e = (omega arith, λ _. refl)
-    by_count n false e = (omega arith, λ same. absurd (eqb-false n 0 e (omega (arith, same))))
+bare_covers rest = grind arith
 
 alone_covers : (alone with_equal : Kind) (rest : List ℕ) → Covers (optional_equals alone with_equal rest) alone 1
 alone_covers alone with_equal [] = (omega arith, λ _. refl)
-alone_covers alone with_equal (c ∷ cs) = by_test (c == 61)
-  where
-    by_test : (b : Bool) → Covers (cond b (Some (with_equal, 2)) (Some (alone, 1))) alone 1
-    by_test true = (omega arith, λ e. absurd (omega arith))
-    by_test false = (omega arith, λ _. refl)
+alone_covers alone with_equal (c ∷ cs) = grind arith
 
 blank_covers : (c : ℕ) (t rest : List ℕ) → is_whitespace c ≡ true → all_pass is_whitespace t ≡ true → Covers (lexeme_beginning_with c (t ++ rest)) k.Whitespace (suc (length t))
 blank_covers c t rest h all =
@@ -121,11 +97,7 @@ same_text xs ys h = (bytes_eq-Decides xs ys).0 h
 
 pub covers : (other : Kind) (xs rest : List ℕ) → is_token other xs ≡ true → Covers (first (xs ++ rest)) other (length xs)
 unfolding first
-covers k.Key (c ∷ t) rest h = by_test (c == dollar) refl h
-  where
-    by_test : (b : Bool) → (c == dollar) ≡ b → cond b (dollar_goes_on t) (not (begins_none c) && all_pass goes_on t) ≡ true → Covers (lexeme_beginning_with c (t ++ rest)) k.Key (suc (length t))
-    by_test true e h = subst (λ d. Covers (lexeme_beginning_with d (t ++ rest)) k.Key (suc (length t))) (sym (eqb-true c dollar e)) (dollar_covers t rest h)
-    by_test false e h = let p = and_parts (not (begins_none c)) (all_pass goes_on t) h in word_covers c t rest (not-true (begins_none c) p.0) p.1
+covers k.Key (c ∷ t) rest h = grind (arith, and_parts, dollar_covers, eqb-true, not-true, word_covers)
 covers k.Whitespace (c ∷ t) rest h = let p = and_parts (is_whitespace c) (all_pass is_whitespace t) h in blank_covers c t rest p.0 p.1
 covers k.DoubleQuoted (c ∷ t) rest h =
     let p = and_parts (c == 34) (closed 34 t) h in

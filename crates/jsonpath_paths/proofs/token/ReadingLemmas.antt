@@ -49,8 +49,7 @@ skipped (suc n) pos [] h = absurd (omega arith)
 skipped (suc n) pos (c ∷ cs) h = skipped n pos cs (omega arith)
 
 drop_one : (n c : ℕ) (cs : List ℕ) → 0 < n → drop (n - 1) cs ≡ drop n (c ∷ cs)
-drop_one zero c cs h = absurd (omega arith)
-drop_one (suc n) c cs h = ap (λ m. drop m cs) (omega arith)
+drop_one n c cs h = grind arith
 
 -- what a lexeme at the front leaves of a reading
 pub more_at : (pos : ℕ) (cs : List ℕ) (f : Kind × ℕ) → first cs ≡ Some f
@@ -68,8 +67,7 @@ more_at pos (c ∷ cs) f h =
 
 pub end_at : (pos : ℕ) (cs : List ℕ) → first cs ≡ None → reading_from 0 pos cs ≡ nothing_but cs
 unfolding first
-end_at pos [] h = refl
-end_at pos (c ∷ cs) h = ap (λ o. with_lexeme o pos (c ∷ cs) (λ left next. reading_from left next cs)) h
+end_at pos cs h = grind arith
 
 span_is : (p : Place) (cs : List ℕ) → (let s : StrRange = record { pos = p.pos; offset = byte_len cs } in span_to p (past p cs) ≡ s)
 span_is p cs = ap (λ n. let s : StrRange = record { pos = p.pos; offset = n } in s) (omega arith)
@@ -95,15 +93,8 @@ next_more p q r u h = subst (Moves p) h (by_first (first (ahead p)) refl)
           omega arith,
         )
 
-abbrev Ends : Place → Result Lexeme TokenError × Place → Type 0
-Ends p z = IfErr z.0 (λ e. (reading p ≡ nothing_but (ahead p)) × (z.1 ≡ p) × (e ≡ fault p.pos (ahead p)))
-
 pub next_end : (p q : Place) (r : Result Lexeme TokenError) → next_at p ≡ (r, q) → IfErr r (λ e. (reading p ≡ nothing_but (ahead p)) × (q ≡ p) × (e ≡ fault p.pos (ahead p)))
-next_end p q r h = subst (Ends p) h (by_first (first (ahead p)) refl)
-  where
-    by_first : (o : Option (Kind × ℕ)) → first (ahead p) ≡ o → Ends p (next_by (option_map (λ f. (f.0, past p (take f.1 (ahead p)))) o) p)
-    by_first None e = (end_at p.pos (ahead p) e, refl, refl)
-    by_first (Some f) e = tt
+next_end p q r h = grind (arith, end_at)
 
 pub span_fits : (p q : Place) (x : StrRange) → x ≡ span_to p q → q.text ≡ p.text → p.pos ≤ q.pos → q.pos ≤ length q.text → IsUtf8 (drop p.pos p.text) → IsUtf8 (drop q.pos q.text) → IsSpan q.text x
 span_fits p q x e t h w u v =

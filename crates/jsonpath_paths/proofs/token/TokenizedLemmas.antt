@@ -65,27 +65,19 @@ read_so (one_token {pos = pos} {cs = cs} {kind = kind} n h more) =
     (more_at pos cs (kind, n) (found_one cs kind n h)).2 ∙ ap (and_then (lexeme kind pos (take n cs))) (read_so more)
 
 pub spells_found : (text : List ℕ) (p : Path) (found : Lexemes) → found ≡ (reading_from 0 0 (chars text)).lexemes → (reading_from 0 0 (chars text)).rest ≡ [] → SpellsPath text p found → Spells text p
-spells_found text p found same whole spelled =
-    let all = reads (suc (length (chars text))) 0 (chars text) (omega arith) in
-    record { tokens = found; read = subst (λ ps. TokensAt 0 (chars text) ps []) (sym same) (subst (TokensAt 0 (chars text) (reading_from 0 0 (chars text)).lexemes) whole all); spelled = spelled }
+spells_found text p found same whole spelled = grind (arith, reads)
 
 pub found_spelled : (text : List ℕ) (p : Path) → Spells text p → ((reading_from 0 0 (chars text)).rest ≡ []) × SpellsPath text p (reading_from 0 0 (chars text)).lexemes
-found_spelled text p h =
-    let same = read_so h.read in
-    (ap (λ r. r.rest) same, subst (SpellsPath text p) (sym (ap (λ r. r.lexemes) same)) h.spelled)
+found_spelled text p h = grind (arith, read_so)
 
 -- the token at the front
 
 abbrev Taken : Place → Result Token TokenError × Place → Type 0
 Taken p z = IfOk z.0 (λ t. TakesToken p t z.1)
 
-abbrev NoneLeft : Place → Result Token TokenError × Place → Type 0
-NoneLeft p z = IfErr z.0 (λ e. HasNone (ahead p) × (z.1 ≡ p) × (e ≡ fault p.pos (ahead p)))
-
 -- a token tells its kind and its span
 token_back : (kind : Kind) (s : StrRange) → (kind_of (token kind s) ≡ kind) × (span_of (token kind s) ≡ s)
-token_back k.Absolute s = (refl, refl)
-token_back _ s = (refl, refl)
+token_back kind s = grind arith
 
 pub token_taken : (p q : Place) (r : Result Token TokenError) → token_of (next_at p) ≡ (r, q) → IfOk r (λ t. TakesToken p t q)
 token_taken p q r h = subst (Taken p) h (by_first (first (ahead p)) refl)
@@ -103,11 +95,7 @@ token_taken p q r h = subst (Taken p) h (by_first (first (ahead p)) refl)
         }
 
 pub none_taken : (p q : Place) (r : Result Token TokenError) → token_of (next_at p) ≡ (r, q) → IfErr r (λ e. HasNone (ahead p) × (q ≡ p) × (e ≡ fault p.pos (ahead p)))
-none_taken p q r h = subst (NoneLeft p) h (by_first (first (ahead p)) refl)
-  where
-    by_first : (o : Option (Kind × ℕ)) → first (ahead p) ≡ o → NoneLeft p (token_of (next_by (option_map (λ f. (f.0, past p (take f.1 (ahead p)))) o) p))
-    by_first None e = (first_has_none (ahead p) e, refl, refl)
-    by_first (Some f) e = tt
+none_taken p q r h = grind (arith, first_has_none)
 
 pub token_within : (text : List ℕ) (kind : Kind) (s : StrRange) (t : Token) → t ≡ token kind s → IsSpan text s → IsSpan text (span_of t)
 token_within text kind s t e h = subst (IsSpan text) (sym (ap span_of e ∙ (token_back kind s).1)) h

@@ -1,12 +1,12 @@
 -- The tree of a token list, found with a stack: so no two well-formed trees have one list.
-use Rattle.std.proofs.Common.{◌≡◌, Bool, true, false, List, [], ◌∷◌, ◌++◌, Option, Some, None, refl, subst, sym, ap, ◌∙◌, rules, append_assoc}
+use Rattle.std.proofs.Common.{◌≡◌, Bool, true, false, List, [], ◌∷◌, ◌++◌, Option, Some, None, subst, sym, ap, ◌∙◌, append_assoc, arith}
 use Rattle.std.specs.Prelude.{IsTrue}
 use Rattle.jsonpath_paths.specs.declared.token.tokens.FilterToken.{FilterToken}
 use Rattle.jsonpath_paths.specs.declared.token.tokens.ParseToken.{ParseToken}
 use Rattle.jsonpath_paths.specs.declared.token.tokens.ParseToken.TheVariants as t
 use Rattle.jsonpath_paths.specs.tree.Tree.{Path, path, PathSteps, no_steps, step_then, Inner, plain, filter, Condition, lone, compare, join, Term, at_path, literal, is_comparison}
 use Rattle.jsonpath_paths.specs.tree.Visit.{path_tokens, step_tokens, one_step, inner_tokens, condition_tokens, term_tokens}
-use Rattle.jsonpath_paths.specs.tree.WellFormed.{IsPath, AreSteps, IsInner, IsCondition, IsTerm, IsBracketWord, is_dot_word, is_literal}
+use Rattle.jsonpath_paths.specs.tree.WellFormed.{IsPath, AreSteps, IsInner, IsCondition, IsTerm, IsBracketWord, is_literal}
 use Rattle.jsonpath_paths.specs.plan.ParsedParts.{◌>>=◌}
 use Rattle.jsonpath_paths.proofs.parser.LevelLemmas.{then_steps, then_no_steps, then_assoc}
 use Rattle.jsonpath_paths.proofs.parser.SoundLemmas.{some_same}
@@ -115,71 +115,28 @@ IsFree (dotted absolute ss leaves ∷ st) = ⊥
 IsFree _ = Unit {0}
 
 term_free : (x : Term) (st : Stack) → IsFree (term_entry x ∷ st)
-term_free (at_path (path absolute ss)) st = tt
-term_free (literal token) st = tt
+term_free x st = grind arith
 
 condition_free : (c : Condition) (st : Stack) → IsFree (condition_entry c ∷ st)
-condition_free (lone (path absolute ss)) st = tt
-condition_free _ st = tt
-
-term_back : (x : Term) → as_term (term_entry x) ≡ Some x
-term_back (at_path (path absolute ss)) = refl
-term_back (literal token) = refl
-
-condition_back : (c : Condition) → IsCondition c → as_condition (condition_entry c) ≡ Some c
-condition_back (lone (path true ss)) h = cc h.0
-condition_back _ h = refl
+condition_free c st = grind arith
 
 inner_back : (c : Condition) → IsCondition c → as_inner (condition_entry c) ≡ Some (filter c)
-inner_back (lone (path true ss)) h = cc h.0
-inner_back _ h = refl
+inner_back c h = grind arith
 
 literal_words : (token : ParseToken) (st : Stack) → IsTrue (is_literal token) → IsFree st → one_more token st ≡ Some (word token ∷ st)
-literal_words token st h free = by_stack token st h free
-  where
-    pushed : (token : ParseToken) (st : Stack) → IsFree st → words token st ≡ Some (word token ∷ st)
-    pushed token [] free = refl
-    pushed token (ready absolute ss ∷ st) free = refl
-    pushed token (dotted absolute ss leaves ∷ st) free = absurd free
-    pushed token (opened absolute ss leaves ∷ st) free = refl
-    pushed token (word w ∷ st) free = refl
-    pushed token (condition c ∷ st) free = refl
-
-    by_stack : (token : ParseToken) (st : Stack) → IsTrue (is_literal token) → IsFree st → one_more token st ≡ Some (word token ∷ st)
-    by_stack (t.Key s) st h free = pushed (t.Key s) st free
-    by_stack (t.Number d) st h free = pushed (t.Number d) st free
-    by_stack (t.Bool b) st h free = pushed (t.Bool b) st free
-    by_stack _ st h free = absurd (search rules)
-
-dot_words : (token : ParseToken) (absolute leaves : Bool) (ss : PathSteps) (st : Stack) → IsTrue (is_dot_word token)
-    → one_more token (dotted absolute ss leaves ∷ st) ≡ Some (stepped absolute ss leaves false (plain token) ∷ st)
-dot_words t.All absolute leaves ss st h = refl
-dot_words (t.Key s) absolute leaves ss st h = refl
-dot_words _ absolute leaves ss st h = absurd (search rules)
+literal_words token st h free = grind arith
 
 bracket_words : (token : ParseToken) (absolute leaves : Bool) (ss : PathSteps) (st : Stack) → IsBracketWord token
     → one_more token (opened absolute ss leaves ∷ st) ≡ Some (word token ∷ opened absolute ss leaves ∷ st)
-bracket_words t.All absolute leaves ss st h = refl
-bracket_words (t.Key s) absolute leaves ss st h = refl
-bracket_words (t.Keys s) absolute leaves ss st h = refl
-bracket_words (t.Union s) absolute leaves ss st h = refl
-bracket_words (t.Range a b c) absolute leaves ss st h = refl
-bracket_words (t.Number s) absolute leaves ss st h = refl
-bracket_words _ absolute leaves ss st h = absurd h
+bracket_words token absolute leaves ss st h = grind arith
 
 compared : (o : FilterToken) (a b : Term) (st : Stack) → IsTrue (is_comparison o)
     → one_more (t.Filter o) (term_entry b ∷ term_entry a ∷ st) ≡ Some (condition (compare a o b) ∷ st)
-compared o a b st h = by_test (is_comparison o) h ∙ ap (λ x. compares o x (as_term (term_entry b)) st) (term_back a) ∙ ap (λ y. compares o (Some a) y st) (term_back b)
-  where
-    by_test : (is : Bool) → IsTrue is → operates_by is o (term_entry a) (term_entry b) st ≡ compares o (as_term (term_entry a)) (as_term (term_entry b)) st
-    by_test true h = refl
-    by_test false h = absurd (search rules)
+compared o a b st h = grind arith
 
 joined : (o : FilterToken) (a b : Condition) (st : Stack) → is_comparison o ≡ false → IsCondition a → IsCondition b
     → one_more (t.Filter o) (condition_entry b ∷ condition_entry a ∷ st) ≡ Some (condition (join o a b) ∷ st)
-joined o a b st h x y =
-    ap (λ is. operates_by is o (condition_entry a) (condition_entry b) st) h
-    ∙ (ap (λ x. joins o x (as_condition (condition_entry b)) st) (condition_back a x) ∙ ap (λ y. joins o (Some a) y st) (condition_back b y))
+joined o a b st h x y = grind arith
 
 -- a list behind another
 abbrev Leaves : List ParseToken → Stack → Stack → Type 0
@@ -195,17 +152,12 @@ token_leaves token st next h rest = ap (λ o. o >>= decode rest) h
 step_from : (leaves bracket : Bool) (inner : Inner) (absolute : Bool) (done : PathSteps) (st : Stack) → IsInner bracket inner
     → (IsInner true inner → Leaves (inner_tokens inner ++ t.ArrayEof ∷ []) (opened absolute done leaves ∷ st) (stepped absolute done leaves true inner ∷ st))
     → Leaves (one_step leaves bracket (inner_tokens inner)) (ready absolute done ∷ st) (stepped absolute done leaves bracket inner ∷ st)
-step_from leaves false (filter c) absolute done st h k = absurd h
-step_from false false (plain token) absolute done st h k = λ rest. ap (λ o. o >>= decode rest) (dot_words token absolute false done st h)
-step_from true false (plain token) absolute done st h k = λ rest. ap (λ o. o >>= decode rest) (dot_words token absolute true done st h)
-step_from false true inner absolute done st h k = k h
-step_from true true inner absolute done st h k = k h
+step_from leaves bracket inner absolute done st h k = grind arith
 
 -- a path, by what its steps leave
 root_from : (absolute : Bool) (ss : PathSteps) (st : Stack) → Leaves (step_tokens ss) (ready absolute no_steps ∷ st) (ready absolute ss ∷ st)
     → Leaves (path_tokens (path absolute ss)) st (ready absolute ss ∷ st)
-root_from true ss st k = k
-root_from false ss st k = k
+root_from absolute ss st k = grind arith
 
 mutual
   steps_leave : (ss : PathSteps) (absolute : Bool) (done : PathSteps) (st : Stack) → AreSteps ss

@@ -13,7 +13,7 @@ use Rattle.jsonpath_paths.specs.tree.Alike.{IsSameAt, AreSameAt, AlikeToken, sam
 use Rattle.jsonpath_paths.proofs.parser.FormLemmas as g
 use Rattle.jsonpath_paths.specs.Grammar.{Lexemes, Takes, whole_number}
 use Rattle.jsonpath_paths.proofs.parser.FormLemmas.{Eats, Quoted, quote_kind}
-use Rattle.jsonpath_paths.specs.Numbers.{index_of, range_step_of, decimal_of}
+use Rattle.jsonpath_paths.specs.Numbers.{decimal_of}
 use Rattle.jsonpath_paths.specs.Literals.{truth_of}
 use Rattle.jsonpath_paths.specs.tree.Tree.{path, PathSteps, no_steps, step_then, Inner, plain, filter, Condition, lone, compare, join, Term, at_path, literal}
 use Rattle.jsonpath_paths.proofs.parser.ShorterLemmas.{skip_shorter, takes_shorter, eats_shorter, quoted_shorter, bound_shorter, step_part_shorter, indexes_shorter, names_shorter, word_shorter, steps_shorter, inner_shorter, condition_shorter, part_shorter, term_shorter}
@@ -31,16 +31,7 @@ module _ (here there : List ℕ) (rest other : Lexemes) where
   takes_along : (kind : Kind) (s : StrRange) (from to from' : Lexemes) → Takes kind s from to → length rest ≤ length to → Along from from'
       → (r : StrRange) × (to' : Lexemes) × Takes kind r from' to' × SameAt s r × Along to to'
   takes_along kind s from to from' h more at_rest = absurd (omega (arith, more, ap length h))
-  takes_along kind s from to from' h more (one_more {p = p} {q = q} {ps = ps} {qs = qs} e same last along) =
-      let kinds : p.kind ≡ kind = cc h in
-      let spans : p.span ≡ s = cc h in
-      let left : ps ≡ to = cc h in (
-        q.span,
-        qs,
-        ap (λ x. let y : Lexeme = record { kind = x; span = q.span } in y ∷ qs) (e ∙ kinds),
-        subst (λ x. SameAt x q.span) spans same,
-        subst (λ xs. Along xs qs) left along,
-      )
+  takes_along kind s from to from' h more (one_more {p = p} {q = q} {ps = ps} {qs = qs} e same last along) = grind arith
 
   eats_along : (kind : Kind) (from to from' : Lexemes) → Eats kind from to → length rest ≤ length to → Along from from' → (to' : Lexemes) × Eats kind from' to' × Along to to'
   eats_along kind from to from' h more a = let x = takes_along kind h.0 from to from' h.1 more a in (x.1, (x.0, x.2), x.4)
@@ -60,14 +51,10 @@ module _ (here there : List ℕ) (rest other : Lexemes) where
       by_test false = one_more e same last along
 
   index_along : (n : ℤ) (from to from' : Lexemes) → g.IndexAt here n from to → length rest ≤ length to → Along from from' → (to' : Lexemes) × g.IndexAt there n from' to' × Along to to'
-  index_along n from to from' i more a =
-      let x = takes_along k.Key i.0 from to from' i.1 more a in
-      (x.1, (x.0, x.2, ap index_of (sym x.3.bytes) ∙ i.2), x.4)
+  index_along n from to from' i more a = grind (arith, takes_along)
 
   range_step_along : (n : ℕ) (from to from' : Lexemes) → g.RangeStepAt here n from to → length rest ≤ length to → Along from from' → (to' : Lexemes) × g.RangeStepAt there n from' to' × Along to to'
-  range_step_along n from to from' i more a =
-      let x = takes_along k.Key i.0 from to from' i.1 more a in
-      (x.1, (x.0, x.2, ap range_step_of (sym x.3.bytes) ∙ i.2), x.4)
+  range_step_along n from to from' i more a = grind (arith, takes_along)
 
   bound_along : {low : Option ℤ} {from to : Lexemes} → g.BoundAt here low from to → (from' : Lexemes) → length rest < length to → Along from from'
       → (to' : Lexemes) × g.BoundAt there low from' to' × Along to to'

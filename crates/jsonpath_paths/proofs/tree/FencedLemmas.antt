@@ -1,18 +1,18 @@
 -- What stands before a parenthesis that closes is read the same, whatever follows it.
-use Rattle.std.proofs.Common.{◌≡◌, ◌<◌, ◌≤◌, ◌+◌, ◌⊎◌, inl, inr, ℕ, zero, suc, Bool, true, false, not, ◌&&◌, ◌||◌, ◌==◌, List, [], ◌∷◌, ◌++◌, length, take, drop, Option, Some, None, cond, refl, sym, subst, ap, ap₂, ◌∙◌, arith, ltb, length-append, length-take, length-drop, append_assoc, append-nil, codes}
+use Rattle.std.proofs.Common.{◌≡◌, ◌<◌, ◌≤◌, ◌+◌, ◌⊎◌, inl, inr, ℕ, zero, suc, Bool, true, false, ◌&&◌, ◌||◌, ◌==◌, List, [], ◌∷◌, ◌++◌, length, take, drop, Option, Some, refl, sym, subst, ap, ap₂, ◌∙◌, arith, ltb, length-append, length-take, length-drop, append_assoc, append-nil, codes, rules}
 use Rattle.std.specs.Prelude.{option_map}
 use Rattle.std.specs.Char.{is_whitespace}
 use Rattle.std.specs.Str.{IsUtf8, bytes_eq}
-use Rattle.std.proofs.lemmas.Bool.{or_from, or_right, and_from, and_parts, eqb-true, eqb-false, false_from_ne_true, ltb-true, ltb-false}
+use Rattle.std.proofs.lemmas.Bool.{or_from, or_right, and_from, and_parts, eqb-true, false_from_ne_true, ltb-true, ltb-false}
 use Rattle.std.proofs.lemmas.List.{take-append-drop, take-append-le, drop-append-le}
 use Rattle.std.proofs.lemmas.Str.{encodes-append}
 use Rattle.std.proofs.Math.Seq.{drop-append_seam, take-append_seam}
 use lib.Utf8.{scalars, encodes}
 use Rattle.jsonpath_paths.specs.Grammar.{Lexemes}
-use Rattle.jsonpath_paths.specs.token.Kinds.{all_pass, closed, is_token, dollar_goes_on, begins_none, IsFirst, HasNone}
-use Rattle.jsonpath_paths.specs.token.Reading.{closing, first, reading_from}
+use Rattle.jsonpath_paths.specs.token.Kinds.{all_pass, closed, is_token, dollar_goes_on, IsFirst, HasNone}
+use Rattle.jsonpath_paths.specs.token.Reading.{closing, first}
 use Rattle.jsonpath_paths.specs.text.Spans.{IsSpan}
-use Rattle.jsonpath_paths.specs.text.Characters.{byte_len, byte_len_is, bytes_at, backslash, dollar, is_no_stop, goes_on}
+use Rattle.jsonpath_paths.specs.text.Characters.{byte_len, byte_len_is, bytes_at, is_no_stop}
 use Rattle.jsonpath_paths.specs.token.Tokens.{TokensAt, no_token, one_token, lexeme}
 use Rattle.jsonpath_paths.specs.declared.text.str_reader.StrRange.{StrRange}
 use Rattle.jsonpath_paths.specs.declared.token.tokens.Kind.{Kind}
@@ -22,7 +22,6 @@ use Rattle.jsonpath_paths.proofs.tree.ElsewhereLemmas.{Along, at_rest, one_more}
 use Rattle.jsonpath_paths.proofs.token.FoundLemmas.{first_or_none, closing_closed}
 use Rattle.jsonpath_paths.proofs.token.LongestLemmas.{same_text, closed_covers}
 use Rattle.jsonpath_paths.proofs.token.ReadingLemmas.{more_at}
-use Rattle.jsonpath_paths.proofs.parser.SoundLemmas.{some_same}
 use Rattle.jsonpath_paths.proofs.tree.SpanNameLemmas.{span_is}
 use Rattle.jsonpath_paths.proofs.token.TokenizedLemmas.{found_one, read_so}
 
@@ -63,16 +62,11 @@ bare : (c : ℕ) (cs xs : List ℕ) → bytes_eq (c ∷ cs) xs ≡ true → has_
 bare c cs xs h none some = absurd (apart (has_close cs) some (ap (λ ys. has_close (drop 1 ys)) (same_text (c ∷ cs) xs h) ∙ none))
 
 dollar_tail : (cs : List ℕ) → dollar_goes_on cs ≡ true → all_pass is_no_stop cs ≡ true
-dollar_tail [] h = refl
-dollar_tail (c ∷ cs) h = h
+dollar_tail cs h = grind arith
 
 -- only a quoted text has one
 only_quoted : (kind : Kind) (c : ℕ) (cs : List ℕ) → is_token kind (c ∷ cs) ≡ true → has_close cs ≡ true → ClosedText c cs
-only_quoted k.Key c cs h some = by_test (c == dollar) h
-  where
-    by_test : (b : Bool) → cond b (dollar_goes_on cs) (not (begins_none c) && all_pass goes_on cs) ≡ true → ClosedText c cs
-    by_test true h = absurd (apart (has_close cs) some (no_close is_no_stop cs refl (dollar_tail cs h)))
-    by_test false h = absurd (apart (has_close cs) some (no_close goes_on cs refl (and_parts (not (begins_none c)) (all_pass goes_on cs) h).1))
+only_quoted k.Key c cs h some = search (rules, arith, and_parts, apart, dollar_tail, no_close)
 only_quoted k.Whitespace c cs h some = absurd (apart (has_close cs) some (no_close is_whitespace cs refl (and_parts (is_whitespace c) (all_pass is_whitespace cs) h).1))
 only_quoted k.DoubleQuoted c cs h some = let both = and_parts (c == 34) (closed 34 cs) h in (34, inl refl, eqb-true c 34 both.0, both.1)
 only_quoted k.SingleQuoted c cs h some = let both = and_parts (c == 39) (closed 39 cs) h in (39, inr refl, eqb-true c 39 both.0, both.1)
@@ -100,23 +94,11 @@ only_quoted k.Or c cs h some = bare c cs (codes "||") h refl some
 
 ends_quoted : (q d : ℕ) (xs : List ℕ) → closed q (xs ++ d ∷ []) ≡ true → (d == q) ≡ true
 ends_quoted q d [] h = h
-ends_quoted q d (x ∷ []) h = by_test (x == q) (x == backslash) h
-  where
-    by_test : (b e : Bool) → cond b false (cond e false (d == q)) ≡ true → (d == q) ≡ true
-    by_test true e h = cc
-    by_test false true h = cc
-    by_test false false h = h
-ends_quoted q d (x ∷ y ∷ ys) h = by_test (x == q) (x == backslash) h (ends_quoted q d ys) (ends_quoted q d (y ∷ ys))
-  where
-    by_test : (b e : Bool) → cond b false (cond e (closed q (ys ++ d ∷ [])) (closed q (y ∷ ys ++ d ∷ []))) ≡ true → (closed q (ys ++ d ∷ []) ≡ true → (d == q) ≡ true)
-        → (closed q (y ∷ ys ++ d ∷ []) ≡ true → (d == q) ≡ true) → (d == q) ≡ true
-    by_test true e h f g = cc
-    by_test false true h f g = f h
-    by_test false false h f g = g h
+ends_quoted q d (x ∷ []) h = grind arith
+ends_quoted q d (x ∷ y ∷ ys) h = grind (arith, ends_quoted q d ys, ends_quoted q d (y ∷ ys))
 
 no_end : (q d : ℕ) → IsQuote q → (d == 34) ≡ false → (d == 39) ≡ false → (d == q) ≡ true → ⊥
-no_end q d (inl e) double single h = apart (d == q) h (ap (λ x. d == x) e ∙ double)
-no_end q d (inr e) double single h = apart (d == q) h (ap (λ x. d == x) e ∙ single)
+no_end q d b double single h = grind arith
 
 not_ended : (kind : Kind) (c d : ℕ) (xs : List ℕ) → (d == 34) ≡ false → (d == 39) ≡ false → has_close (xs ++ d ∷ []) ≡ true → is_token kind (c ∷ (xs ++ d ∷ [])) ≡ true → ⊥
 not_ended kind c d xs double single some h = let q = only_quoted kind c (xs ++ d ∷ []) h some in no_end q.0 d q.1 double single (ends_quoted q.0 d xs q.3)
@@ -153,14 +135,12 @@ stays_within c xs kind n h = by_size (ltb (suc (length xs)) n) refl
         by_last (n == suc (suc (length xs))) refl past most
       where
         by_last : (b : Bool) → (n == suc (suc (length xs))) ≡ b → suc (length xs) < n → n ≤ suc (suc (suc (length xs))) → n ≤ suc (length xs)
-        by_last true e past most = absurd (one (eqb-true n (suc (suc (length xs))) e))
-        by_last false e past most = absurd (two (omega (arith, eqb-false n (suc (suc (length xs))) e)))
+        by_last b e past most = grind (arith, eqb-true, one, two)
 
 -- ---- the first token before a closing parenthesis
 
 counted : (kind other : Kind) (o : Option ℕ) (n : ℕ) → option_map {U = Kind × ℕ} (λ m. (kind, 1 + m)) o ≡ Some (other, n) → (m : ℕ) × (o ≡ Some m) × (1 + m ≡ n)
-counted kind other None n h = cc
-counted kind other (Some m) n h = (m, refl, ap (λ (z : Kind × ℕ). z.1) (some_same (kind, 1 + m) (other, n) h))
+counted kind other o n h = grind arith
 
 quoted_first : (q : ℕ) → IsQuote q → (cs : List ℕ) (kind : Kind) (n : ℕ) → first (q ∷ cs) ≡ Some (kind, n) → (m : ℕ) × (closing q cs ≡ Some m) × (1 + m ≡ n)
 unfolding first
@@ -256,8 +236,7 @@ bracket_behind i = lexeme k.CloseArray (i + byte_len (41 ∷ [])) (93 ∷ []) �
 split : (fuel pos : ℕ) (cs xs rest : List ℕ) (ps : Lexemes) → length xs < fuel → cs ≡ xs ++ 41 ∷ 93 ∷ [] → rest ≡ [] → TokensAt pos cs ps rest
     → (ws : Words) × Reads xs ws × (ps ≡ put pos ws (λ i. close i ∷ bracket_behind i))
 split zero pos cs xs rest ps less e r h = absurd (omega arith)
-split (suc fuel) pos cs [] rest ps less e r h =
-    ([], refl, ap (λ x. x.lexemes) (sym (read_so h) ∙ ap (reading_from 0 pos) e))
+split (suc fuel) pos cs [] rest ps less e r h = grind (arith, read_so)
 split (suc fuel) pos cs (x ∷ xs) rest ps less e r (no_token none) = cc (e, r)
 split (suc fuel) pos cs (x ∷ xs) rest ps less e r (one_token {kind = kind} {ps = qs} n first later) =
     let here : IsFirst (x ∷ (xs ++ 41 ∷ 93 ∷ [])) kind n = subst (λ ys. IsFirst ys kind n) e first in

@@ -1,5 +1,5 @@
 -- The tree of two conditions in parentheses and a connective joins the conditions that the two spell alone.
-use Rattle.std.proofs.Common.{◌≡◌, ◌≤◌, ◌+◌, ◌⊎◌, inl, inr, ℕ, suc, Bool, true, false, List, [], ◌∷◌, ◌++◌, length, Some, None, cond, refl, sym, subst, ap, ap₂, ◌∙◌, arith}
+use Rattle.std.proofs.Common.{◌≡◌, ◌≤◌, ◌+◌, ◌⊎◌, inl, inr, ℕ, suc, Bool, true, false, List, [], ◌∷◌, ◌++◌, length, Some, cond, refl, sym, subst, ap, ap₂, ◌∙◌, arith}
 use Rattle.std.specs.Str.{IsUtf8, chars}
 use Rattle.std.proofs.lemmas.Str.{chars-encodes, encodes-append, encodes-chars, scalars-chars}
 use lib.Utf8.{scalars, encode, encodes}
@@ -10,11 +10,11 @@ use Rattle.jsonpath_paths.specs.Grammar as grammar
 use Rattle.jsonpath_paths.specs.Grammar.{Lexemes, levels}
 use Rattle.jsonpath_paths.specs.tree.Joined.{filter_text, between, joined_text, filter_path, JoinsSides}
 use Rattle.jsonpath_paths.specs.token.Kinds.{IsFirst, same_kind}
-use Rattle.jsonpath_paths.specs.token.Reading.{first, reading_from}
+use Rattle.jsonpath_paths.specs.token.Reading.{first}
 use Rattle.jsonpath_paths.specs.Spelling.{Spells, IsInGrammar}
 use Rattle.jsonpath_paths.specs.text.Characters.{byte_len}
 use Rattle.jsonpath_paths.specs.token.Tokens.{TokensAt, no_token, lexeme}
-use Rattle.jsonpath_paths.specs.tree.Tree.{Path, path, PathSteps, no_steps, step_then, Inner, filter, Condition, join, is_comparison}
+use Rattle.jsonpath_paths.specs.tree.Tree.{Path, path, PathSteps, step_then, Inner, filter, Condition, join, is_comparison}
 use Rattle.jsonpath_paths.specs.declared.token.tokens.FilterToken.{FilterToken}
 use Rattle.jsonpath_paths.specs.declared.token.tokens.FilterToken.TheVariants as op
 use Rattle.jsonpath_paths.specs.declared.token.tokens.Kind.{Kind}
@@ -27,7 +27,7 @@ use Rattle.jsonpath_paths.proofs.tree.FencedLemmas.{scalars_both, Words, Reads, 
 use Rattle.jsonpath_paths.proofs.token.FoundLemmas.{first_is}
 use Rattle.jsonpath_paths.proofs.token.LongestLemmas.{first_has_none}
 use Rattle.jsonpath_paths.proofs.parser.ShorterLemmas.{skip_shorter, eats_shorter}
-use Rattle.jsonpath_paths.proofs.parser.SameKindLemmas.{same_kind_true, true_same_kind}
+use Rattle.jsonpath_paths.proofs.parser.SameKindLemmas.{same_kind_true}
 use Rattle.jsonpath_paths.proofs.parser.SoundLemmas.{then_some, some_same, eat_eats, sound_condition, sound_end}
 use Rattle.jsonpath_paths.proofs.token.TokenizedLemmas.{read_so, reads}
 
@@ -38,10 +38,7 @@ opening rest = lexeme k.Absolute 0 (36 ∷ []) ∷ lexeme k.OpenArray 1 (91 ∷ 
 
 begun : (cs : List ℕ) (ps : Lexemes) → TokensAt 0 (36 ∷ 91 ∷ 63 ∷ 40 ∷ cs) ps [] → (rest : Lexemes) × TokensAt 4 cs rest [] × (ps ≡ opening rest)
 unfolding opening
-begun cs ps h =
-    let same = read_so h in
-    let whole : (reading_from 0 4 cs).rest ≡ [] = ap (λ r. r.rest) same in
-    ((reading_from 0 4 cs).lexemes, subst (TokensAt 4 cs (reading_from 0 4 cs).lexemes) whole (reads (suc (length cs)) 4 cs (omega arith)), ap (λ r. r.lexemes) (sym same))
+begun cs ps h = grind (arith, read_so, reads)
 
 same_tokens : (pos : ℕ) (cs : List ℕ) (ps qs : Lexemes) → TokensAt pos cs ps [] → TokensAt pos cs qs [] → ps ≡ qs
 same_tokens pos cs ps qs h i = ap (λ r. r.lexemes) (sym (read_so h) ∙ read_so i)
@@ -93,24 +90,15 @@ filter_read text rest p h =
 -- a filter that nothing but its bracket follows is the whole
 alone : (text : List ℕ) (rest : Lexemes) (i : ℕ) (p : Path) (f : FilterRead text rest p) → f.left ≡ bracket_behind i → p ≡ filter_path f.condition
 unfolding skip
-alone text rest i p f h =
-    let nothing : f.behind ≡ [] = sym (some_same _ _ (ap (λ x. eat k.CloseArray (skip x)) (sym h) ∙ f.closed)) in
-    let steps : (no_steps, []) ≡ (f.steps, f.last) = some_same _ _ (sym (ap (λ x. d.steps_from text (d.condition_at text levels) (suc (suc (suc (length rest)))) x) nothing) ∙ f.more) in
-    f.is ∙ ap (λ (x : PathSteps × Lexemes). path true (step_then false true (filter f.condition) x.0)) (sym steps)
+alone text rest i p f h = grind arith
 
 -- ---- one side
 
 eaten : (kind : Kind) (p : Lexeme) (ps : Lexemes) → p.kind ≡ kind → eat kind (p ∷ ps) ≡ Some ps
-eaten kind p ps h =
-    let same : same_kind p.kind kind ≡ true = true_same_kind p.kind kind h in
-    rw same refl
+eaten kind p ps h = grind arith
 
 eaten_is : (kind : Kind) (p : Lexeme) (ps to : Lexemes) → eat kind (p ∷ ps) ≡ Some to → p.kind ≡ kind
-eaten_is kind p ps to h = let e = eat_eats kind (p ∷ ps) to h in ap (λ xs. first_kind xs) e.1
-  where
-    first_kind : Lexemes → Kind
-    first_kind [] = kind
-    first_kind (q ∷ qs) = q.kind
+eaten_is kind p ps to h = grind arith
 
 module _ (here there : List ℕ) (rest other : Lexemes) where
   next_closes : (ps qs e : Lexemes) → eat k.CloseArray ps ≡ Some e → Along here there rest other ps qs → (length ps ≡ length rest → ⊥) → (to : Lexemes) × (eat k.CloseArray qs ≡ Some to)
@@ -139,25 +127,16 @@ Follows text n x z =
     choose (eat k.CloseParenthesis (skip x.1)) (λ e. Some (x.0, e)) (by_kind grammar.connective (skip x.1) >>= λ o. d.condition_at text n o.1 >>= λ c. Some (join o.0 x.0 c.0, c.1)) ≡ Some z
 
 no_bracket : (text : List ℕ) (n : ℕ) (x z : Condition × Lexemes) (to : Lexemes) → eat k.CloseArray (skip x.1) ≡ Some to → Follows text n x z → ⊥
-no_bracket text n x z to h follows =
-    let e = eat_eats k.CloseArray (skip x.1) to h in
-    let none : None ≡ Some z =
-    subst (λ ts. choose (eat k.CloseParenthesis ts) (λ e. Some (x.0, e)) (by_kind grammar.connective ts >>= λ o. d.condition_at text n o.1 >>= λ c. Some (join o.0 x.0 c.0, c.1)) ≡ Some z) e.1 follows in
-    cc
+no_bracket text n x z to h follows = grind arith
 
 -- a condition that begins with a group
 opens : (text : List ℕ) (n i : ℕ) (ts from : Lexemes) (z : Condition × Lexemes) → skip ts ≡ lexeme k.OpenParenthesis i (40 ∷ []) ∷ from → d.condition_at text (suc n) ts ≡ Some z
     → (x : Condition × Lexemes) × (d.condition_at text n from ≡ Some x) × Follows text n x z
 unfolding d.condition_by d.part_at
-opens text n i ts from z e h =
-    let deeper = d.condition_at text n in
-    let x = then_some (d.part_at text deeper (skip ts)) _ z h in
-    (x.0, sym (ap (d.part_at text deeper) e) ∙ x.1, x.2)
+opens text n i ts from z e h = grind (arith, then_some)
 
 one_deeper : (text : List ℕ) (n : ℕ) (ts : Lexemes) (r : Condition × Lexemes) → d.condition_at text n ts ≡ Some r → d.condition_at text (suc n) ts ≡ Some r
-one_deeper text n ts r h =
-    let x = sound_condition text n ts r h in
-    ap (λ m. d.condition_by text (d.condition_at text m) ts) x.1 ∙ complete_condition text (condition_deeper text x.2)
+one_deeper text n ts r h = grind (arith, complete_condition, condition_deeper, sound_condition)
 
 -- the same words spell the same condition, if what follows them is no closing bracket
 side : (here there : List ℕ) (i j : ℕ) (xs after other : List ℕ) (ws : Words) (more : ℕ → Lexemes) → Reads xs ws → At here i (xs ++ 41 ∷ after) → At there j (xs ++ 41 ∷ other)
@@ -179,15 +158,12 @@ side here there i j xs after other ws more is at at' single left e found closed 
     by_end : (to' : Lexemes) → to' ≡ r → AlikeCondition here there single c
         → ((left ≡ bracket_behind (end i ws)) × (to' ≡ more (end j ws))) ⊎ ((to : Lexemes) × (eat k.CloseArray (skip to') ≡ Some to))
         → AlikeCondition here there single c × (left ≡ bracket_behind (end i ws)) × (r ≡ more (end j ws))
-    by_end to' same alike (inl ends) = (alike, ends.0, sym same ∙ ends.1)
-    by_end to' same alike (inr eaten) = absurd (never eaten.0 (ap (λ ts. eat k.CloseArray (skip ts)) (sym same) ∙ eaten.1))
+    by_end to' same alike h = grind arith
 
 -- ---- the connective
 
 by_connective : (P : FilterToken → Type 0) → P op.And → P op.Or → (o : FilterToken) → is_comparison o ≡ false → P o
-by_connective P x y op.And h = x
-by_connective P x y op.Or h = y
-by_connective P x y _ h = cc
+by_connective P x y o h = grind arith
 
 sign : FilterToken → List ℕ
 sign op.Or = 124 ∷ 124 ∷ []
@@ -259,11 +235,7 @@ middle o con ys ws is i =
 after_left : (o : FilterToken) → is_comparison o ≡ false → (text : List ℕ) (n i : ℕ) (ws : Words) (x : Condition) (z : Condition × Lexemes) → Follows text n (x, sign_tokens o ws i) z
     → (d.condition_at text n (right_tokens (behind_sign o i) ws) >>= λ c. Some (join o x c.0, c.1)) ≡ Some z
 unfolding sign_tokens sign_kind skip
-after_left o con =
-    by_connective
-    (λ o. (text : List ℕ) (n i : ℕ) (ws : Words) (x : Condition) (z : Condition × Lexemes) → Follows text n (x, sign_tokens o ws i) z
-    → (d.condition_at text n (right_tokens (behind_sign o i) ws) >>= λ c. Some (join o x c.0, c.1)) ≡ Some z)
-    (λ text n i ws x z h. h) (λ text n i ws x z h. h) o con
+after_left o con = grind arith
 
 after_right : (text : List ℕ) (n i : ℕ) (x : Condition) (z : Condition × Lexemes) → Follows text n (x, last_two i) z → (x, bracket_behind (i + byte_len (41 ∷ []))) ≡ z
 unfolding last_two skip
@@ -291,15 +263,7 @@ joined_chars o a b = chars a ++ 41 ∷ after o (chars b)
 -- what stands behind the first side
 behind_left : (o : FilterToken) → is_comparison o ≡ false → (b : List ℕ) → IsUtf8 b → (between o ++ (b ++ 41 ∷ 41 ∷ 93 ∷ []) ≡ encodes (41 ∷ after o (chars b))) × (scalars (41 ∷ after o (chars b)) ≡ true)
 unfolding encode after sign
-behind_left o con b u =
-    by_connective (λ o. (between o ++ (b ++ 41 ∷ 41 ∷ 93 ∷ []) ≡ encodes (41 ∷ after o (chars b))) × (scalars (41 ∷ after o (chars b)) ≡ true))
-    (ap (λ xs. 41 ∷ 32 ∷ 38 ∷ 38 ∷ 32 ∷ 40 ∷ xs) tail, ok) (ap (λ xs. 41 ∷ 32 ∷ 124 ∷ 124 ∷ 32 ∷ 40 ∷ xs) tail, ok) o con
-  where
-    ok : scalars (chars b ++ 41 ∷ 41 ∷ 93 ∷ []) ≡ true
-    ok = scalars_both (chars b) (41 ∷ 41 ∷ 93 ∷ []) (scalars-chars b u) refl
-
-    tail : b ++ 41 ∷ 41 ∷ 93 ∷ [] ≡ encodes (chars b ++ 41 ∷ 41 ∷ 93 ∷ [])
-    tail = encoded b (41 ∷ 41 ∷ 93 ∷ []) (41 ∷ 41 ∷ 93 ∷ []) u refl
+behind_left o con b u = grind (arith, by_connective, encoded, scalars-chars, scalars_both)
 
 joined_at : (o : FilterToken) → is_comparison o ≡ false → (a b : List ℕ) → IsUtf8 a → IsUtf8 b
     → (chars (joined_text o a b) ≡ 36 ∷ 91 ∷ 63 ∷ 40 ∷ 40 ∷ joined_chars o a b) × At (joined_text o a b) 5 (joined_chars o a b)

@@ -1,10 +1,9 @@
 -- Each span in a tree that a text spells has a word or a quoted text.
-use Rattle.std.proofs.Common.{◌≡◌, ◌≤◌, ◌<◌, ◌+◌, ℕ, suc, Bool, true, false, not, ◌||◌, List, [], ◌∷◌, ◌++◌, length, refl, sym, ap, ◌∙◌, arith, leb, ltb}
-use Rattle.std.specs.Prelude.{Contains, slice_index}
+use Rattle.std.proofs.Common.{◌≡◌, ◌+◌, ℕ, suc, Bool, true, false, List, [], ◌∷◌, ◌++◌, refl, sym, ap, ◌∙◌, arith}
+use Rattle.std.specs.Prelude.{Contains}
 use Rattle.std.specs.List.{list_all}
 use Rattle.std.specs.Str.{chars, IsUtf8, IsCharBoundary}
-use Rattle.std.proofs.lemmas.Bool.{and_from, le-leb, ltb-true}
-use Rattle.std.proofs.lemmas.Bool.Decides.{nat_tests}
+use Rattle.std.proofs.lemmas.Bool.{and_from}
 use Rattle.std.proofs.lemmas.List.Folds.{list_all-append}
 use denote.Ref.{Bor}
 use Rattle.jsonpath_paths.specs.token.Kinds.{is_name}
@@ -21,18 +20,7 @@ use Rattle.jsonpath_paths.proofs.tree.SpanNameLemmas.{names_read}
 use Rattle.jsonpath_paths.proofs.tree.WellSpelledLemmas.{path_well}
 
 at_boundary : (text : List ℕ) (i : ℕ) → IsCharBoundary text i → is_boundary text i ≡ true
-at_boundary text i h = and_from (leb i (length text)) _ (le-leb i (length text) h.0) (by_end (ltb i (length text)) refl)
-  where
-    byte : ℕ
-    byte = slice_index text i
-
-    by_byte : (b : Bool) → ltb byte 128 ≡ b → i < length text → (not true || b || leb 192 byte) ≡ true
-    by_byte true e below = refl
-    by_byte false e below = let high : 128 ≤ byte = grind (arith, nat_tests) in le-leb 192 byte (h.1 below high)
-
-    by_end : (b : Bool) → ltb i (length text) ≡ b → (not b || ltb byte 128 || leb 192 byte) ≡ true
-    by_end true e = by_byte (ltb byte 128) refl (ltb-true i (length text) e)
-    by_end false e = refl
+at_boundary text i h = grind arith
 
 -- what stands at a span that lies in a text and cuts no character
 slice_is_bytes : (text : List ℕ) (s : StrRange) → IsSpan text s → slice_at text s ≡ bytes_at text s

@@ -1,11 +1,9 @@
 -- Each span in a tree that tokens spell is the span of one of these tokens.
-use Rattle.std.proofs.Common.{ℕ, suc, Bool, true, false, List, [], ◌∷◌, Option, ℤ, cond, sym, subst, All, arith}
+use Rattle.std.proofs.Common.{ℕ, suc, Bool, List, [], ◌∷◌, Option, ℤ, sym, subst, All, arith, rules}
 use Rattle.std.proofs.lemmas.List.Elements.{All-cons, All-contains, All-nil}
 use denote.Ref.{Bor}
-use Rattle.jsonpath_paths.specs.token.Kinds.{same_kind}
 use Rattle.jsonpath_paths.specs.plan.ParsedParts.{skip}
 use Rattle.jsonpath_paths.specs.declared.text.str_reader.StrRange.{StrRange}
-use Rattle.jsonpath_paths.specs.declared.decimal.Decimal.{Decimal}
 use Rattle.jsonpath_paths.specs.declared.token.tokens.Kind.{Kind}
 use Rattle.jsonpath_paths.specs.declared.token.tokens.Kind.TheVariants as k
 use Rattle.jsonpath_paths.specs.declared.token.tokens.ParseToken.{ParseToken}
@@ -34,12 +32,7 @@ module _ (Q : Kind → StrRange → Type 0) (P : StrRange → Type 0) (word : (s
 
   skip_each : (ts : Lexemes) → Each ts → Each (skip ts)
   unfolding skip
-  skip_each [] h = tt
-  skip_each (p ∷ ps) h = by_test (same_kind p.kind k.Whitespace)
-    where
-      by_test : (b : Bool) → Each (cond b ps (p ∷ ps))
-      by_test true = h.1
-      by_test false = h
+  skip_each ts h = grind arith
 
   takes_each : (kind : Kind) (s : StrRange) (from to : Lexemes) → Takes kind s from to → Each from → Q kind s × Each to
   takes_each kind s from to h e = subst Each h e
@@ -58,19 +51,14 @@ module _ (Q : Kind → StrRange → Type 0) (P : StrRange → Type 0) (word : (s
 
   module _ (text : List ℕ) where
     bound_each : {low : Option ℤ} {from to : Lexemes} → g.BoundAt text low from to → Each from → Each to
-    bound_each g.no_bound e = e
-    bound_each (g.bound {from = from} mid i) e = skip_each mid (takes_each k.Key i.0 from mid i.1 e).1
+    bound_each h e = grind (arith, skip_each)
 
     step_part_each : {by : Option ℕ} {from to : Lexemes} → g.StepPartAt text by from to → Each from → Each to
-    step_part_each g.no_step_part e = e
-    step_part_each (g.bare_colon {from = from} a c) e = skip_each a (eats_each k.Split from a c e)
-    step_part_each (g.step_part {from = from} a b c i) e =
-        skip_each b (takes_each k.Key i.0 (skip a) b i.1 (skip_each a (eats_each k.Split from a c e))).1
+    step_part_each h e = grind (arith, skip_each, takes_each)
 
     indexes_each : {ns : List ℤ} {from to : Lexemes} → g.IndexesAt text ns from to → Each from → Each to
     indexes_each (g.no_index {ts = ts}) e = skip_each ts e
-    indexes_each (g.one_index {from = from} a b c i more) e =
-        indexes_each more (takes_each k.Key i.0 (skip a) b i.1 (skip_each a (eats_each k.Comma from a c e))).1
+    indexes_each (g.one_index {from = from} a b c i more) e = grind (arith, eats_each, skip_each, indexes_each more (takes_each k.Key i.0 (skip a) b i.1 (skip_each a (eats_each k.Comma from a c e))).1)
 
     names_each : {ss : List StrRange} {from to : Lexemes} → g.NamesAt text ss from to → Each from → All P ss × Each to
     names_each g.no_name e = (All-nil P, e)
@@ -80,33 +68,18 @@ module _ (Q : Kind → StrRange → Type 0) (P : StrRange → Type 0) (word : (s
         (All-cons P s ss here.0 rest.0, rest.1)
 
     word_each : {token : ParseToken} {from to : Lexemes} → g.WordAt text token from to → Each from → MayRead pre token × Each to
-    word_each (g.dot_word {s = s} {from = from} {to = to} h) e = let here = takes_each k.Key s from to h e in (one_read s (word s here.0), here.1)
-    word_each (g.dot_all {from = from} {to = to} h) e = (tt, eats_each k.Asterisk from to h e)
+    word_each h e = grind arith
 
     plain_each : {token : ParseToken} {from to : Lexemes} → g.PlainAt text token from to → Each from → MayRead pre token × Each to
     plain_each (g.in_all {from = from} a h) e = (tt, skip_each a (eats_each k.Asterisk from a h e))
     plain_each (g.in_index {from = from} a i) e = (tt, skip_each a (takes_each k.Key i.0 from a i.1 e).1)
-    plain_each (g.in_union {from = from} a b c i h j more) e =
-        let first = skip_each a (takes_each k.Key i.0 from a i.1 e).1 in
-        (tt, indexes_each more (takes_each k.Key j.0 (skip b) c j.1 (skip_each b (eats_each k.Comma (skip a) b h first))).1)
-    plain_each (g.in_range a b c low h high by) e =
-        (tt, step_part_each by (bound_each high (skip_each b (eats_each k.Split a b h (bound_each low e)))))
+    plain_each (g.in_union {from = from} a b c i h j more) e = grind (arith, eats_each, indexes_each, skip_each)
+    plain_each (g.in_range a b c low h high by) e = grind (arith, bound_each, skip_each, step_part_each)
     plain_each (g.in_name {s = s} {from = from} a q) e = let here = quoted_each s from a q e in (one_read s here.0, skip_each a here.1)
-    plain_each (g.in_names {s = s} {ss = ss} {s' = s'} {from = from} a b c q h r more) e =
-        let first = quoted_each s from a q e in
-        let second = quoted_each s' (skip b) c r (skip_each b (eats_each k.Comma a b h first.1)) in
-        let rest = names_each more (skip_each c second.1) in
-        (all_read (s ∷ s' ∷ ss) (All-cons P s (s' ∷ ss) first.0 (All-cons P s' ss second.0 rest.0)), rest.1)
-
-    number_each : {d : Decimal} {from to : Lexemes} → g.NumberAt text d from to → Each from → Each to
-    number_each (g.whole {from = from} {to = to} s h _) e = (takes_each k.Key s from to h e).1
-    number_each (g.point {from = from} {to = to} s a b f h i j _) e =
-        (takes_each k.Key f b to j (eats_each k.Dot a b i (takes_each k.Key s from a h e).1)).1
+    plain_each (g.in_names {s = s} {ss = ss} {s' = s'} {from = from} a b c q h r more) e = search (rules, arith, all_read, eats_each, names_each, quoted_each, skip_each)
 
     literal_each : {token : ParseToken} {from to : Lexemes} → g.LiteralAt text token from to → Each from → MayRead pre token × Each to
-    literal_each (g.quoted {s = s} {from = from} {to = to} q) e = let here = quoted_each s from to q e in (one_read s here.0, here.1)
-    literal_each (g.number h) e = (tt, number_each h e)
-    literal_each (g.truth {from = from} {to = to} s h _) e = (tt, (takes_each k.Key s from to h e).1)
+    literal_each h e = grind arith
 
     mutual
       steps_each : {n : ℕ} {ss : PathSteps} {from to : Lexemes} → g.StepsAt text n ss from to → Each from → MayReadSteps pre ss × Each to
@@ -172,9 +145,7 @@ spans_spelled text p ts h spelled = each_span (λ _ s. IsSpan text s) (IsSpan te
 -- what may be read under one condition may be read under a weaker one
 module _ (P Q : Bor StrRange → Type 0) (weaker : (s : Bor StrRange) → P s → Q s) where
   token_as : (token : ParseToken) → MayRead P token → MayRead Q token
-  token_as (t.Key s) h = λ b within. weaker b (h b within)
-  token_as (t.Keys ss) h = λ b within. weaker b (h b within)
-  token_as _ h = tt
+  token_as token h = grind arith
 
   mutual
     pub path_as : (p : Path) → MayReadPath P p → MayReadPath Q p

@@ -1,5 +1,5 @@
 -- At each span of the tree that a text spells stands a word or a quoted text.
-use Rattle.std.proofs.Common.{◌≡◌, ◌≤◌, ◌+◌, ℕ, zero, suc, Bool, true, false, ◌||◌, List, [], ◌∷◌, ◌++◌, length, take, drop, All, refl, sym, subst, ap, ◌∙◌, arith, length-append, length-drop}
+use Rattle.std.proofs.Common.{◌≡◌, ◌≤◌, ◌+◌, ℕ, zero, suc, Bool, true, List, [], ◌∷◌, ◌++◌, length, take, drop, All, refl, sym, subst, ap, ◌∙◌, arith, length-append, length-drop}
 use Rattle.std.specs.Str.{chars, IsUtf8}
 use Rattle.std.proofs.lemmas.Bool.{and_from, and_parts, or_right}
 use Rattle.std.proofs.lemmas.List.{drop-drop, take-append-drop}
@@ -9,10 +9,10 @@ use Rattle.std.proofs.Math.Seq.{drop-append_seam, take-append_seam}
 use lib.Utf8.{scalars, encodes}
 use Rattle.jsonpath_paths.specs.Grammar.{Lexemes}
 use Rattle.jsonpath_paths.proofs.parser.FormLemmas.{quote_kind}
-use Rattle.jsonpath_paths.specs.token.Kinds.{is_token, is_word, is_quoted, is_name}
+use Rattle.jsonpath_paths.specs.token.Kinds.{is_token, is_name}
 use Rattle.jsonpath_paths.specs.text.Spans.{IsSpan}
 use Rattle.jsonpath_paths.specs.Spelling.{Spells}
-use Rattle.jsonpath_paths.specs.text.Characters.{byte_len, byte_len_is, bytes_at, double_quote, single_quote}
+use Rattle.jsonpath_paths.specs.text.Characters.{byte_len, byte_len_is, bytes_at}
 use Rattle.jsonpath_paths.specs.token.Tokens.{TokensAt, no_token, one_token, lexeme}
 use Rattle.jsonpath_paths.specs.tree.Tree.{Path}
 use Rattle.jsonpath_paths.specs.tree.Visit.{MayReadPath}
@@ -62,10 +62,7 @@ module _ (text : List ℕ) where
   word_named s h = (h.0, rw (h.1) refl)
 
   quoted_named : (double : Bool) (s : StrRange) → IsPieceOf (quote_kind double) s → IsNamed s
-  quoted_named true s h = let cs = chars (bytes_at text s) in (h.0, or_right (is_word cs) (is_quoted double_quote cs || is_quoted single_quote cs) (rw (h.1) refl))
-  quoted_named false s h =
-      let cs = chars (bytes_at text s) in
-      (h.0, or_right (is_word cs) (is_quoted double_quote cs || is_quoted single_quote cs) (or_right (is_quoted double_quote cs) (is_quoted single_quote cs) h.1))
+  quoted_named double s h = grind (arith, or_right)
 
   pub names_read : (p : Path) → IsUtf8 text → Spells text p → MayReadPath (λ s. IsNamed s.now) p
   names_read p u h =

@@ -1,5 +1,5 @@
 -- What the grammar spells is well-formed.
-use Rattle.std.proofs.Common.{◌≡◌, ℕ, Bool, true, false, List, Some, refl, subst, sym, ap, arith, rules}
+use Rattle.std.proofs.Common.{◌≡◌, ℕ, Bool, true, false, List, Some, refl, subst, sym, arith}
 use Rattle.std.specs.Prelude.{IsTrue}
 use Rattle.jsonpath_paths.specs.declared.token.tokens.FilterToken.{FilterToken}
 use Rattle.jsonpath_paths.specs.declared.token.tokens.Kind.{Kind}
@@ -9,39 +9,24 @@ use Rattle.jsonpath_paths.proofs.parser.FormLemmas as g
 use Rattle.jsonpath_paths.proofs.parser.DerivationLemmas.{path_form}
 use Rattle.jsonpath_paths.specs.Grammar.{Lexemes, comparison, connective, SpellsPath}
 use Rattle.jsonpath_paths.specs.tree.Tree.{Path, PathSteps, Inner, Condition, Term, is_comparison}
-use Rattle.jsonpath_paths.specs.text.Characters.{bytes_at}
 use Rattle.jsonpath_paths.specs.tree.WellFormed.{IsPath, AreSteps, IsInner, IsCondition, IsTerm, IsBracketWord, is_dot_word, is_literal}
 use Rattle.jsonpath_paths.proofs.parser.ParseLemmas.{index_fits}
-use Rattle.jsonpath_paths.proofs.parser.SoundLemmas.{some_same}
 
 compares : (kind : Kind) (o : FilterToken) → comparison kind ≡ Some o → IsTrue (is_comparison o)
-compares k.Equal o h = subst (λ x. IsTrue (is_comparison x)) (some_same _ _ h) (search rules)
-compares k.NotEqual o h = subst (λ x. IsTrue (is_comparison x)) (some_same _ _ h) (search rules)
-compares k.Little o h = subst (λ x. IsTrue (is_comparison x)) (some_same _ _ h) (search rules)
-compares k.LittleOrEqual o h = subst (λ x. IsTrue (is_comparison x)) (some_same _ _ h) (search rules)
-compares k.Greater o h = subst (λ x. IsTrue (is_comparison x)) (some_same _ _ h) (search rules)
-compares k.GreaterOrEqual o h = subst (λ x. IsTrue (is_comparison x)) (some_same _ _ h) (search rules)
-compares _ o h = cc h
+compares kind o h = grind arith
 
 connects : (kind : Kind) (o : FilterToken) → connective kind ≡ Some o → is_comparison o ≡ false
-connects k.And o h = ap is_comparison (sym (some_same _ _ h))
-connects k.Or o h = ap is_comparison (sym (some_same _ _ h))
-connects _ o h = cc h
+connects kind o h = grind arith
 
 module _ (text : List ℕ) where
   word_well : {token : ParseToken} {from to : Lexemes} → g.WordAt text token from to → IsTrue (is_dot_word token)
-  word_well (g.dot_word h) = search rules
-  word_well (g.dot_all h) = search rules
+  word_well h = grind arith
 
   plain_well : {token : ParseToken} {from to : Lexemes} → g.PlainAt text token from to → IsBracketWord token
-  plain_well (g.in_index {n = n} a i) = (n, index_fits (bytes_at text i.0) n i.2, refl)
-  plain_well (g.in_union a b c i h j more) = omega arith
-  plain_well (g.in_names a b c q h r more) = omega arith
-  plain_well _ = tt
+  plain_well h = grind (arith, index_fits)
 
   literal_well : {token : ParseToken} {from to : Lexemes} → g.LiteralAt text token from to → IsTrue (is_literal token)
-  literal_well (g.quoted q) = search rules
-  literal_well _ = search rules
+  literal_well h = grind arith
 
   mutual
     pub steps_well : {n : ℕ} {ss : PathSteps} {from to : Lexemes} → g.StepsAt text n ss from to → AreSteps ss
