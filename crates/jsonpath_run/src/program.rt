@@ -237,8 +237,7 @@ fn change_by_command(
     }
 }
 
-// Puts null at what the path selects below the root. The locations are not dropped, which would take time: the program
-// ends soon.
+// Puts null at what the path selects below the root. The locations are not dropped, which would take time.
 fn delete_at_path(
     alloc: Global,
     path: &PathParser<'_>,

@@ -33,8 +33,7 @@ pub(crate) fn first_by_parts<'a>(
     Ok(first_by_tokens(alloc, json, path.text, path.tokens)?)
 }
 
-// Whether the path selects a value. Where a path is decided by sets, its set is found whole; else the first value is
-// looked for.
+// Whether the path selects a value. If a path is decided by sets, its set is found; else the first value is looked for.
 pub(crate) fn exists_by_parts(
     alloc: Global,
     json: &Value,

@@ -44,8 +44,7 @@ pub fn select_path<'a>(
 /// order in which its steps find them, with duplicates. They borrow only the value. The only error is `OutOfMemory`.
 ///
 /// Precondition, which holds if `tokens_fit` returned true: the tokens are the token list of some path, however deeply
-/// nested, and the text has an unquoted or a quoted name at the span of each name in them. The text itself need not be
-/// a path.
+/// nested, and the text has a name, quoted or not, at the span of each name in them. The text need not be a path.
 ///
 /// ```text
 /// let document = read_document(alloc, br#"{"a": 1}"#)?;

@@ -97,8 +97,7 @@ fn push_compact_text(alloc: Global, text: &mut String, value: &Value) -> Result<
     Ok(())
 }
 
-// Whether the JSON string of this text is the text itself in quotes: it has no quote, no backslash and no byte below
-// 32.
+// Whether the JSON string of this text is the text itself in quotes: no quote, backslash or byte below 32 is in it.
 fn needs_no_escape(text: &str) -> bool
     ensures { IsTrue result → escape text.now ≡ text.now }
 {

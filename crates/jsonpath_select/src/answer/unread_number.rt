@@ -1,5 +1,4 @@
-//! Numbers that are not integers of 64 bits, which are neither printed nor deserialized: whether a value contains
-//! one, and the error.
+//! Numbers that are no integers of 64 bits, which are not printed: whether a value contains one, and the error.
 ghost use Rattle.std.specs.Prelude.{◌≡◌, map};
 ghost use Rattle.serde_json.specs.View.{view};
 ghost use Rattle.serde_json.specs.Written.{has_float};

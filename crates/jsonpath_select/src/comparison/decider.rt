@@ -1,5 +1,4 @@
-//! What is stored of the right-hand values of a comparison, so that each left-hand one is decided without comparing
-//! every pair.
+//! What is stored of the right values of a comparison, to decide each left one without comparing every pair.
 
 ghost use Rattle.std.specs.Prelude.{◌≡◌, IfOk, map};
 ghost use Rattle.std.specs.List.{list_any};

@@ -1,5 +1,4 @@
-//! `Parser`, which compiles a path text to a `Node` that owns it, and `ParseFault`, its error, whose message has a
-//! row of `^`.
+//! `Parser`, which compiles a path text to a `Node` that owns it, and its error `ParseFault`, which has a row of `^`.
 ghost use Rattle.std.specs.Prelude.{◌≡◌, ◌<◌, ◌^◌, ◌++◌, List, ℕ, Some, None, codes, decimal, string_bytes, IfOk, IfErr};
 ghost use Rattle.jsonpath_paths.specs.Spelling.{IsInGrammar};
 ghost use Rattle.jsonpath_select.specs.compile.Faults.{caret_text, parse_fault_text, IsEndOfRow, IsFaultOf, IsParseRefused};

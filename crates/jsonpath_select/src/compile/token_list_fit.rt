@@ -15,8 +15,7 @@ use jsonpath_nodes::NoMemory;
 use jsonpath_paths::{FilterToken, ParseToken, StrRange, Token, Tokenizer};
 use std::alloc::Global;
 
-// What stands on the stack of that pass. `absolute` says that a path begins at the root, `leaves` that `..` stands
-// behind it.
+// What stands on the stack of that pass. `absolute`: a path begins at the root; `leaves`: `..` stands behind it.
 #[derive(Clone, Copy)]
 pub enum Entry {
     // A path.
@@ -25,8 +24,7 @@ pub enum Entry {
     Dotted { absolute: bool, leaves: bool },
     // A path with an open bracket behind it, or with `..` and an open bracket.
     Opened { absolute: bool, leaves: bool },
-    // A plain step or a literal that stands behind no dots: whether it may stand alone in brackets, and whether beside
-    // a comparison.
+    // A plain step or a literal behind no dots: whether it may stand alone in brackets, or beside a comparison.
     StepOrLiteral { alone: bool, term: bool },
     // A comparison, or conditions joined.
     Logical,

@@ -108,8 +108,7 @@ impl<'a, 't> Machine<'a, 't> {
         Ok(Vec::new(self.alloc))
     }
 
-    // Marks at where the instructions lead from those places at which the condition holds, from all where there is
-    // none.
+    // Marks at where the instructions lead from the places at which the condition holds, or from all, without one.
     fn lead_slice_to_end<M: Carried<'a>>(
         &self,
         condition: Option<&[Instruction<'_>]>,

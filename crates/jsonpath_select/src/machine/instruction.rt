@@ -117,8 +117,7 @@ fn note_own_step(has_step: bool, own: &mut Vec<bool>) -> Result<(), NoMemory>
     }
 }
 
-// Notes at the step or filter found last that `.` or `..` stands before it. A `Constant` found last, here a name or
-// `*`, becomes a plain step.
+// Notes at the step or filter found last that `.` or `..` stands before it. A `Constant` becomes a plain step.
 fn note_dots_before_step(leaves: bool, code: &mut Vec<Instruction<'_>>) -> Result<(), NoMemory>
     ensures { OnOk result (front_of code.new.items ≡ with_dots leaves (front_of code.old.items)) }
 {

@@ -1,5 +1,4 @@
-//! How the locations of a list of nodes are related, step after step: whether a filter after the steps may find a
-//! candidate twice.
+//! How the locations of a list are related, step after step: whether a filter behind may find a candidate twice.
 
 ghost use Rattle.std.specs.Prelude.{◌≡◌, ◌<◌, Bool, List, false, filter, length, true, IfOk, IsTrue};
 ghost use Rattle.jsonpath_nodes.specs.document.Document.{Document};

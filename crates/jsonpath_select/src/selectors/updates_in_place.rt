@@ -14,13 +14,12 @@ use std::alloc::Global;
 
 impl<P: AnyPath> HeldPair<P, Value> {
     /// Replaces each selected value by null, except the root and values inside another replaced value, as `delete`
-    /// does. Errors: `EmptyPath` (no path), `EmptyValue` (a path, no document), else `OutOfMemory`; nothing has changed
+    /// does. Errors: `EmptyPath` (no path), `EmptyValue` (a path, no document), `OutOfMemory`; nothing has changed
     /// then.
     ///
     /// ```text
     /// let mut held = SelectorMut::new();
-    /// held.value(read_document(alloc, b"[1, 2, 3]")?);
-    /// held.str_path(alloc, "$[1:]")?;
+    /// held.str_path(alloc, "$[1:]")?.value(read_document(alloc, b"[1, 2, 3]")?);
     /// held.delete_in_place(alloc)?;
     /// assert!(rt; held.select_as_str(alloc)?.as_str() == "[null,null]");
     /// ```
@@ -42,8 +41,7 @@ impl<P: AnyPath> HeldPair<P, Value> {
     ///
     /// ```text
     /// let mut held = SelectorMut::new();
-    /// held.value(read_document(alloc, b"[1, 2, 3]")?);
-    /// held.str_path(alloc, "$[1:]")?;
+    /// held.str_path(alloc, "$[1:]")?.value(read_document(alloc, b"[1, 2, 3]")?);
     /// held.remove_in_place(alloc)?;
     /// assert!(rt; !held.exists(alloc)?);
     /// ```
@@ -61,13 +59,12 @@ impl<P: AnyPath> HeldPair<P, Value> {
     }
 
     /// Replaces each selected value by a copy of `new`, all at once, except the root and values inside another replaced
-    /// value, as `set` does, but returns no `&mut Self`. Errors: `EmptyPath` if there is no path, else `EmptyValue` if
-    /// there is no document, else `OutOfMemory`; nothing has changed then.
+    /// value, as `set` does. Errors: `EmptyPath` (no path), `EmptyValue` (a path, no document), `OutOfMemory`; nothing
+    /// has changed then.
     ///
     /// ```text
     /// let mut held = SelectorMut::new();
-    /// held.value(read_document(alloc, b"[1, 2, 3]")?);
-    /// held.str_path(alloc, "$[1:]")?;
+    /// held.str_path(alloc, "$[1:]")?.value(read_document(alloc, b"[1, 2, 3]")?);
     /// held.set_in_place(alloc, &Value::Bool(true))?;
     /// assert!(rt; held.select_as_str(alloc)?.as_str() == "[true,true]");
     /// ```
@@ -90,8 +87,7 @@ impl<P: AnyPath> HeldPair<P, Value> {
     ///
     /// ```text
     /// let mut held = SelectorMut::new();
-    /// held.value(read_document(alloc, b"[1, 2, 3]")?);
-    /// held.str_path(alloc, "$[1:]")?;
+    /// held.str_path(alloc, "$[1:]")?.value(read_document(alloc, b"[1, 2, 3]")?);
     /// let to_null = &mut |_old: Value| Some(Value::Null);
     /// held.replace_in_place(alloc, to_null)?;
     /// assert!(rt; held.select_as_str(alloc)?.as_str() == "[null,null]");
@@ -119,12 +115,11 @@ impl<P: AnyPath> HeldPair<P, Value> {
     /// Calls the closure once for each selected location below the root that still exists, in document order, with a
     /// reference to the value that earlier updates left there: `Some` replaces the value, `None` removes it. The
     /// closure's first error ends the updates, as `Refused`; the updates before it remain. Errors before the closure is
-    /// called are `Unasked`: `EmptyPath` without a path, else `EmptyValue` without a document, else `OutOfMemory`.
+    /// called are `Unasked`: `EmptyPath` (no path), `EmptyValue` (a path, no document), `OutOfMemory`.
     ///
     /// ```text
     /// let mut held = SelectorMut::new();
-    /// held.value(read_document(alloc, b"[1, 2, 3]")?);
-    /// held.str_path(alloc, "$[1:]")?;
+    /// held.str_path(alloc, "$[1:]")?.value(read_document(alloc, b"[1, 2, 3]")?);
     /// let refuse = &mut |_old: &Value| Err::<Option<Value>, u8>(7);
     /// let tried = held.try_replace_in_place(alloc, refuse);
     /// assert!(rt; matches!(tried, Err(TryFault::Refused(7))));

@@ -103,8 +103,7 @@ pub fn borrowed_name_at(text: &str, span: StrRange) -> Option<&str>
     }
 }
 
-// A copy of what a word or a quoted text means: without its quotes, and without the backslashes that escape a
-// character.
+// A copy of what a word or a quoted text means: without its quotes and the backslashes that escape.
 fn copied_name(alloc: Global, whole: &str) -> Result<String, NoMemory>
     ensures { IfOk result (λ name. string_bytes name ≡ encode_utf8_all (name_of (chars whole.now))) }
 {
