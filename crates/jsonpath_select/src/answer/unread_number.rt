@@ -52,8 +52,5 @@ pub(crate) fn has_unread_number_in_values(values: &[&Value]) -> bool
 pub(crate) fn unread_number_error(alloc: Global) -> JsonPathError
     ensures { IsUnreadError result }
 {
-    match String::from_str(alloc, UNREAD_NUMBER) {
-        Ok(message) => JsonPathError::Serde(message),
-        Err(_) => JsonPathError::OutOfMemory,
-    }
+    String::from_str(alloc, UNREAD_NUMBER).map_or(JsonPathError::OutOfMemory, JsonPathError::Serde)
 }

@@ -41,21 +41,12 @@ impl<'s, 't> Decider<'s, 't> {
             return Ok(Decider::All(rights));
         }
         match op {
-            FilterToken::Equal => {
-                let known = ValueSet::of_atoms(alloc, rights)?;
-                Ok(Decider::ValueSet(known))
-            }
+            FilterToken::Equal => Ok(Decider::ValueSet(ValueSet::of_atoms(alloc, rights)?)),
             FilterToken::Little
             | FilterToken::LittleOrEqual
             | FilterToken::Greater
-            | FilterToken::GreaterOrEqual => {
-                let few = extreme_atoms(alloc, op, rights)?;
-                Ok(Decider::Few(few))
-            }
-            FilterToken::NotEqual => {
-                let two = two_unequal(alloc, rights)?;
-                Ok(Decider::Few(two))
-            }
+            | FilterToken::GreaterOrEqual => Ok(Decider::Few(extreme_atoms(alloc, op, rights)?)),
+            FilterToken::NotEqual => Ok(Decider::Few(two_unequal(alloc, rights)?)),
             _ => Ok(Decider::All(rights)),
         }
     }

@@ -124,5 +124,5 @@ pub(crate) fn extreme_atoms<'t>(
     ensures { IfOk result (λ few. (x : Seen) → some_right op x (map seen_by few.items) ≡ some_right op x (map seen_by atoms.now)) }
 {
     let extremes = Extremes::of_atoms(op, atoms);
-    Ok(extremes.to_atoms(alloc)?)
+    extremes.to_atoms(alloc)
 }

@@ -110,10 +110,7 @@ fn fault_of_token_error(alloc: Global, path: &str, error: TokenError) -> ParseFa
         TokenError::Eof => path.len(),
         TokenError::Position(at) => at,
     };
-    match path_with_caret_row(alloc, path, carets) {
-        Ok(message) => ParseFault::Text(message),
-        Err(AllocError) => ParseFault::OutOfMemory,
-    }
+    path_with_caret_row(alloc, path, carets).map_or(ParseFault::OutOfMemory, ParseFault::Text)
 }
 
 // The path, a line end and so many `^`.

@@ -5,14 +5,13 @@
 ghost use Rattle.std.specs.Prelude.{◌<◌, ◌≤◌, [], ◌∷◌, List, IfOk, Option};
 ghost use Rattle.serde_json.specs.View.{view};
 ghost use Rattle.jsonpath_nodes.specs.document.OfData.{document_of};
-ghost use Rattle.jsonpath_paths.specs.tree.Tree.{Path, PathSteps};
+ghost use Rattle.jsonpath_paths.specs.tree.Tree.{Path, PathSteps, Condition};
 ghost use Rattle.jsonpath_nodes.specs.place.Location.{Location};
 ghost use Rattle.jsonpath_paths.specs.Listed.{IsListOf, IsSomePath};
 ghost use Rattle.jsonpath_select.specs.Meaning.{follow, sel};
 ghost use Rattle.jsonpath_select.specs.plan.First.{BeginAs, CodesOptionalCondition, kept_by};
 ghost use Rattle.jsonpath_select.specs.plan.NextFilter.{CodesSteps};
 ghost use Rattle.jsonpath_select.specs.plan.Standing.{AreStanding, IsStanding};
-ghost use Rattle.jsonpath_paths.specs.tree.Tree.{Condition};
 ghost use Rattle.jsonpath_nodes.specs.place.Mark.{MarksStandAt};
 
 use crate::filters::next_filter::{condition_end, next_filter};

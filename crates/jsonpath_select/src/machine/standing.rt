@@ -47,10 +47,7 @@ impl Standing {
     pub(crate) fn are_disjoint(self) -> bool
         ensures { IsTrue result → (ls : List Location) → IsStanding self ls → IsDisjoint ls }
     {
-        match self {
-            Standing::Disjoint => true,
-            _ => false,
-        }
+        matches!(self, Standing::Disjoint)
     }
 
     // Whether it is known that no two of the places are the same, and none leads to another by indexes alone, so that

@@ -30,9 +30,7 @@ impl<P: AnyPath> HeldPair<P, Value> {
         ensures kept { OnErr result (self.new ≡ self.old) }
     {
         let path = self.path.as_ref().ok_or(JsonPathError::EmptyPath)?;
-        let Some(value) = &mut self.value else {
-            return Err(JsonPathError::EmptyValue);
-        };
+        let value = self.value.as_mut().ok_or(JsonPathError::EmptyValue)?;
         path.delete_in(alloc, value)
     }
 
@@ -52,9 +50,7 @@ impl<P: AnyPath> HeldPair<P, Value> {
         ensures kept { OnErr result (self.new ≡ self.old) }
     {
         let path = self.path.as_ref().ok_or(JsonPathError::EmptyPath)?;
-        let Some(value) = &mut self.value else {
-            return Err(JsonPathError::EmptyValue);
-        };
+        let value = self.value.as_mut().ok_or(JsonPathError::EmptyValue)?;
         path.remove_in(alloc, value)
     }
 
@@ -75,9 +71,7 @@ impl<P: AnyPath> HeldPair<P, Value> {
         ensures kept { OnErr result (self.new ≡ self.old) }
     {
         let path = self.path.as_ref().ok_or(JsonPathError::EmptyPath)?;
-        let Some(value) = &mut self.value else {
-            return Err(JsonPathError::EmptyValue);
-        };
+        let value = self.value.as_mut().ok_or(JsonPathError::EmptyValue)?;
         path.set_in(alloc, value, new)
     }
 
@@ -106,9 +100,7 @@ impl<P: AnyPath> HeldPair<P, Value> {
         ensures callable { F.IsAlwaysCallable fun.new }
     {
         let path = self.path.as_ref().ok_or(JsonPathError::EmptyPath)?;
-        let Some(value) = &mut self.value else {
-            return Err(JsonPathError::EmptyValue);
-        };
+        let value = self.value.as_mut().ok_or(JsonPathError::EmptyValue)?;
         path.replace_in(alloc, value, fun)
     }
 

@@ -30,13 +30,7 @@ pub(crate) fn slice_at<'t>(text: &'t str, span: StrRange) -> &'t str
 fn has_backslash(text: &str) -> bool
     ensures { result ≡ list_any (λ c. c == backslash) (chars text.now) }
 {
-    let mut reader = StrReader::new(text);
-    while let Ok((_, c)) = reader.next_char() {
-        if c == '\\' {
-            return true;
-        }
-    }
-    false
+    text.chars().any(|c| c == '\\')
 }
 
 // The text without the backslashes that escape the character behind them. A last one that escapes nothing stays.
