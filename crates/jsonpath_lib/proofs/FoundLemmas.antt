@@ -1,9 +1,6 @@
 -- What several paths select together, path after path.
-use Rattle.std.proofs.Common.{◌≡◌, ℕ, ◌+◌, ◌<◌, ◌≤◌, List, [], ◌∷◌, ◌++◌, map, length, drop, get_or, refl, ap, ◌∙◌, sym, subst, append-nil}
-use Rattle.std.specs.Prelude.{◌↔◌, Contains}
-use Rattle.std.proofs.Math.ListN.{drop_of_length-le}
-use Rattle.std.proofs.lemmas.List.{drop_more, append_assoc}
-use Rattle.std.proofs.lemmas.List.{map-append}
+use Rattle.std.proofs.Common.{◌≡◌, ℕ, ◌+◌, ◌<◌, ◌≤◌, List, [], ◌∷◌, ◌++◌, map, length, drop, get_or, refl, ap, ◌∙◌, sym, subst, append-nil, ◌↔◌, Contains, drop_of_length-le}
+use Rattle.std.proofs.lemmas.List.{drop_more, append_assoc, map-append}
 use Rattle.jsonpath_select.specs.Meaning.{sel, SelectsSet}
 use Rattle.jsonpath_lib.specs.update.Masked.{AreSelected}
 use Rattle.jsonpath_nodes.specs.place.Order.{once_in_order}

@@ -1,6 +1,5 @@
 -- A path that is refused, or an answer, after the JSON text was read.
-use Rattle.std.proofs.Common.{ℕ, List, String, inr}
-use Rattle.std.specs.declared.alloc.Global.{Global}
+use Rattle.std.proofs.Common.{ℕ, List, String, inr, Global}
 use Rattle.serde_json.specs.Data.{Data}
 use Rattle.jsonpath_nodes.specs.document.OfData.{document_of}
 use Rattle.jsonpath_select.specs.ErrorCases.{IsRefusedBy}

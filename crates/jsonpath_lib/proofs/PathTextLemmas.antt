@@ -1,6 +1,5 @@
 -- Texts that are compiled one after the other: those that are done, and those that are left.
-use Rattle.std.proofs.Common.{◌≡◌, ℕ, ◌+◌, ◌<◌, ◌≤◌, List, [], ◌∷◌, ◌++◌, length, map, drop, get_or, All, Bor, Option, refl, sym, ap, ◌∙◌, subst, append-nil}
-use Rattle.std.proofs.Math.ListN.{drop_of_length-le}
+use Rattle.std.proofs.Common.{◌≡◌, ℕ, ◌+◌, ◌<◌, ◌≤◌, List, [], ◌∷◌, ◌++◌, length, map, drop, get_or, All, Bor, Option, refl, sym, ap, ◌∙◌, subst, append-nil, drop_of_length-le}
 use Rattle.std.proofs.lemmas.List.{drop_more, append_assoc}
 use Rattle.std.proofs.lemmas.List.Elements.{All-push}
 use Rattle.jsonpath_paths.specs.Spelling.{IsInGrammar}

@@ -84,8 +84,7 @@ pub fn masks_in_any_order()
     nulling_and_taking_ignore_order();
 }
 
-/// Lemma: the result of removing all values that several paths select depends only on the set of paths, not on their
-/// order or on repeats.
+/// Lemma: the result of removing all values that several paths select depends only on the set of paths.
 ///
 /// ```text
 /// laws::removes_in_any_order();

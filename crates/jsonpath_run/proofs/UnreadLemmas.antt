@@ -1,13 +1,11 @@
 -- An input has no answer where an unread number stands in what would be written.
-use Rattle.std.proofs.Common.{◌≡◌, ℕ, List, [], ◌∷◌, inr, map, Option, Some, None, sym, subst, ap, ◌∙◌, Result, Ok, Err, IfOk, IfErr, String, string_bytes}
-use Rattle.std.specs.declared.alloc.Global.{Global}
+use Rattle.std.proofs.Common.{◌≡◌, ℕ, List, [], ◌∷◌, inr, map, Some, None, sym, subst, ap, ◌∙◌}
 use Rattle.serde_json.specs.Data.{Data}
-use Rattle.jsonpath_nodes.specs.document.Document.{Document}
 use Rattle.jsonpath_nodes.specs.document.OfData.{document_of, DocumentsKeepDataApart}
 use Rattle.jsonpath_paths.specs.Spelling.{Spells}
 use Rattle.jsonpath_paths.specs.tree.Tree.{Path}
 use Rattle.jsonpath_select.specs.Meaning.{Selects}
-use Rattle.jsonpath_select.specs.selectors.Held.{IsTextRefusedFor}
+use Rattle.jsonpath_select.specs.answer.Given.{IsTextRefusedOf}
 use Rattle.jsonpath_select.specs.answer.AnswerText.{IsTextOf, list_text, document_text, IsDocumentTextRefused}
 use Rattle.jsonpath_select.specs.declared.error.JsonPathError.{JsonPathError}
 use Rattle.jsonpath_select.specs.declared.error.JsonPathError.TheVariants.{EmptyPath, EmptyValue, Path as path, Serde, OutOfMemory}
@@ -18,17 +16,12 @@ use Rattle.jsonpath_run.proofs.RefusalLemmas.{one_document, same_text}
 use Rattle.jsonpath_run.proofs.OneOutputLemmas.{same_data, one_selection_per_text, one_change}
 
 -- the text of what a command makes of a document is its answer
-answer_of : (command : Command) (paths : List (List ℕ)) (input line : List ℕ) (before after : Data) → IsTextOf input before → IsChange command paths (document_of before) (document_of after) → document_text after ≡ Some line → IsAnswer command paths input line
+pub answer_of : (command : Command) (paths : List (List ℕ)) (input line : List ℕ) (before after : Data) → IsTextOf input before → IsChange command paths (document_of before) (document_of after) → document_text after ≡ Some line → IsAnswer command paths input line
 answer_of Select paths input line before after read changed written = absurd changed
 answer_of Delete paths input line before after read changed written = record { before = before; after = after; read = read; changed = changed; written = written }
 answer_of Remove paths input line before after read changed written = record { before = before; after = after; read = read; changed = changed; written = written }
 answer_of Check paths input line before after read changed written = absurd changed
 answer_of Mask paths input line before after read changed written = record { before = before; after = after; read = read; changed = changed; written = written }
-
-pub changed_answer : (command : Command) (paths : List (List ℕ)) (input : List ℕ) (before after : Data) {E : Type 0} (r : Result (String Global) E)
-    → IsTextOf input before → IsChange command paths (document_of before) (document_of after) → IfOk r (λ text. document_text after ≡ Some (string_bytes text)) → IfOk r (λ text. IsAnswer command paths input (string_bytes text))
-changed_answer command paths input before after (Ok text) read changed written = answer_of command paths input (string_bytes text) before after read changed written
-changed_answer command paths input before after (Err e) read changed written = tt
 
 module _ (one_tree_per_text : (text : List ℕ) (p q : Path) → Spells text p → Spells text q → p ≡ q) (apart : DocumentsKeepDataApart) where
   no_values : (text input : List ℕ) (document : Data) (values : List Data) → IsTextOf input document → Selects text (document_of document) (map document_of values) → list_text values ≡ None → HasNoAnswer Select (text ∷ []) input
@@ -39,19 +32,13 @@ module _ (one_tree_per_text : (text : List ℕ) (p q : Path) → Spells text p �
       (one_selection_per_text one_tree_per_text apart text (document_of document) (map document_of s.values) (map document_of values) (subst (λ x. Selects text (document_of x) (map document_of s.values)) d s.selected) selected) in
       let e : Some line ≡ None = sym s.written ∙ ap list_text v ∙ unread in cc
 
-  unread_values : (text input : List ℕ) (document : Data) (error : JsonPathError)
-      → IsTextOf input document → IsTextRefusedFor (Some text) (Some (document_of document)) error → IsAnswerRefused Select (text ∷ []) input error
-  unread_values text input document EmptyPath read h = cc
-  unread_values text input document EmptyValue read h = let e = h.1 in cc
+  pub unread_values : (text input : List ℕ) (document : Data) (error : JsonPathError)
+      → IsTextOf input document → IsTextRefusedOf (Selects text (document_of document)) error → IsAnswerRefused Select (text ∷ []) input error
+  unread_values text input document EmptyPath read h = h
+  unread_values text input document EmptyValue read h = h
   unread_values text input document (path m) read h = h
   unread_values text input document (Serde m) read h = (no_values text input document h.0 read h.1 h.2, inr ((document, read), h.3))
   unread_values text input document OutOfMemory read h = tt
-
-  pub refused_select : (text input : List ℕ) (document : Data) (held : Option (List ℕ)) (value : Option Document) {A : Type 0} (r : Result A JsonPathError)
-      → IsTextOf input document → held ≡ Some text → value ≡ Some (document_of document) → IfErr r (IsTextRefusedFor held value) → IfErr r (IsAnswerRefused Select (text ∷ []) input)
-  refused_select text input document held value (Ok t) read p v h = tt
-  refused_select text input document held value (Err e) read p v h =
-      unread_values text input document e read (subst (λ x. IsTextRefusedFor x (Some (document_of document)) e) p (subst (λ x. IsTextRefusedFor held x e) v h))
 
   no_change : (command : Command) (paths : List (List ℕ)) (input line : List ℕ) (before after : Data) → IsTextOf input before → IsChange command paths (document_of before) (document_of after) → document_text after ≡ None → ¬ ChangesText command paths input line
   no_change command paths input line before after read changed unread s =
@@ -67,15 +54,10 @@ module _ (one_tree_per_text : (text : List ℕ) (p q : Path) → Spells text p �
   none_changed Check paths input before after read changed unread = absurd changed
   none_changed Mask paths input before after read changed unread = λ line a. no_change Mask paths input line before after read changed unread a
 
-  unread_change : (command : Command) (paths : List (List ℕ)) (input : List ℕ) (before after : Data) (error : JsonPathError)
+  pub unread_change : (command : Command) (paths : List (List ℕ)) (input : List ℕ) (before after : Data) (error : JsonPathError)
       → IsTextOf input before → IsChange command paths (document_of before) (document_of after) → IsDocumentTextRefused after error → IsAnswerRefused command paths input error
   unread_change command paths input before after EmptyPath read changed h = h
   unread_change command paths input before after EmptyValue read changed h = h
   unread_change command paths input before after (path m) read changed h = h
   unread_change command paths input before after (Serde m) read changed h = (none_changed command paths input before after read changed h.0, inr ((before, read), h.1))
   unread_change command paths input before after OutOfMemory read changed h = tt
-
-  pub refused_change : (command : Command) (paths : List (List ℕ)) (input : List ℕ) (before after : Data) {A : Type 0} (r : Result A JsonPathError)
-      → IsTextOf input before → IsChange command paths (document_of before) (document_of after) → IfErr r (IsDocumentTextRefused after) → IfErr r (IsAnswerRefused command paths input)
-  refused_change command paths input before after (Ok t) read changed h = tt
-  refused_change command paths input before after (Err e) read changed h = unread_change command paths input before after e read changed h

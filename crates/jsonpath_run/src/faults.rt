@@ -13,8 +13,7 @@ use std::fmt;
 /// ```
 #[derive(Debug, Drop)]
 pub enum Fault {
-    /// The command line is not valid: an unknown command, too few or too many arguments, or an argument that is not
-    /// UTF-8.
+    /// The command line is not valid: an unknown command, a wrong number of arguments, or one that is not UTF-8.
     Usage,
     /// A path or the input has an error, the output has a number that can't be printed, or memory ran out.
     Refused(JsonPathError),

@@ -2,7 +2,6 @@
 ghost use Rattle.std.specs.Prelude.{◌≡◌, ◌⊎◌, ◌↔◌, ◌≢◌, ℕ, List, [], ◌∷◌, ◌++◌, map, length, true, false, string_bytes, codes, Err, Some, IfOk, IfErr, OnOk};
 ghost use Rattle.serde_json.specs.View.{view};
 ghost use Rattle.jsonpath_nodes.specs.document.OfData.{document_of};
-ghost use Rattle.jsonpath_select.specs.selectors.Held.{IsTextFor, IsTextRefusedFor};
 ghost use Rattle.jsonpath_select.specs.answer.AnswerText.{IsTextOf, IsDocumentRefused, IsDocumentTextRefused, document_text};
 ghost use Rattle.jsonpath_select.specs.Targets.{IsDeleted};
 ghost use Rattle.jsonpath_run.specs.Words.{IsCount, IsUsage};
@@ -17,7 +16,7 @@ use jsonpath_nodes::{compute_paths, delete_at};
 use jsonpath_paths::PathParser;
 use jsonpath_paths::laws::one_tree_per_text;
 use jsonpath_select::{
-    AnyPath, JsonPathError, JsonSelector, document_to_text, read_document, select_path_in_any_order,
+    AnyPath, JsonPathError, document_to_text, read_document, select_path_in_any_order,
 };
 use jsonpath_streams::{Input, IoFailed, Output};
 use serde_json::Value;
@@ -40,6 +39,7 @@ use std::mem::forget;
 /// drop(writer);
 /// assert!(rt; output.as_slice() == "[1]\n".as_bytes());
 /// ```
+#[tactic(auto, using(crate::proofs::RefusalLemmas::none_outside))]
 pub fn run<R: Input, W: Output>(
     alloc: Global,
     words: &[&str],
@@ -137,27 +137,14 @@ fn output_for_command(
     ensures refused { IfErr result (IsAnswerRefused command paths.entry.items input.items) }
 {
     let mut text = match command {
-        Command::Check => match String::from_str(alloc, "ok") {
-            Ok(text) => text,
-            Err(_) => return Err(JsonPathError::OutOfMemory),
-        },
-        Command::Select => selected_text(alloc, only_path(paths), input)?,
+        Command::Check => String::from_str(alloc, "ok")?,
+        Command::Select => selected_text(alloc, &paths[0], input)?,
         Command::Delete | Command::Remove | Command::Mask => {
             changed_text(alloc, command, paths.as_slice(), input)?
         }
     };
-    match text.push('\n') {
-        Ok(()) => Ok(text),
-        Err(_) => Err(JsonPathError::OutOfMemory),
-    }
-}
-
-// The path of a command that takes one path.
-fn only_path(mut paths: Vec<PathParser<'_>>) -> PathParser<'_>
-    requires { length paths.items ≡ 1 }
-    ensures { paths.entry.items ≡ result ∷ [] }
-{
-    paths.swap_remove(0)
+    text.push('\n')?;
+    Ok(text)
 }
 
 // The text of the list of values that the path selects in the document that the input is the text of. The document is
@@ -165,33 +152,19 @@ fn only_path(mut paths: Vec<PathParser<'_>>) -> PathParser<'_>
 #[tactic(auto, using(crate::proofs::RefusalLemmas::refused_read))]
 fn selected_text(
     alloc: Global,
-    path: PathParser<'_>,
+    path: &PathParser<'_>,
     input: Vec<u8>,
 ) -> Result<String, JsonPathError>
     ensures ok { IfOk result
-        (λ text. IsAnswer Command.Select (path.entry ∷ []) input.items (string_bytes text)) }
-    ensures refused { IfErr result (IsAnswerRefused Command.Select (path.entry ∷ []) input.items) }
+        (λ text. IsAnswer Command.Select (path.now ∷ []) input.items (string_bytes text)) }
+    ensures refused { IfErr result (IsAnswerRefused Command.Select (path.now ∷ []) input.items) }
 {
     one_tree_per_text();
     documents_keep_data_apart();
     let document = document_of_input(alloc, input)?;
-    let text = selected_text_in_document(alloc, path, &document);
+    let text = path.select_as_str(alloc, &document);
     forget(document);
     text
-}
-
-// The text of the list of values that the path selects in the document.
-fn selected_text_in_document(
-    alloc: Global,
-    path: PathParser<'_>,
-    document: &Value,
-) -> Result<String, JsonPathError>
-    ensures ok { IfOk result
-        (λ text. IsTextFor (Some path.entry) (Some (document_of (view document.now))) (string_bytes text)) }
-    ensures refused { IfErr result (IsTextRefusedFor (Some path.entry) (Some (document_of (view document.now)))) }
-{
-    let mut selector = JsonSelector::new(alloc, path)?;
-    selector.value(document).select_as_str(alloc)
 }
 
 // The text of the document that the input is the text of, changed as `delete`, `remove` or `mask` asks.
@@ -237,8 +210,7 @@ fn change_by_command(
     }
 }
 
-// Puts null at what the path selects below the root. The locations are not dropped, which would take time: the program
-// ends soon.
+// Puts null at what the path selects below the root. The locations are not dropped, which would take time.
 fn delete_at_path(
     alloc: Global,
     path: &PathParser<'_>,

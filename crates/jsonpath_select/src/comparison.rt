@@ -1,5 +1,4 @@
-//! Comparisons: the candidates at which one holds, and whether some left and some right value satisfy it, found without
-//! comparing every pair.
+//! Comparisons: the candidates at which one holds, found without comparing every left with every right value.
 
 pub(crate) mod atoms;
 pub(crate) mod comparer;

@@ -120,10 +120,7 @@ impl JsonPathError {
 fn position_in_message(message: &str) -> Option<usize>
     ensures { IsPositionIn message.now result }
 {
-    match caret_row_length(message) {
-        Some(carets) => Some(carets),
-        None => number_in_message(message),
-    }
+    caret_row_length(message).or_else(|| number_in_message(message))
 }
 
 // The number behind `Position:`, if the message of a path's refusal begins so.
@@ -143,11 +140,8 @@ fn path_with_carets_of_message(
 ) -> Result<String, AllocError>
     ensures { IfOk result (λ text. IsMarked path.now message.now (string_bytes text)) }
 {
-    let carets = match position_in_message(message) {
-        Some(at) => at.min(path.len()),
-        None => path.len(),
-    };
-    path_with_caret_row(alloc, path, carets)
+    let end = position_in_message(message).unwrap_or(path.len());
+    path_with_caret_row(alloc, path, end.min(path.len()))
 }
 
 /// Converts a token error: `Eof` and `Position` to `Path`, with the message `Eof` or `Position:` and the byte position;
@@ -165,10 +159,7 @@ pub fn path_error(alloc: Global, error: &TokenError) -> JsonPathError
         TokenError::Eof => String::from_str(alloc, "Eof"),
         TokenError::Position(at) => format!(in alloc; "Position:{at}"),
     };
-    match message {
-        Ok(message) => JsonPathError::Path(message),
-        Err(_) => JsonPathError::OutOfMemory,
-    }
+    message.map_or(JsonPathError::OutOfMemory, JsonPathError::Path)
 }
 
 /// Converts an error of `Parser`: `Text` to `Path` with a copy of its message, `OutOfMemory` to itself. If memory runs
@@ -186,10 +177,10 @@ pub fn error_of_parse_fault(alloc: Global, fault: &ParseFault) -> JsonPathError
     let ParseFault::Text(message) = fault else {
         return JsonPathError::OutOfMemory;
     };
-    match String::from_str(alloc, message.as_str()) {
-        Ok(message) => JsonPathError::Path(message),
-        Err(_) => JsonPathError::OutOfMemory,
-    }
+    String::from_str(alloc, message.as_str()).map_or(
+        JsonPathError::OutOfMemory,
+        JsonPathError::Path,
+    )
 }
 
 /// Converts an error of `Parser`: `Text` to `Path` with the same message, `OutOfMemory` to itself. Allocates no memory.
@@ -250,8 +241,5 @@ pub(crate) fn serde_error(alloc: Global, error: &SerdeError) -> JsonPathError
     if error.is_memory() {
         return JsonPathError::OutOfMemory;
     }
-    match format!(in alloc; "{error}") {
-        Ok(message) => JsonPathError::Serde(message),
-        Err(_) => JsonPathError::OutOfMemory,
-    }
+    format!(in alloc; "{error}").map_or(JsonPathError::OutOfMemory, JsonPathError::Serde)
 }

@@ -13,8 +13,7 @@ use jsonpath_paths::laws::{
     connective_joins_conditions, longest_front, one_tree_per_text, word_is_first_token,
 };
 
-/// Lemma: a path text always selects the same list in a document, whichever type, such as `Selector` or `JsonSelector`,
-/// is used to select.
+/// Lemma: a path text always selects the same list in a document, whichever type is used to select.
 ///
 /// ```text
 /// laws::one_selection_per_text();
@@ -105,8 +104,7 @@ pub fn one_location_answers_one_value()
     one_tree_per_text();
 }
 
-/// Lemma: a path text has only one syntax tree; so if a tree is a syntax tree of the text, what the text selects can be
-/// computed from that tree.
+/// Lemma: a path text has only one syntax tree; so what the text selects can be computed from any syntax tree of it.
 ///
 /// ```text
 /// laws::selects_by_any_tree();

@@ -1,5 +1,4 @@
-//! The machine that runs token lists, and how the locations that its plain steps select are related; whole paths are
-//! run in `filters`.
+//! The machine that runs token lists, and how the locations of its plain steps are related; `filters` runs whole paths.
 
 pub(crate) mod by_sets;
 pub(crate) mod execute_instruction;

@@ -1,5 +1,4 @@
-//! What the machine and the walks share of steps: the node references between steps, and plain steps, with their
-//! names and indexes.
+//! What the machine and the walks share of steps: the node references between steps, and plain steps.
 
 pub(crate) mod carried_mark;
 pub(crate) mod distinct_selections;

@@ -183,8 +183,7 @@ pub fn spelling_of<P: AnyPath>(path: &P) -> &str
     path.parts().text
 }
 
-/// The text of a `Node`, which is a compiled path that owns its text. Contracts (proved specifications) refer to this
-/// text as `spelling`.
+/// The text of a `Node`, a compiled path that owns its text. Contracts refer to this text as `spelling`.
 pub fn spelling_of_node(path: &Node) -> &str
     ensures { result.now ≡ path.now }
 {
@@ -198,8 +197,7 @@ pub fn spelling_of_shared<P: AnyPath>(path: &Rc<P>) -> &str
     spelling_of(path)
 }
 
-/// The text from which a `Compiled` or a `PathCompiled` was compiled. Contracts (proved specifications) refer to this
-/// text as `spelling`.
+/// The text from which a `Compiled` or a `PathCompiled` was compiled. Contracts refer to it as `spelling`.
 pub fn spelling_of_kept<P: AnyPath>(path: &KeptPath<P>) -> &str
     ensures { result.now ≡ path.now }
 {

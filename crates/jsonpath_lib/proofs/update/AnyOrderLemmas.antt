@@ -1,6 +1,5 @@
 -- Masking and removing by two lists of the same paths, in whatever order, with or without repeats.
-use Rattle.std.proofs.Common.{◌≡◌, ℕ, zero, suc, ◌<◌, List, [], ◌∷◌, length, get_or, refl, sym, ap, subst, ◌∙◌, inl, inr, arith}
-use Rattle.std.specs.Prelude.{Contains, ◌↔◌}
+use Rattle.std.proofs.Common.{◌≡◌, ℕ, zero, suc, ◌<◌, List, [], ◌∷◌, length, get_or, refl, sym, ap, subst, ◌∙◌, inl, inr, arith, Contains, ◌↔◌}
 use Rattle.std.proofs.lemmas.List.Elements.{Contains-append_left, Contains-append_right, Contains-append_cases}
 use Rattle.jsonpath_nodes.specs.document.Document.{Document}
 use Rattle.jsonpath_paths.specs.Spelling.{Spells}
@@ -19,7 +18,6 @@ selected_by_one (s ∷ ss) doc ls l h there =
     elim (Contains-append_cases (sel s doc h.0) h.1 l (subst (λ ms. Contains ms l) h.4 there)) [
       | inl here ↦ (s, h.0, (0, omega arith, refl), h.2, here)
       | inr later ↦ let one = selected_by_one ss doc h.1 l h.3 later in
-          let lt = one.2.1 in
           (one.0, one.1, (suc one.2.0, omega arith, one.2.2), one.3, one.4)
     ]
 

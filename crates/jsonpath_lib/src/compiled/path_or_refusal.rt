@@ -1,5 +1,4 @@
-//! `CompiledPath`, the result of compiling a path text for many documents: the path, or an error that each call
-//! returns.
+//! `CompiledPath`, a path text compiled for many documents: the path, or an error that each call returns.
 ghost use Rattle.std.specs.Prelude.{◌≡◌, Ok, MatchResult, map, IfOk, IfErr};
 ghost use Rattle.serde_json.specs.View.{view};
 ghost use Rattle.jsonpath_nodes.specs.document.OfData.{document_of};

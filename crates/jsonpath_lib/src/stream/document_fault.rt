@@ -81,8 +81,7 @@ impl fmt::Debug for DocumentFault {
 
 impl Error for DocumentFault {}
 
-/// Converts the error to its field `error`, a message with the line and column, or `OutOfMemory`; the other fields are
-/// dropped.
+/// Converts the error to its field `error`, a message with the line and column, or `OutOfMemory`.
 impl From<DocumentFault> for JsonPathError {
     ghost from_gives = { λ fault error. error ≡ fault.error };
 

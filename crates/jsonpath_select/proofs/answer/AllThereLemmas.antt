@@ -1,15 +1,14 @@
 -- Each location that a path selects holds a value.
-use Rattle.std.proofs.Common.{◌≡◌, ◌≤◌, ◌<◌, ◌+◌, ℕ, zero, suc, Bool, true, false, List, [], ◌∷◌, ◌++◌, map, filter, filter_map, flat_map, Option, Some, None, option_and_then, cond, refl, sym, ap, ◌∙◌, arith}
-use Rattle.std.specs.Prelude.{is_some, unwrap_or, option_map}
-use Rattle.std.specs.List.{list_all, list_any}
+use Rattle.std.proofs.Common.{◌≡◌, ◌≤◌, ◌<◌, ◌+◌, ℕ, zero, suc, Bool, true, false, List, [], ◌∷◌, ◌++◌, map, filter, filter_map, flat_map, Option, Some, None, option_and_then, cond, refl, sym, ap, ◌∙◌, arith, is_some, unwrap_or, option_map}
+use Rattle.std.specs.List.{list_all}
 use Rattle.std.proofs.lemmas.Bool.{and_from, and_parts}
+use Rattle.std.proofs.lemmas.List.Elements.{All-filter}
 use Rattle.std.proofs.lemmas.List.Folds.{list_all-append}
+use Rattle.std.proofs.lemmas.List.Sums.{AllPass-from_list_all, list_all-from_AllPass}
 use Rattle.jsonpath_nodes.specs.document.Document.{Document, array, object, Items, no_items, item, Members, no_members, member}
-use Rattle.jsonpath_nodes.specs.place.Location.{Step, name, index, Location, child, at, flat, flat_items, is_same, children, names, indexes_from}
+use Rattle.jsonpath_nodes.specs.place.Location.{Step, name, index, Location, child, at, flat, flat_items, children, names, indexes_from}
 use Rattle.jsonpath_nodes.specs.document.Find.{items_len, get_item, get_member}
-use Rattle.std.proofs.Common.{Ordering, Less, Equal, Greater, nat_cmp}
 use Rattle.std.specs.Ordering.{match_ordering}
-use Rattle.std.specs.Cmp.Lexicographic.{slice_cmp}
 use Rattle.std.proofs.lemmas.Cmp.{nat_list_cmp_total, tied_itself}
 use Rattle.jsonpath_nodes.specs.step.Steps.{Plain, every, named, listed, nth, union, range, selected, single_steps, step, all_below, present, nth_of, abs_index, length_of, count_up, from, from_each, each_once_after, flattened}
 use Rattle.jsonpath_paths.specs.tree.Tree.{path, PathSteps, no_steps, step_then, Inner, plain, filter as with_filter}
@@ -22,12 +21,7 @@ module _ {X : Type 0} (P : X → Bool) where
   all_both xs ys h i = list_all-append P xs ys ∙ and_from (list_all P xs) (list_all P ys) h i
 
   all_filter : (Q : X → Bool) (xs : List X) → list_all P xs ≡ true → list_all P (filter Q xs) ≡ true
-  all_filter Q [] h = refl
-  all_filter Q (x ∷ xs) h = let both = and_parts (P x) (list_all P xs) h in by_test (Q x) both.0 (all_filter Q xs both.1)
-    where
-      by_test : (b : Bool) → P x ≡ true → list_all P (filter Q xs) ≡ true → list_all P (cond b (x ∷ filter Q xs) (filter Q xs)) ≡ true
-      by_test true here later = and_from (P x) _ here later
-      by_test false here later = later
+  all_filter Q xs h = list_all-from_AllPass P (filter Q xs) (All-filter Q (λ x. P x ≡ true) xs (AllPass-from_list_all P xs h))
 
   all_flat_map : {Y : Type 0} (f : Y → List X) → ((y : Y) → list_all P (f y) ≡ true) → (ys : List Y) → list_all P (flat_map f ys) ≡ true
   all_flat_map f h [] = refl
@@ -41,11 +35,7 @@ all_there doc ls = list_all (is_there doc) ls
 
 pub at_more : (l m : Location) (d : Document) → at d (l ++ m) ≡ option_and_then (λ c. at c m) (at d l)
 at_more [] m d = refl
-at_more (s ∷ l) m d = by_child (child s d) (at_more l m)
-  where
-    by_child : (o : Option Document) → ((c : Document) → at c (l ++ m) ≡ option_and_then (λ e. at e m) (at c l)) → option_and_then (λ c. at c (l ++ m)) o ≡ option_and_then (λ e. at e m) (option_and_then (λ c. at c l) o)
-    by_child None later = refl
-    by_child (Some c) later = later c
+at_more (s ∷ l) m d = grind (arith, at_more l m)
 
 behind_there : (doc d : Document) (l : Location) → at doc l ≡ Some d → (ms : List Location) → all_there d ms ≡ true → all_there doc (map (λ m. l ++ m) ms) ≡ true
 unfolding all_there is_there
@@ -70,25 +60,13 @@ from_each_there doc f h ls = all_flat_map (is_there doc) (from doc f) (from_ther
 pub once_there : (doc : Document) (before ls : List Location) → all_there doc ls ≡ true → all_there doc (each_once_after before ls) ≡ true
 unfolding all_there
 once_there doc before [] h = refl
-once_there doc before (l ∷ ls) h =
-    let both = and_parts (is_there doc l) (list_all (is_there doc) ls) h in
-    by_test (list_any (is_same l) before) both.0 (once_there doc before ls both.1) (once_there doc (before ++ l ∷ []) ls both.1)
-  where
-    by_test : (b : Bool) → is_there doc l ≡ true → all_there doc (each_once_after before ls) ≡ true → all_there doc (each_once_after (before ++ l ∷ []) ls) ≡ true
-        → all_there doc (cond b (each_once_after before ls) (l ∷ each_once_after (before ++ l ∷ []) ls)) ≡ true
-    by_test true here same more = same
-    by_test false here same more = and_from (is_there doc l) _ here more
+once_there doc before (l ∷ ls) h = grind (arith, once_there doc before ls, once_there doc (before ++ l ∷ []) ls)
 
 -- as many values as locations, in their order
 pub values_each : (doc : Document) (ls : List Location) → all_there doc ls ≡ true → map (λ d. Some d) (filter_map (at doc) ls) ≡ map (at doc) ls
 unfolding all_there is_there
 values_each doc [] h = refl
-values_each doc (l ∷ ls) h = let both = and_parts (is_some (at doc l)) _ h in by_value (at doc l) refl both.0 (values_each doc ls both.1)
-  where
-    by_value : (o : Option Document) → at doc l ≡ o → is_some o ≡ true → map (λ d. Some d) (filter_map (at doc) ls) ≡ map (at doc) ls
-        → map (λ d. Some d) (filter_map (at doc) (l ∷ ls)) ≡ o ∷ map (at doc) ls
-    by_value None e some later = cc some
-    by_value (Some d) e some later = rw e (ap (λ ds. Some d ∷ ds) later)
+values_each doc (l ∷ ls) h = grind (arith, values_each doc ls)
 
 -- ---- one step
 
@@ -98,21 +76,11 @@ child_there d s = is_some (child s d)
 singles_there : (d : Document) (ss : List Step) → list_all (child_there d) ss ≡ true → all_there d (map (λ s. s ∷ []) ss) ≡ true
 unfolding all_there is_there child_there
 singles_there d [] h = refl
-singles_there d (s ∷ ss) h =
-    let both = and_parts (is_some (child s d)) (list_all (child_there d) ss) h in
-    and_from _ _ (by_child (child s d) both.0) (singles_there d ss both.1)
-  where
-    by_child : (o : Option Document) → is_some o ≡ true → is_some (option_and_then (λ c. Some c) o) ≡ true
-    by_child None e = e
-    by_child (Some c) e = refl
+singles_there d (s ∷ ss) h = grind (arith, singles_there d ss)
 
 present_there : (d : Document) (s : Step) → list_all (child_there d) (present d s) ≡ true
 unfolding child_there
-present_there d s = by_test (is_some (child s d)) refl
-  where
-    by_test : (b : Bool) → is_some (child s d) ≡ b → list_all (child_there d) (cond b (s ∷ []) []) ≡ true
-    by_test true e = and_from (is_some (child s d)) true e refl
-    by_test false e = refl
+present_there d s = grind arith
 
 item_within : (i : ℕ) (ds : Items) → i < items_len ds → is_some (get_item i ds) ≡ true
 item_within i no_items h = absurd (omega arith)
@@ -136,12 +104,7 @@ indexes_there whole n (item d ds) tail = and_from _ _ (ap is_some (tail_first wh
 
 -- what the later members have, all of them have
 later_member : (k j : List ℕ) (d : Document) (ms : Members) → is_some (get_member k ms) ≡ true → is_some (get_member k (member j d ms)) ≡ true
-later_member k j d ms h = by_order (slice_cmp nat_cmp k j)
-  where
-    by_order : (o : Ordering) → is_some (match_ordering o (get_member k ms) (Some d) (get_member k ms)) ≡ true
-    by_order Less = h
-    by_order Equal = refl
-    by_order Greater = h
+later_member k j d ms h = grind arith
 
 names_there : (whole ms : Members) → ((k : List ℕ) → is_some (get_member k ms) ≡ true → is_some (get_member k whole) ≡ true) → list_all (child_there (object whole)) (names ms) ≡ true
 unfolding child_there
@@ -162,12 +125,7 @@ index_there _ i h = absurd (omega arith)
 counted_there : (d : Document) (test : ℕ → Bool) (n k : ℕ) → n + k ≤ length_of d → list_all (child_there d) (map index (filter test (count_up n k))) ≡ true
 unfolding child_there
 counted_there d test n zero h = refl
-counted_there d test n (suc k) h = by_test (test n) (counted_there d test (suc n) k (omega arith))
-  where
-    by_test : (b : Bool) → list_all (child_there d) (map index (filter test (count_up (suc n) k))) ≡ true
-        → list_all (child_there d) (map index (cond b (n ∷ filter test (count_up (suc n) k)) (filter test (count_up (suc n) k)))) ≡ true
-    by_test true later = and_from _ _ (index_there d n (omega arith)) later
-    by_test false later = later
+counted_there d test n (suc k) h = grind (arith, counted_there d test (suc n) k (omega arith), index_there d n (omega arith))
 
 selected_there : (p : Plain) (d : Document) → list_all (child_there d) (selected p d) ≡ true
 selected_there every d = children_there d

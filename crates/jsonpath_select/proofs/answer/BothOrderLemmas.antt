@@ -1,8 +1,6 @@
 -- Two conditions in parentheses and a connective select the same list in both orders.
-use Rattle.std.proofs.Common.{◌≡◌, ◌+◌, ◌||◌, Bool, false, ℕ, List, [], ◌∷◌, map, inl, refl, sym, ap, ap₂, ◌∙◌, filter_map}
+use Rattle.std.proofs.Common.{◌≡◌, ◌+◌, ◌||◌, Bool, false, ℕ, List, [], ◌∷◌, map, inl, refl, sym, ap, ap₂, ◌∙◌, filter_map, filter, if◌then◌else◌, IsUtf8, chars, encode_utf8_all}
 use Rattle.std.proofs.Math.Bool.{or_comm}
-use Rattle.std.specs.Prelude.{filter, if◌then◌else◌}
-use Rattle.std.specs.Str.{IsUtf8, chars, encode_utf8_all}
 use Rattle.jsonpath_nodes.specs.document.Document.{Document}
 use Rattle.jsonpath_paths.specs.tree.Alike.{IsSameAt, AreSameAt, AlikeToken, same_key, same_keys, AlikePath, alike_path, AlikeSteps, alike_end, alike_step, AlikeInner, alike_plain, alike_filter, AlikeCondition, alike_lone, alike_compare, alike_join, AlikeTerm, alike_at_path, alike_literal}
 use Rattle.jsonpath_paths.specs.tree.Joined.{filter_text, joined_text, filter_path, JoinsSides}

@@ -1,8 +1,7 @@
 -- Names behind dots are a path that selects just where they lead.
-use Rattle.std.proofs.Common.{◌≡◌, ◌≤◌, ◌+◌, ℕ, suc, Bool, true, false, not, ◌&&◌, ◌||◌, ◌==◌, List, [], ◌∷◌, ◌++◌, length, drop, map, Some, None, refl, sym, subst, ap, ◌∙◌, arith}
+use Rattle.std.proofs.Common.{◌≡◌, ◌≤◌, ◌+◌, ℕ, suc, true, false, not, ◌&&◌, List, [], ◌∷◌, ◌++◌, length, drop, map, Some, None, refl, sym, subst, ap, ◌∙◌, arith, chars, IsUtf8, IsAscii, encode_utf8_all}
 use Rattle.std.specs.Char.{is_ascii}
 use Rattle.std.specs.List.{list_all}
-use Rattle.std.specs.Str.{chars, IsUtf8, IsAscii, encode_utf8_all}
 use Rattle.std.proofs.lemmas.Bool.{and_from, and_parts, ltb-true, not-true}
 use Rattle.std.proofs.lemmas.List.Folds.{list_all-append}
 use Rattle.std.proofs.lemmas.Str.{encodes-IsAscii, chars-IsAscii, encodes-append, IsUtf8-from_ascii}
@@ -15,7 +14,7 @@ use Rattle.jsonpath_paths.specs.token.Kinds.{IsFirst, HasNone, all_pass, begins_
 use Rattle.jsonpath_paths.specs.token.Reading.{first}
 use Rattle.jsonpath_paths.specs.Spelling.{Spells}
 use Rattle.jsonpath_paths.specs.text.Spans.{slice_at}
-use Rattle.jsonpath_paths.specs.text.Characters.{byte_len, name_of, is_stop_character, is_quote, goes_on, dollar}
+use Rattle.jsonpath_paths.specs.text.Characters.{byte_len, name_of, is_quote, goes_on}
 use Rattle.jsonpath_paths.specs.token.Tokens.{TokensAt, no_token, lexeme}
 use Rattle.jsonpath_paths.specs.tree.Tree.{Path, path, PathSteps, no_steps, step_then, plain}
 use Rattle.jsonpath_paths.specs.declared.text.str_reader.StrRange.{StrRange}
@@ -55,12 +54,7 @@ module _ (c : ℕ) (cs : List ℕ) (h : is_dot_name (c ∷ cs) ≡ true) where
   name_goes_on = (and_parts (not (begins_none c)) (all_pass goes_on cs) name_word).1
 
   no_quote : is_quote c ≡ false
-  no_quote = by_test (is_stop_character c) (c == dollar) (is_quote c) name_begins
-    where
-      by_test : (a b q : Bool) → (a || b || q) ≡ false → q ≡ false
-      by_test true b q e = cc
-      by_test false true q e = cc
-      by_test false false q e = e
+  no_quote = grind (arith, name_begins)
 
   -- a word means itself
   name_itself : name_of (c ∷ cs) ≡ c ∷ cs

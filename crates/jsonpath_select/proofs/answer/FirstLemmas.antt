@@ -1,9 +1,7 @@
 -- The first value of an answer, from marks that begin as it does, and whether an answer has any, from its set.
-use Rattle.std.proofs.Common.{◌≡◌, ◌==◌, Bool, List, [], ◌∷◌, map, take, length, Option, Some, None, refl, sym, ap, ◌∙◌, subst, arith}
+use Rattle.std.proofs.Common.{◌≡◌, ◌==◌, Bool, List, [], ◌∷◌, map, take, length, Option, Some, None, refl, sym, ap, ◌∙◌, subst, arith, filter_map, option_map, is_some, not, Contains, slice_get}
 use Rattle.std.proofs.Math.Dec.{eqb-suc-zero}
 use Rattle.std.proofs.lemmas.List.{length-map}
-use Rattle.std.specs.Prelude.{filter_map, option_map, is_some, not, Contains}
-use Rattle.std.specs.List.{slice_get}
 use Rattle.jsonpath_nodes.specs.document.Document.{Document}
 use Rattle.jsonpath_nodes.specs.DocumentLaws.{OnceInOrderKeepsMembers}
 use Rattle.jsonpath_nodes.specs.place.Location.{Location, at}

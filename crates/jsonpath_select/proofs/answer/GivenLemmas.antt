@@ -1,6 +1,5 @@
 -- What is told of the data of some values is told of an answer by their documents.
-use Rattle.std.proofs.Common.{◌≡◌, ℕ, List, map, length, false, Result, Ok, Err, IfOk, IfErr, OnOk, String, Global, string_bytes, Some, sym, ◌∙◌, subst}
-use Rattle.std.specs.Borrow.{Bor}
+use Rattle.std.proofs.Common.{◌≡◌, ℕ, List, map, length, false, Result, Ok, Err, IfOk, IfErr, OnOk, String, Global, string_bytes, Some, sym, ◌∙◌, subst, Bor}
 use Rattle.std.proofs.lemmas.List.{length-map}
 use Rattle.std.proofs.lemmas.Result.{IfOk-weaker, IfErr-weaker}
 use mathlib.Core.List.{map-map}

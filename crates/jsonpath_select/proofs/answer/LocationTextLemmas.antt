@@ -1,8 +1,6 @@
 -- The text of a location is a path that selects just this location.
-use Rattle.std.proofs.Common.{◌≡◌, ◌≤◌, ◌<◌, ◌+◌, ◌-◌, ◌^◌, ◌==◌, ℕ, zero, suc, pos, min, Bool, true, false, ◌&&◌, ◌||◌, List, [], ◌∷◌, ◌++◌, length, take, drop, map, Option, Some, None, option_and_then, cond, refl, sym, subst, ap, ◌∙◌, arith, leb, ltb, length-append, append-nil, append_assoc}
-use Rattle.std.specs.Prelude.{option_map, is_some, unwrap_or}
+use Rattle.std.proofs.Common.{◌≡◌, ◌≤◌, ◌<◌, ◌+◌, ◌-◌, ◌^◌, ◌==◌, ℕ, zero, suc, pos, min, Bool, true, false, ◌&&◌, ◌||◌, List, [], ◌∷◌, ◌++◌, length, take, drop, map, Option, Some, None, option_and_then, cond, refl, sym, subst, ap, ◌∙◌, arith, leb, ltb, length-append, append-nil, append_assoc, option_map, is_some, unwrap_or, decimal}
 use Rattle.std.specs.Char.{is_ascii_digit}
-use Rattle.std.specs.Fmt.{decimal}
 use Rattle.std.specs.List.{prefix_len}
 use Rattle.std.specs.Str.{chars, IsAscii, IsUtf8, encode_utf8_all, all_ascii_digits}
 use Rattle.std.specs.Str.Parse.{digits_value}
@@ -143,12 +141,7 @@ unescaped_past c (d ∷ cs) h = rw h refl
 
 unguarded : (cs : List ℕ) → unescaped (guarded cs) ≡ cs
 unguarded [] = refl
-unguarded (c ∷ cs) = by_test (c == 39) (c == 92) refl (unguarded cs)
-  where
-    by_test : (a b : Bool) → (c == 92) ≡ b → unescaped (guarded cs) ≡ cs → unescaped (cond (a || b) (92 ∷ c ∷ []) (c ∷ []) ++ guarded cs) ≡ c ∷ cs
-    by_test true b slash h = ap (λ ds. c ∷ ds) h
-    by_test false true slash h = ap (λ ds. c ∷ ds) h
-    by_test false false slash h = unescaped_past c (guarded cs) slash ∙ ap (λ ds. c ∷ ds) h
+unguarded (c ∷ cs) = grind (arith, unguarded cs, unescaped_past c (guarded cs))
 
 -- the name between the quotes
 name_inside : (cs : List ℕ) → name_of (39 ∷ inside cs) ≡ cs

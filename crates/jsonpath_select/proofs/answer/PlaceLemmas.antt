@@ -1,5 +1,5 @@
 -- What follows for a caller: a text that selects one location, and one that spells a tree.
-use Rattle.std.proofs.Common.{◌≡◌, ℕ, List, [], ◌∷◌, Option, Some, None, filter_map, cond, is_some, option_to_list, refl, sym, ap, ◌∙◌}
+use Rattle.std.proofs.Common.{◌≡◌, ℕ, List, filter_map, option_to_list, refl, sym, ap, ◌∙◌, arith}
 use Rattle.jsonpath_nodes.specs.document.Document.{Document}
 use Rattle.jsonpath_paths.specs.Spelling.{Spells}
 use Rattle.jsonpath_paths.specs.tree.Tree.{Path}
@@ -9,11 +9,7 @@ use Rattle.jsonpath_select.specs.Meaning.{sel, answer}
 use Rattle.jsonpath_select.specs.declared.error.JsonPathError.TheVariants.{EmptyPath, EmptyValue, Path as PathRefused, Serde, OutOfMemory}
 
 value_there : (doc : Document) (l : Location) → filter_map (at doc) (where_it_is doc l) ≡ option_to_list (at doc l)
-value_there doc l = by_value (at doc l) refl
-  where
-    by_value : (o : Option Document) → at doc l ≡ o → filter_map (at doc) (cond (is_some o) (l ∷ []) []) ≡ option_to_list o
-    by_value None e = refl
-    by_value (Some d) e = rw e refl
+value_there doc l = grind arith
 
 module _ (one_tree_per_text : (text : List ℕ) (p q : Path) → Spells text p → Spells text q → p ≡ q) where
   pub one_location_answers_one_value : AnswersPlace

@@ -1,7 +1,6 @@
 -- Paths that differ in the order of the sides of connectives alone select the same list.
-use Rattle.std.proofs.Common.{◌≡◌, ℕ, Bool, ◌&&◌, ◌||◌, not, List, [], ◌∷◌, inl, inr, refl, ap, ap₂, ◌∙◌}
+use Rattle.std.proofs.Common.{◌≡◌, ℕ, Bool, ◌&&◌, ◌||◌, not, List, [], ◌∷◌, inl, inr, refl, ap, ap₂, ◌∙◌, filter, if◌then◌else◌}
 use Rattle.std.proofs.Math.Bool.{and_comm, or_comm}
-use Rattle.std.specs.Prelude.{filter, if◌then◌else◌}
 use Rattle.jsonpath_nodes.specs.document.Document.{Document}
 use Rattle.jsonpath_paths.specs.tree.Tree as tree
 use Rattle.jsonpath_paths.specs.tree.Tree.{Path, path, PathSteps, no_steps, step_then, Inner, plain, Condition, lone, compare, join, Term, at_path, literal}

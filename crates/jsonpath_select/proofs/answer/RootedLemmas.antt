@@ -1,6 +1,5 @@
 -- What begins at the root is the same at every candidate.
-use Rattle.std.proofs.Common.{◌≡◌, ℕ, List, [], ◌∷◌, Bool, true, false, cond, refl, ap, ap₂, ◌∙◌}
-use Rattle.std.specs.Prelude.{filter, IsTrue}
+use Rattle.std.proofs.Common.{◌≡◌, ℕ, List, [], ◌∷◌, Bool, true, false, cond, refl, ap, ap₂, ◌∙◌, filter, IsTrue}
 use Rattle.std.proofs.lemmas.Bool.{and_parts}
 use Rattle.jsonpath_nodes.specs.document.Document.{Document}
 use Rattle.jsonpath_paths.specs.tree.Tree.{Path, path, lone, compare, join, Term, at_path, literal}

@@ -1,10 +1,7 @@
 -- What stands at a span that begins and ends between characters.
-use Rattle.std.proofs.Common.{◌≡◌, ◌≤◌, ◌<◌, ◌+◌, ℕ, Bool, true, false, not, ◌||◌, List, ◌++◌, length, take, drop, refl, sym, subst, ap, ◌∙◌, arith, length-append, length-drop, leb, ltb}
-use Rattle.std.specs.Prelude.{slice_index}
-use Rattle.std.specs.Str.{chars, IsUtf8, IsCharBoundary}
+use Rattle.std.proofs.Common.{◌≡◌, ◌≤◌, ◌<◌, ◌+◌, ℕ, Bool, true, false, not, ◌||◌, List, ◌++◌, length, take, drop, refl, sym, subst, ap, ◌∙◌, arith, length-append, length-drop, leb, ltb, slice_index, chars, IsUtf8, IsCharBoundary, drop-drop}
 use Rattle.std.proofs.lemmas.Bool.{and_from, le-leb, ltb-true}
 use Rattle.std.proofs.lemmas.Bool.Decides.{nat_tests}
-use Rattle.std.proofs.lemmas.List.{drop-drop}
 use Rattle.std.proofs.lemmas.Str.{chars-encodes, IsCharBoundary-from_drop}
 use Rattle.std.proofs.Math.Seq.{drop-append_seam, take-append_seam}
 use lib.Utf8.{scalars, encodes}

@@ -1,6 +1,5 @@
 -- Values by their kinds: of two kinds, and of a kind with no order, a comparison asks only whether it is `!=`.
-use Rattle.std.proofs.Common.{◌≡◌, ℕ, List, Bool, refl}
-use Rattle.std.specs.Prelude.{ℤ}
+use Rattle.std.proofs.Common.{◌≡◌, ℕ, List, Bool, refl, ℤ}
 use Rattle.jsonpath_nodes.specs.compare.Comparisons.{Comparison, Seen, null_value, truth, fraction, text, unread, list, members, pair, is_not_equal}
 
 abbrev pub AreOfTwoKinds : Seen → Seen → Type 0

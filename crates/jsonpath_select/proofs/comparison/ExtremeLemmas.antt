@@ -1,12 +1,11 @@
 -- Some pair compares so exactly where the ends do, or where the sets meet.
-use Rattle.std.proofs.Common.{◌≡◌, ℕ, List, [], ◌∷◌, fold, Bool, true, false, cond, ◌&&◌, ◌||◌, Ordering, Less, Equal, Greater, refl, sym, ap, ap₂, ◌∙◌}
-use Rattle.std.specs.Prelude.{ℤ}
+use Rattle.std.proofs.Common.{◌≡◌, ℕ, List, [], ◌∷◌, fold, Bool, true, false, ◌&&◌, ◌||◌, Ordering, Less, Equal, refl, sym, ap, ap₂, ◌∙◌, arith, ℤ}
 use Rattle.std.specs.BTreeSet.{insert_key}
 use Rattle.std.specs.Cmp.{IsTotalOrder, back_total, bool_cmp_total}
 use Rattle.std.specs.List.{list_any}
-use Rattle.std.specs.Ordering.{bool_cmp, is_lt, is_le, is_eq, is_gt, is_ge, flip_args, ordering_reverse, match_ordering}
+use Rattle.std.specs.Ordering.{bool_cmp, is_lt, is_le, is_eq, is_gt, is_ge, flip_args}
 use Rattle.std.proofs.lemmas.Cmp.{alike_right, nat_list_cmp_total}
-use Rattle.std.proofs.Math.Bool.{and-false, or-false, or-true, or_assoc, or_comm, or_self_left}
+use Rattle.std.proofs.Math.Bool.{and-false, or-false, or_assoc, or_comm}
 use Rattle.jsonpath_nodes.specs.compare.Comparisons.{Comparison, equal, not_equal, less, less_or_equal, greater, greater_or_equal, Seen, null_value, truth, fraction, text, unread, list, members, pair, is_satisfied, is_equal, is_not_equal}
 use Rattle.jsonpath_nodes.specs.compare.Fractions.{fraction_order, fraction_total}
 use Rattle.jsonpath_select.specs.comparison.Extremes.{least, greatest, some_pair, ends_meet, sets_meet, EndsDecide, truths, fractions, texts, text_cmp, is_null_value, meets, nulls_meet, is_unequal, EndsDecidePairs}
@@ -18,75 +17,29 @@ abbrev IsDown : {A : Type 0} → (A → A → Ordering) → (A → Bool) → Typ
 IsDown {A} cmp test = (a b : A) → is_lt (cmp a b) ≡ false → test a ≡ true → test b ≡ true
 
 pub not_back : {A : Type 0} (cmp : A → A → Ordering) (total : IsTotalOrder cmp) (x y : A) → is_lt (cmp y x) ≡ true → is_lt (cmp x y) ≡ false
-not_back cmp total x y h = ap is_lt (total.antisymm x y) ∙ by (cmp y x) h
-  where
-    by : (o : Ordering) → is_lt o ≡ true → is_lt (ordering_reverse o) ≡ false
-    by Less e = refl
-    by Equal e = cc
-    by Greater e = cc
-
-absorbs : (a b c : Bool) → (a ≡ true → b ≡ true) → (a || (b || c)) ≡ (b || c)
-absorbs true b c h = sym (ap (λ (x : Bool). x || c) (h refl))
-absorbs false b c h = refl
-
-absorbed : (a b c : Bool) → (b ≡ true → a ≡ true) → (a || (b || c)) ≡ (a || c)
-absorbed true b c h = refl
-absorbed false true c h = absurd (let bad : false ≡ true = h refl in cc)
-absorbed false false c h = refl
+not_back cmp total x y h = grind (arith, total.antisymm x y)
 
 least_any : {A : Type 0} (cmp : A → A → Ordering) (total : IsTotalOrder cmp) (test : A → Bool) → IsDown cmp test → (x : A) (xs : List A) → (test x || list_any test xs) ≡ test (least cmp x xs)
 least_any cmp total test down x [] = or-false (test x)
-least_any {A} cmp total test down x (y ∷ ys) = by (is_lt (cmp y x)) refl (least_any cmp total test down y ys) (least_any cmp total test down x ys)
-  where
-    by : (b : Bool) → is_lt (cmp y x) ≡ b → (test y || list_any test ys) ≡ test (least cmp y ys) → (test x || list_any test ys) ≡ test (least cmp x ys)
-        → (test x || (test y || list_any test ys)) ≡ test (least cmp (cond b y x) ys)
-    by true is lower same = absorbs (test x) (test y) (list_any test ys) (down x y (not_back cmp total x y is)) ∙ lower
-    by false is lower same = absorbed (test x) (test y) (list_any test ys) (down y x is) ∙ same
+least_any cmp total test down x (y ∷ ys) = grind (arith, least_any cmp total test down y ys, least_any cmp total test down x ys, down x y, down y x, not_back cmp total x y)
 
 -- ---- tests of an order
 
 pub lt_is : (o : Ordering) → is_lt o ≡ true → o ≡ Less
-lt_is Less e = refl
-lt_is Equal e = cc
-lt_is Greater e = cc
+lt_is o e = grind arith
 
 -- `<` and `<=` read from the right
 pub back_lt : {A : Type 0} (cmp : A → A → Ordering) (total : IsTotalOrder cmp) (a b : A) → is_gt (cmp a b) ≡ is_lt (cmp b a)
-back_lt cmp total a b = ap is_gt (total.antisymm a b) ∙ by (cmp b a)
-  where
-    by : (o : Ordering) → is_gt (ordering_reverse o) ≡ is_lt o
-    by Less = refl
-    by Equal = refl
-    by Greater = refl
+back_lt cmp total a b = grind (arith, total.antisymm a b)
 
 pub back_le : {A : Type 0} (cmp : A → A → Ordering) (total : IsTotalOrder cmp) (a b : A) → is_ge (cmp a b) ≡ is_le (cmp b a)
-back_le cmp total a b = ap is_ge (total.antisymm a b) ∙ by (cmp b a)
-  where
-    by : (o : Ordering) → is_ge (ordering_reverse o) ≡ is_le o
-    by Less = refl
-    by Equal = refl
-    by Greater = refl
+back_le cmp total a b = grind (arith, total.antisymm a b)
 
 pub below_right : {A : Type 0} (cmp : A → A → Ordering) (total : IsTotalOrder cmp) (a b c : A) → is_lt (cmp b a) ≡ false → cmp c a ≡ Less → cmp c b ≡ Less
-below_right {A} cmp total a b c h k = by (cmp b a) refl h
-  where
-    by : (o : Ordering) → cmp b a ≡ o → is_lt o ≡ false → cmp c b ≡ Less
-    by Less is e = cc
-    by Equal is e = alike_right total b a c is ∙ k
-    by Greater is e = total.trans c a b k (total.antisymm a b ∙ ap ordering_reverse is)
+below_right cmp total a b c h k = grind (arith, alike_right total b a c, total.trans c a b, total.antisymm a b)
 
 pub upto_right : {A : Type 0} (cmp : A → A → Ordering) (total : IsTotalOrder cmp) (a b c : A) → is_lt (cmp b a) ≡ false → is_le (cmp c a) ≡ true → is_le (cmp c b) ≡ true
-upto_right {A} cmp total a b c h k = by (cmp c a) refl k
-  where
-    tied : (o : Ordering) → cmp b a ≡ o → cmp c a ≡ Equal → is_lt o ≡ false → is_le (cmp c b) ≡ true
-    tied Less is same e = cc
-    tied Equal is same e = ap is_le (alike_right total b a c is ∙ same)
-    tied Greater is same e = ap is_le (total.congr c a b same ∙ total.antisymm a b ∙ ap ordering_reverse is)
-
-    by : (o : Ordering) → cmp c a ≡ o → is_le o ≡ true → is_le (cmp c b) ≡ true
-    by Less is e = ap is_le (below_right cmp total a b c h is)
-    by Equal is e = tied (cmp b a) refl is h
-    by Greater is e = cc
+upto_right cmp total a b c h k = grind (arith, below_right cmp total a b c, alike_right total b a c, total.congr c a b, total.antisymm a b)
 
 -- ---- both ends
 
@@ -119,12 +72,7 @@ swap_in p q r = sym (or_assoc p q r) ∙ ap (λ b. b || r) (or_comm p q) ∙ or_
 
 pub insert_test : {K : Type 0} (cmp : K → K → Ordering) (test : K → Bool) → ((k y : K) → cmp k y ≡ Equal → test k ≡ test y) → (k : K) (ys : List K) → list_any test (insert_key cmp ys k) ≡ (test k || list_any test ys)
 insert_test cmp test alike k [] = refl
-insert_test {K} cmp test alike k (y ∷ ys) = by (cmp k y) refl (insert_test cmp test alike k ys)
-  where
-    by : (o : Ordering) → cmp k y ≡ o → list_any test (insert_key cmp ys k) ≡ (test k || list_any test ys) → list_any test (match_ordering o (k ∷ y ∷ ys) (y ∷ ys) (y ∷ insert_key cmp ys k)) ≡ (test k || (test y || list_any test ys))
-    by Less is later = refl
-    by Equal is later = ap (λ b. b || list_any test ys) (sym (alike k y is)) ∙ sym (or_self_left (test k) (list_any test ys)) ∙ ap (λ b. test k || (b || list_any test ys)) (alike k y is)
-    by Greater is later = ap (λ b. test y || b) later ∙ swap_in (test y) (test k) (list_any test ys)
+insert_test cmp test alike k (y ∷ ys) = grind (arith, insert_test cmp test alike k ys, alike k y)
 
 fold_any : {A : Type 0} (cmp : A → A → Ordering) (total : IsTotalOrder cmp) (x : A) (ys kept : List A)
     → list_any (λ y. is_eq (cmp x y)) (fold (insert_key cmp) kept ys) ≡ (list_any (λ y. is_eq (cmp x y)) ys || list_any (λ y. is_eq (cmp x y)) kept)
@@ -154,8 +102,7 @@ unequal_is not_equal h = cc
 unequal_is _ h = refl
 
 more : (a b c : Bool) → a ≡ false → b ≡ c → (a || b) ≡ c
-more true b c h k = cc
-more false b c h k = k
+more a b c h k = grind arith
 
 -- one left value and the right values
 truth_row : (op : Comparison) (a : Bool) (ys : List Seen) → is_not_equal op ≡ false → list_any (pair op (truth a)) ys ≡ list_any (λ b. is_satisfied op (bool_cmp a b)) (truths ys)
@@ -175,11 +122,7 @@ text_row op a (y ∷ ys) h = more (is_not_equal op) (list_any (pair op (text a))
 
 null_row : (op : Comparison) (ys : List Seen) → is_not_equal op ≡ false → list_any (pair op null_value) ys ≡ (is_equal op && list_any is_null_value ys)
 null_row op [] h = sym (and-false (is_equal op))
-null_row op (null_value ∷ ys) h = ap (λ (r : Bool). is_equal op || r) (null_row op ys h) ∙ by (is_equal op)
-  where
-    by : (b : Bool) → (b || (b && list_any is_null_value ys)) ≡ (b && true)
-    by true = refl
-    by false = refl
+null_row op (null_value ∷ ys) h = grind (arith, null_row op ys h)
 null_row op (y ∷ ys) h = more (is_not_equal op) (list_any (pair op null_value) ys) (is_equal op && list_any is_null_value ys) h (null_row op ys h)
 
 -- an unread number, an array or an object
@@ -203,11 +146,7 @@ third : (r t d s u : Bool) → (r || (t || (d || (s || u)))) ≡ (t || (d || ((r
 third r t d s u = swap_in r t (d || (s || u)) ∙ ap (λ b. t || b) (second r d s u)
 
 fourth : (r t d s n : Bool) → (r || (t || (d || (s || (n && r))))) ≡ (t || (d || (s || r)))
-fourth r t d s n = third r t d s (n && r) ∙ ap (λ b. t || (d || b)) (by r)
-  where
-    by : (r : Bool) → ((r || s) || (n && r)) ≡ (s || r)
-    by true = sym (or-true s)
-    by false = ap (λ b. s || b) (and-false n)
+fourth r t d s n = grind arith
 
 kind_rows : (op : Comparison) (xs ys : List Seen) → is_not_equal op ≡ false → some_pair (pair op) xs ys ≡ by_kind op xs ys
 kind_rows op [] ys h = refl

@@ -1,6 +1,5 @@
 -- The farthest of each kind stand for all, and so do the sets of them.
-use Rattle.std.proofs.Common.{◌≡◌, ℕ, suc, ◌+◌, ◌<◌, ◌≤◌, List, [], ◌∷◌, ◌++◌, append_assoc, map, length, drop, get_or, Bool, true, false, ◌||◌, Option, Some, None, Bor, Ordering, Less, Equal, Greater, refl, sym, ap, ap₂, ◌∙◌, arith, drop-cons, drop_of_length-le}
-use Rattle.std.specs.Prelude.{IsTrue}
+use Rattle.std.proofs.Common.{◌≡◌, ℕ, suc, ◌+◌, ◌<◌, ◌≤◌, List, [], ◌∷◌, ◌++◌, append_assoc, map, length, drop, get_or, Bool, true, false, ◌||◌, Option, Some, None, Bor, Ordering, Greater, refl, sym, ap, ap₂, ◌∙◌, arith, drop-cons, drop_of_length-le, IsTrue}
 use Rattle.std.specs.BTreeSet.{insert_key}
 use Rattle.std.specs.Cmp.{IsTotalOrder, back_total, bool_cmp_total}
 use Rattle.std.specs.Cmp.Lexicographic.{slice_cmp}
@@ -12,10 +11,9 @@ use Rattle.jsonpath_paths.specs.Numbers.{decimal_units}
 use Rattle.jsonpath_paths.specs.declared.decimal.Decimal.{Decimal}
 use Rattle.jsonpath_paths.specs.declared.token.tokens.FilterToken.{FilterToken}
 use Rattle.jsonpath_paths.specs.declared.token.tokens.FilterToken.TheVariants as op
-use Rattle.jsonpath_nodes.specs.compare.Atoms.{seen_by}
+use Rattle.jsonpath_nodes.specs.compare.Atoms.{seen_by, DecimalAtom}
 use Rattle.jsonpath_nodes.specs.compare.Comparisons.{Comparison, equal, less, less_or_equal, greater, greater_or_equal, Seen, null_value, truth, fraction, decimal, text, pair, is_satisfied, fraction_cmp}
 use Rattle.jsonpath_nodes.specs.compare.Fractions.{fraction_order, fraction_total, units_cmp}
-use Rattle.jsonpath_nodes.specs.compare.Atoms.{DecimalAtom}
 use Rattle.jsonpath_select.specs.Parts.{is_pair}
 use Rattle.jsonpath_select.specs.plan.Deciders.{is_order, some_right, one_of, extreme_values, is_among_known}
 use Rattle.jsonpath_select.specs.declared.comparison.extremes.Extremes.{Extremes}
@@ -48,14 +46,10 @@ goes_by_order greater_or_equal = true
 goes_by_order _ = false
 
 not_less : (o : Ordering) → is_le o ≡ false → is_lt o ≡ false
-not_less Less e = cc
-not_less Equal e = refl
-not_less Greater e = refl
+not_less o e = grind arith
 
 not_more : (o : Ordering) → is_le o ≡ true → is_lt (ordering_reverse o) ≡ false
-not_more Less e = refl
-not_more Equal e = refl
-not_more Greater e = cc
+not_more o e = grind arith
 
 far_lt : {A : Type 0} (cmp : A → A → Ordering) (total : IsTotalOrder cmp) (a b c : A) → is_lt (cmp a b) ≡ true → is_lt (cmp c a) ≡ true → is_lt (cmp c b) ≡ true
 far_lt cmp total a b c h k = ap is_lt (total.trans c a b (lt_is (cmp c a) k) (lt_is (cmp a b) h))
@@ -108,13 +102,10 @@ module _ {A : Type 0} (see : A → Seen) (by_kind : ByKind see) (cmp : A → A �
 -- ---- the extremes with one more value
 
 goes_over : (p q r : Bool) → (q ≡ true → p ≡ true) → (p || r) ≡ (p || (q || r))
-goes_over true q r h = refl
-goes_over false true r h = let bad : false ≡ true = h refl in cc
-goes_over false false r h = refl
+goes_over p q r h = grind arith
 
 stays_below : (p q r : Bool) → (p ≡ true → q ≡ true) → (q || r) ≡ (p || (q || r))
-stays_below true q r h = ap (λ b. b || r) (h refl)
-stays_below false q r h = refl
+stays_below p q r h = grind arith
 
 by_order : (P : (Seen → Seen → Bool) → Type 0) → ((o : Comparison) → IsTrue (goes_by_order o) → P (pair o)) → (f : FilterToken) → IsTrue (is_order f) → P (is_pair f)
 by_order P each op.Little order = each less refl

@@ -1,6 +1,5 @@
 -- One side of a comparison, tag by tag.
-use Rattle.std.proofs.Common.{◌≡◌, ℕ, zero, suc, ◌+◌, ◌-◌, ◌==◌, ◌<◌, Bool, true, false, List, [], ◌∷◌, ◌++◌, map, length, take, drop, cond, Option, Some, refl, sym, subst, ap, ap₂, ◌∙◌, arith}
-use Rattle.std.specs.Prelude.{option_map}
+use Rattle.std.proofs.Common.{◌≡◌, ℕ, zero, suc, ◌+◌, ◌-◌, ◌==◌, ◌<◌, Bool, true, false, List, [], ◌∷◌, ◌++◌, map, length, take, drop, cond, Option, Some, refl, sym, subst, ap, ap₂, ◌∙◌, arith, option_map}
 use Rattle.std.specs.List.{prefix_len}
 use Rattle.std.proofs.Math.Seq.{take-length}
 use Rattle.std.proofs.lemmas.List.{drop-map, take-map, drop-drop}
@@ -10,9 +9,8 @@ use Rattle.jsonpath_nodes.specs.place.Location.{Location, at}
 use Rattle.jsonpath_nodes.specs.compare.Comparisons.{Seen, seen}
 use Rattle.jsonpath_select.specs.Meaning.{values_at}
 use Rattle.jsonpath_select.specs.Parts.{has_pair}
-use Rattle.jsonpath_nodes.specs.compare.Atoms.{seen_by}
+use Rattle.jsonpath_nodes.specs.compare.Atoms.{seen_by, DecimalAtom}
 use Rattle.jsonpath_paths.specs.declared.token.tokens.FilterToken.{FilterToken}
-use Rattle.jsonpath_nodes.specs.compare.Atoms.{DecimalAtom}
 use Rattle.jsonpath_select.specs.plan.Machine.{Tagged, places, front_of_tag, all_tags_or_none, Found, locations_at_tag, pairs_behind, Operand, of_path, tags, literal, values_front, values_behind, compared}
 use Rattle.jsonpath_select.specs.plan.Shown.{tags_of}
 use Rattle.jsonpath_select.specs.plan.Sides.{ShowsSide}

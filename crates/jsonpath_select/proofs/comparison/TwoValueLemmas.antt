@@ -1,23 +1,20 @@
 -- Two values that differ stand for all on the right of `!=`.
-use Rattle.std.proofs.Common.{◌≡◌, ℕ, zero, suc, ◌<◌, List, [], ◌∷◌, map, length, get_or, Bool, true, false, ◌||◌, Ordering, Less, Equal, Greater, refl, sym, ap, ◌∙◌, arith}
+use Rattle.std.proofs.Common.{◌≡◌, ℕ, zero, suc, ◌<◌, List, [], ◌∷◌, map, length, get_or, Bool, true, false, ◌||◌, Ordering, Equal, refl, sym, ap, ◌∙◌, arith}
 use Rattle.std.specs.Cmp.{bool_cmp_total}
 use Rattle.std.specs.List.{list_any}
 use Rattle.std.specs.Ordering.{is_ne}
 use Rattle.std.proofs.Math.Bool.{or-true}
 use Rattle.std.proofs.lemmas.Bool.{or_parts}
 use Rattle.std.proofs.lemmas.Cmp.{nat_list_cmp_total}
-use Rattle.jsonpath_nodes.specs.compare.Atoms.{seen_by}
+use Rattle.jsonpath_nodes.specs.compare.Atoms.{seen_by, DecimalAtom}
 use Rattle.jsonpath_nodes.specs.compare.Comparisons.{not_equal, Seen, truth, text, pair}
 use Rattle.jsonpath_nodes.specs.compare.Fractions.{fraction_total}
-use Rattle.jsonpath_nodes.specs.compare.Atoms.{DecimalAtom}
 use Rattle.jsonpath_select.specs.plan.Deciders.{IsAmong}
 use Rattle.jsonpath_select.proofs.comparison.FlippedLemmas.{pair_turned}
 use Rattle.jsonpath_select.proofs.comparison.ByKindLemmas.{number_over, truth_or, number_or, text_or, two_kinds}
 
 same_place : (o : Ordering) → is_ne o ≡ false → o ≡ Equal
-same_place Less e = cc
-same_place Equal e = refl
-same_place Greater e = cc
+same_place o e = grind arith
 
 -- what is not unequal to a value is unequal to the same as it
 alike : (x f : Seen) → pair not_equal x f ≡ false → (a : Seen) → pair not_equal x a ≡ pair not_equal f a
@@ -34,12 +31,7 @@ first_decides f [] h x = refl
 first_decides f (y ∷ ys) h x =
     let parts = or_parts (pair not_equal f y) (list_any (pair not_equal f) ys) h in
     let same : pair not_equal x f ≡ pair not_equal x y = pair_turned not_equal x f ∙ alike f y parts.0 x ∙ sym (pair_turned not_equal x y) in
-    first_decides f ys parts.1 x ∙ by (pair not_equal x f) (pair not_equal x y) (list_any (pair not_equal x) ys) same
-  where
-    by : (a b c : Bool) → a ≡ b → (a || c) ≡ (a || (b || c))
-    by true b c e = refl
-    by false true c e = cc
-    by false false c e = refl
+    grind (arith, first_decides f ys parts.1 x, same)
 
 -- two that differ decide
 pub two_decide : (f a : Seen) (ys : List Seen) → pair not_equal f a ≡ true → IsAmong a ys → (x : Seen) → (pair not_equal x f || (pair not_equal x a || false)) ≡ (pair not_equal x f || list_any (pair not_equal x) ys)

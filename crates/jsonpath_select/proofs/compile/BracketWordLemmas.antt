@@ -1,6 +1,5 @@
 -- The test of a word in brackets tells exactly the words that may stand there.
-use Rattle.std.proofs.Common.{◌≡◌, ◌<◌, ◌+◌, ◌-◌, ◌*◌, ◌^◌, ◌%◌, ◌/◌, ℕ, suc, ℤ, pos, negsuc, Bool, true, false, ◌&&◌, length, Some, None, cond, refl, sym, ap, ◌∙◌, arith}
-use Rattle.std.specs.Prelude.{is_some, FitsSigned, neg_ℤ, ◌*ℤ◌}
+use Rattle.std.proofs.Common.{◌≡◌, ◌<◌, ◌+◌, ◌-◌, ◌*◌, ◌^◌, ◌%◌, ◌/◌, ℕ, suc, ℤ, pos, negsuc, Bool, true, ◌&&◌, length, Some, None, cond, refl, sym, ap, ◌∙◌, arith, is_some, FitsSigned, neg_ℤ, ◌*ℤ◌}
 use Rattle.std.specs.Int.{w64, int_div_euclid, int_rem_euclid}
 use Rattle.std.proofs.lemmas.Bool.{and_parts, and_from, le-leb, leb-true, lt-ltb, ltb-true, eqb-true}
 use Rattle.std.proofs.lemmas.Nat.{div-mul-add, mod-mul-add, mod_below, div-add-mod'}
@@ -53,12 +52,10 @@ fits (pos n) h = let below : n < 2 ^ 63 = ltb-true n (2 ^ 63) h in record { sfit
 fits (negsuc n) h = let below : n < 2 ^ 63 = ltb-true n (2 ^ 63) h in record { sfits = omega (arith, below) }
 
 when_true : (b : Bool) (n : ℤ) → b ≡ true → is_some (cond b (Some n) None) ≡ true
-when_true true n h = refl
-when_true false n h = cc
+when_true b n h = grind arith
 
 only_true : (b : Bool) (n : ℤ) → is_some (cond b (Some n) None) ≡ true → b ≡ true
-only_true true n h = refl
-only_true false n h = cc
+only_true b n h = grind arith
 
 index_test : (d : Decimal) → IsIndex d → is_some (index_in d) ≡ true
 unfolding index_in

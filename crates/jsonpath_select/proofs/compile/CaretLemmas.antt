@@ -1,5 +1,5 @@
 -- The row of `^` that stands behind the last line end of a message, found byte by byte.
-use Rattle.std.proofs.Common.{◌≡◌, ℕ, zero, suc, ◌+◌, ◌-◌, ◌<◌, ◌^◌, ◌≤◌, ◌==◌, ◌%◌, ◌⊎◌, inl, inr, List, [], ◌∷◌, ◌++◌, drop, length, replicate, Bool, true, false, cond, Option, Some, None, IfSome, refl, sym, ap, ◌∙◌, arith, add-suc, suc-add, add-zero, length-append, codes, decimal}
+use Rattle.std.proofs.Common.{◌≡◌, ℕ, zero, suc, ◌+◌, ◌-◌, ◌<◌, ◌^◌, ◌≤◌, ◌==◌, ◌%◌, List, [], ◌∷◌, ◌++◌, drop, length, replicate, false, cond, Option, Some, None, IfSome, refl, sym, ap, ◌∙◌, arith, add-suc, suc-add, add-zero, length-append, codes, decimal}
 use Rattle.std.specs.List.{AllByRecursion}
 use Rattle.std.proofs.lemmas.Bool.Decides.{eqb_tells}
 use Rattle.std.proofs.lemmas.Fmt.{decimal_by_steps}
@@ -35,21 +35,12 @@ length_of_carets path n = length-append path (10 ∷ replicate n 94) ∙ ap (λ 
 
 no_row : (i : ℕ) (bs : List ℕ) → AllByRecursion (λ b. (b == 10) ≡ false) bs → begin_of i None bs ≡ None
 no_row i [] h = refl
-no_row i (b ∷ bs) h = ap (λ r. begin_of (suc i) r bs) (by (b == 10) (b == 94) h.0) ∙ no_row (suc i) bs h.1
-  where
-    by : (x y : Bool) → x ≡ false → cond x (Some (i + 1)) (cond y None None) ≡ None
-    by true y h = cc
-    by false true h = refl
-    by false false h = refl
+no_row i (b ∷ bs) h = grind (arith, no_row (suc i) bs h.1, h.0)
 
 -- ---- messages without a line end
 
 other_byte : (b : ℕ) → 11 ≤ b → (b == 10) ≡ false
-other_byte b h = by (eqb_tells b 10)
-  where
-    by : (((b == 10) ≡ true) × (b ≡ 10)) ⊎ (((b == 10) ≡ false) × (b ≡ 10 → ⊥)) → (b == 10) ≡ false
-    by (inl is) = absurd (omega (arith, h, is.1))
-    by (inr is) = is.0
+other_byte b h = grind (arith, eqb_tells b 10)
 
 all_joined : (xs ys : List ℕ) → AllByRecursion (λ b. (b == 10) ≡ false) xs → AllByRecursion (λ b. (b == 10) ≡ false) ys → AllByRecursion (λ b. (b == 10) ≡ false) (xs ++ ys)
 all_joined [] ys h k = k

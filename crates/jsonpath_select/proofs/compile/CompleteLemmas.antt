@@ -1,6 +1,5 @@
 -- A path's tokens fit.
-use Rattle.std.proofs.Common.{◌≡◌, Bool, true, false, not, List, [], ◌∷◌, ◌++◌, Some, refl, sym, ap, ◌∙◌, append_assoc, append-nil}
-use Rattle.std.specs.Prelude.{IsTrue}
+use Rattle.std.proofs.Common.{◌≡◌, Bool, true, false, not, List, [], ◌∷◌, ◌++◌, Some, refl, sym, ap, ◌∙◌, append_assoc, append-nil, IsTrue}
 use Rattle.jsonpath_paths.specs.tree.Tree.{Path, path, PathSteps, no_steps, step_then, Inner, plain, filter, Condition, lone, compare, join, Term, at_path, literal, is_comparison}
 use Rattle.jsonpath_paths.specs.tree.Visit.{path_tokens, step_tokens, one_step, inner_tokens, condition_tokens, term_tokens}
 use Rattle.jsonpath_paths.specs.tree.WellFormed.{IsPath, IsTree, AreSteps, IsInner, IsCondition, IsTerm, IsBracketWord, is_dot_word, is_literal}

@@ -1,6 +1,5 @@
 -- A text is a word or a quoted text exactly if its first token is one and takes the whole text.
-use Rattle.std.proofs.Common.{◌≡◌, ◌+◌, ◌-◌, ◌==◌, ℕ, zero, suc, Bool, true, false, ◌||◌, List, [], ◌∷◌, length, take, Some, None, refl, sym, subst, ap, ◌∙◌, arith, eqb-true}
-use Rattle.std.specs.Str.{chars, IsUtf8}
+use Rattle.std.proofs.Common.{◌≡◌, ◌+◌, ◌-◌, ◌==◌, ℕ, zero, suc, Bool, true, false, ◌||◌, List, [], ◌∷◌, length, take, Some, None, refl, sym, subst, ap, ◌∙◌, arith, eqb-true, chars, IsUtf8}
 use Rattle.std.proofs.lemmas.Bool.{false_from_ne_true, eq-eqb, or_right}
 use Rattle.std.proofs.lemmas.Str.{encodes-chars, len_utf8_bounds}
 use Rattle.std.proofs.Math.Seq.{take-length}

@@ -1,6 +1,5 @@
 -- Tokens that fit are those of a path.
-use Rattle.std.proofs.Common.{◌≡◌, Bool, true, false, ◌&&◌, List, [], ◌∷◌, ◌++◌, cond, Option, Some, None, refl, sym, ap, ap₂, ◌∙◌, append_assoc, append-nil}
-use Rattle.std.specs.Prelude.{option_and_then, option_map}
+use Rattle.std.proofs.Common.{◌≡◌, Bool, true, false, ◌&&◌, List, [], ◌∷◌, ◌++◌, cond, Option, Some, None, refl, sym, ap, ap₂, ◌∙◌, append_assoc, append-nil, option_and_then, option_map}
 use Rattle.jsonpath_paths.specs.tree.Tree.{Path, path, PathSteps, no_steps, step_then, Inner, plain, filter, Condition, lone, compare, join, Term, at_path, literal, is_comparison}
 use Rattle.jsonpath_paths.specs.tree.Visit.{opening, one_step, path_tokens, step_tokens, inner_tokens, condition_tokens, term_tokens}
 use Rattle.jsonpath_paths.specs.tree.WellFormed.{IsPath, AreSteps, IsInner, IsCondition, IsTerm, is_dot_word, is_literal}

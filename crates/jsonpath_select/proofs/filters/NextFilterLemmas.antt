@@ -1,9 +1,8 @@
 -- Where the filters of a path stand among its instructions.
-use Rattle.std.proofs.Common.{◌≡◌, ℕ, zero, suc, ◌-◌, ◌==◌, ◌<◌, Bool, true, false, List, [], ◌∷◌, ◌++◌, map, length, take, drop, get_or, cond, Bor, ◌+◌, refl, sym, ap, ap₂, subst, ◌∙◌, append_assoc, append-nil, arith}
-use Rattle.std.specs.Prelude.{filter}
+use Rattle.std.proofs.Common.{◌≡◌, ℕ, zero, suc, ◌-◌, ◌==◌, ◌<◌, Bool, true, false, List, [], ◌∷◌, ◌++◌, map, length, take, drop, get_or, cond, Bor, ◌+◌, refl, sym, ap, ap₂, subst, ◌∙◌, append_assoc, append-nil, arith, filter}
 use Rattle.std.specs.List.{list_all}
 use Rattle.std.proofs.Math.Dec.{eqb-suc-zero}
-use Rattle.std.proofs.lemmas.List.{append_cancel_right, map-append, take-append-drop}
+use Rattle.std.proofs.lemmas.List.{append_cancel_right, map-append, take-append-drop, take_rest}
 use Rattle.jsonpath_nodes.specs.document.Document.{Document}
 use Rattle.jsonpath_paths.specs.tree.Tree.{Path, path, PathSteps, no_steps, step_then, Inner, plain, Condition, lone, compare, join, Term, at_path}
 use Rattle.jsonpath_paths.specs.tree.Tree as tree
@@ -98,6 +97,10 @@ ends_condition left end c ss begun is =
 
 pub behind_begun : (left rest : List Instruction) (c : Condition) (ss : PathSteps) → AreBegun left c ss → map instruction_of rest ≡ behind_leave 0 (map instruction_of left) → CodesSteps rest ss
 behind_begun left rest c ss begun is = is ∙ ap (behind_leave 0) begun ∙ past_condition c 0 (leave ∷ steps_code ss)
+
+-- what stands behind an index, as a slice
+pub sliced_on : (end : ℕ) (left : List Instruction) (ss : PathSteps) → CodesSteps (drop end left) ss → CodesSteps (take (length left - end) (drop end left)) ss
+sliced_on end left ss = subst (λ (is : List Instruction). CodesSteps is ss) (sym (take_rest left end))
 
 -- ---- where steps lead
 

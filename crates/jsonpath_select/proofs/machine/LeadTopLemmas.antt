@@ -65,25 +65,15 @@ module _ {M : Type 0} (located : Bool) (stand_of : M → Location) (content_of :
   -- ---- those put aside, put back
 
   module _ (text : List ℕ) (doc : Document) where
-    abbrev TwoPaths : List machine.Operand → Type 0
-    TwoPaths os = (passed : machine.Found) × (g : machine.Found) × (below : List machine.Operand) × (os ≡ of_path passed ∷ of_path g ∷ below)
-
-    two_paths : (fs : List machine.Found) (os : List machine.Operand) (t : State) → inside text doc put_back fs os ≡ Some t → TwoPaths os
-    two_paths (cand ∷ fs) (of_path passed ∷ of_path g ∷ os) t e = (passed, g, os, refl)
-    two_paths _ _ t e = cc
-
     pub back_first : (fs : List machine.Found) (os : List machine.Operand) (t : State) (old : List (Operand M)) → ShowsOperands located stand_of content_of text doc os old → inside text doc put_back fs os ≡ Some t → EndsInMarks old
-    back_first fs os t old h e =
-        let two = two_paths fs os t e in
-        let shows = subst (λ (xs : List machine.Operand). ShowsOperands located stand_of content_of text doc xs old) two.3 h in
-        of_path_end located stand_of content_of text doc two.0 (of_path two.1 ∷ two.2) old shows.0 shows.1 shows.2 shows.3
+    back_first (cand ∷ fs) (of_path passed ∷ of_path g ∷ os) t old h e = of_path_end located stand_of content_of text doc passed (of_path g ∷ os) old h.0 h.1 h.2 h.3
+    back_first _ _ t old h e = cc
 
     pub back_second : (fs : List machine.Found) (os : List machine.Operand) (t : State) (old mid : List (Operand M)) (n : Found M) → ShowsOperands located stand_of content_of text doc os old → inside text doc put_back fs os ≡ Some t → old ≡ mid ++ found_on n ∷ [] → EndsInMarks mid
-    back_second fs os t old mid n h e is =
-        let two = two_paths fs os t e in
-        let shows = subst (λ (xs : List machine.Operand). ShowsOperands located stand_of content_of text doc xs old) two.3 h in
-        let below = (top_operand located stand_of content_of text doc (of_path two.0) (of_path two.1 ∷ two.2) old mid (found_on n) shows is).1 in
-        of_path_end located stand_of content_of text doc two.1 two.2 mid below.0 below.1 below.2 below.3
+    back_second (cand ∷ fs) (of_path passed ∷ of_path g ∷ os) t old mid n h e is =
+        let below = (top_operand located stand_of content_of text doc (of_path passed) (of_path g ∷ os) old mid (found_on n) h is).1 in
+        of_path_end located stand_of content_of text doc g os mid below.0 below.1 below.2 below.3
+    back_second _ _ t old mid n h e is = cc
 
     pub back_done : (fs : List machine.Found) (os : List machine.Operand) (t : State) (frames : List (Found M)) (passed n : Found M) (found : TaggedMarks M) (old mid low new : List (Operand M))
         → ShowsFrames located stand_of content_of doc fs frames → ShowsOperands located stand_of content_of text doc os old → inside text doc put_back fs os ≡ Some t → old ≡ mid ++ found_on passed ∷ [] → mid ≡ low ++ found_on n ∷ []

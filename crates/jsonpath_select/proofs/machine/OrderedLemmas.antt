@@ -1,7 +1,6 @@
 -- The loop over the instructions, and its answer.
-use Rattle.std.proofs.Common.{◌≡◌, ℕ, suc, ◌+◌, ◌<◌, Bool, false, List, [], ◌∷◌, ◌++◌, map, length, drop, get_or, Option, Some, None, refl, sym, ap, ◌∙◌, arith, drop-cons}
+use Rattle.std.proofs.Common.{◌≡◌, ℕ, suc, ◌+◌, ◌<◌, Bool, false, List, [], ◌∷◌, ◌++◌, map, length, drop, get_or, Some, refl, sym, ap, ◌∙◌, arith, drop-cons, option_and_then}
 use Rattle.std.proofs.lemmas.List.{map-append, drop-drop}
-use Rattle.std.specs.Prelude.{option_and_then}
 use Rattle.jsonpath_nodes.specs.document.Document.{Document}
 use Rattle.jsonpath_paths.specs.declared.text.str_reader.StrRange.{StrRange}
 use Rattle.jsonpath_paths.specs.declared.token.tokens.ParseToken.{ParseToken}
@@ -31,12 +30,7 @@ two_taken all at i j rest is =
 module _ (text : List ℕ) (doc : Document) where
   pub run_on : (is js : List code.Instruction) (s : State) → run_all text doc (is ++ js) s ≡ option_and_then (run_all text doc js) (run_all text doc is s)
   run_on [] js s = refl
-  run_on (i ∷ is) js s = by (one text doc i s) (λ t. run_on is js t)
-    where
-      by : (o : Option State) → ((t : State) → run_all text doc (is ++ js) t ≡ option_and_then (run_all text doc js) (run_all text doc is t))
-          → option_and_then (run_all text doc (is ++ js)) o ≡ option_and_then (run_all text doc js) (option_and_then (run_all text doc is) o)
-      by None later = refl
-      by (Some t) later = later t
+  run_on (i ∷ is) js s = grind (arith, run_on is js)
 
   split : (left taken rest : List Instruction) (s : State) → left ≡ taken ++ rest
       → run_all text doc (map instruction_of left) s ≡ option_and_then (run_all text doc (map instruction_of rest)) (run_all text doc (map instruction_of taken) s)

@@ -1,6 +1,5 @@
 -- A tree's instructions, as they are or by sets, leave the tree's meaning at each candidate.
-use Rattle.std.proofs.Common.{◌≡◌, ℕ, Bool, true, false, List, [], ◌∷◌, ◌++◌, length, Equal, Option, Some, refl, ap, ◌∙◌, append_assoc}
-use Rattle.std.specs.Prelude.{filter, option_map, option_and_then}
+use Rattle.std.proofs.Common.{◌≡◌, ℕ, Bool, true, false, List, [], ◌∷◌, ◌++◌, length, Equal, Option, Some, refl, ap, ◌∙◌, append_assoc, filter, option_map, option_and_then}
 use Rattle.jsonpath_nodes.specs.DocumentLaws.{OnceInOrderKeepsMembers}
 use Rattle.jsonpath_nodes.specs.document.Document.{Document}
 use Rattle.jsonpath_paths.specs.tree.Tree.{Path, path, PathSteps, no_steps, step_then, Inner, plain, Condition, lone, compare, join, Term, at_path}

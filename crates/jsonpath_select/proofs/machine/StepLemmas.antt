@@ -1,6 +1,5 @@
 -- The code's steps beside the machine's.
-use Rattle.std.proofs.Common.{◌≡◌, ℕ, ◌+◌, ◌<◌, ◌&&◌, Bool, true, false, List, [], ◌∷◌, ◌++◌, map, length, get_or, cond, Option, Some, None, refl, sym, ap, ap₂, ◌∙◌, subst, length-append}
-use Rattle.std.specs.Prelude.{option_map, option_and_then}
+use Rattle.std.proofs.Common.{◌≡◌, ℕ, ◌+◌, ◌<◌, ◌&&◌, Bool, true, false, List, [], ◌∷◌, ◌++◌, map, length, get_or, cond, Option, Some, None, refl, sym, ap, ap₂, ◌∙◌, subst, length-append, option_map, option_and_then}
 use Rattle.std.proofs.lemmas.Bool.{and_parts}
 use Rattle.std.proofs.lemmas.List.{map-append, same_from_push}
 use Rattle.std.proofs.lemmas.Option.{cond_some}
@@ -129,33 +128,19 @@ module _ {M : Type 0} (located : Bool) (stand_of : M → Location) (content_of :
     abbrev Two : List (Operand M) → Type 0
     Two old = (b : machine.Operand) × (a : machine.Operand) × (os : List machine.Operand) × ShowsOperands located stand_of content_of text doc (b ∷ a ∷ os) old
 
-    two_first : (old : List (Operand M)) → Two old → EndsInOne old
+    pub two_first : (old : List (Operand M)) → Two old → EndsInOne old
     two_first old h = one_there h.0 (h.1 ∷ h.2) old h.3
 
-    two_second : (old mid : List (Operand M)) (x : Operand M) → Two old → old ≡ mid ++ x ∷ [] → EndsInOne mid
+    pub two_second : (old mid : List (Operand M)) (x : Operand M) → Two old → old ≡ mid ++ x ∷ [] → EndsInOne mid
     two_second old mid x h is = one_there h.1 h.2 mid (top_operand h.0 (h.1 ∷ h.2) old mid x h.3 is).1
 
-    compares_two : (op : FilterToken) (fs : List machine.Found) (os : List machine.Operand) (t : State) (old : List (Operand M)) → ShowsOperands located stand_of content_of text doc os old → inside text doc (compares op) fs os ≡ Some t → Two old
+    pub compares_two : (op : FilterToken) (fs : List machine.Found) (os : List machine.Operand) (t : State) (old : List (Operand M)) → ShowsOperands located stand_of content_of text doc os old → inside text doc (compares op) fs os ≡ Some t → Two old
     compares_two op (cand ∷ fs) (b ∷ a ∷ os) t old h e = (b, a, os, h)
     compares_two op _ _ t old h e = cc
 
-    joins_two : (op : FilterToken) (fs : List machine.Found) (os : List machine.Operand) (t : State) (old : List (Operand M)) → ShowsOperands located stand_of content_of text doc os old → inside text doc (joins op) fs os ≡ Some t → Two old
+    pub joins_two : (op : FilterToken) (fs : List machine.Found) (os : List machine.Operand) (t : State) (old : List (Operand M)) → ShowsOperands located stand_of content_of text doc os old → inside text doc (joins op) fs os ≡ Some t → Two old
     joins_two op (cand ∷ fs) (b ∷ a ∷ os) t old h e = (b, a, os, h)
     joins_two op _ _ t old h e = cc
-
-    pub compares_first : (op : FilterToken) (fs : List machine.Found) (os : List machine.Operand) (t : State) (old : List (Operand M)) → ShowsOperands located stand_of content_of text doc os old → inside text doc (compares op) fs os ≡ Some t → EndsInOne old
-    compares_first op fs os t old h e = two_first old (compares_two op fs os t old h e)
-
-    pub compares_second : (op : FilterToken) (fs : List machine.Found) (os : List machine.Operand) (t : State) (old mid : List (Operand M)) (x : Operand M) → ShowsOperands located stand_of content_of text doc os old → inside text doc (compares op) fs os ≡ Some t
-        → old ≡ mid ++ x ∷ [] → EndsInOne mid
-    compares_second op fs os t old mid x h e is = two_second old mid x (compares_two op fs os t old h e) is
-
-    pub joins_first : (op : FilterToken) (fs : List machine.Found) (os : List machine.Operand) (t : State) (old : List (Operand M)) → ShowsOperands located stand_of content_of text doc os old → inside text doc (joins op) fs os ≡ Some t → EndsInOne old
-    joins_first op fs os t old h e = two_first old (joins_two op fs os t old h e)
-
-    pub joins_second : (op : FilterToken) (fs : List machine.Found) (os : List machine.Operand) (t : State) (old mid : List (Operand M)) (x : Operand M) → ShowsOperands located stand_of content_of text doc os old → inside text doc (joins op) fs os ≡ Some t
-        → old ≡ mid ++ x ∷ [] → EndsInOne mid
-    joins_second op fs os t old mid x h e is = two_second old mid x (joins_two op fs os t old h e) is
 
     -- both sides of a comparison are terms, and both of a connective conditions
     pub compares_terms : (op : FilterToken) (fs : List machine.Found) (os : List machine.Operand) (t : State) (old mid new : List (Operand M)) (right left : Operand M) → ShowsOperands located stand_of content_of text doc os old

@@ -1,6 +1,5 @@
 -- The machine at the filters of the path itself, and at a whole path by sets.
-use Rattle.std.proofs.Common.{◌≡◌, ℕ, true, false, List, [], ◌∷◌, ◌++◌, Equal, Option, Some, sym, ap, ◌∙◌, append-nil}
-use Rattle.std.specs.Prelude.{filter, option_map, option_and_then}
+use Rattle.std.proofs.Common.{◌≡◌, ℕ, true, false, List, [], ◌∷◌, ◌++◌, Equal, Option, Some, sym, ap, ◌∙◌, append-nil, filter, option_map, option_and_then}
 use Rattle.jsonpath_nodes.specs.DocumentLaws.{OnceInOrderKeepsMembers}
 use Rattle.jsonpath_nodes.specs.document.Document.{Document}
 use Rattle.jsonpath_paths.specs.tree.Tree.{Condition, Path, path}

@@ -1,11 +1,10 @@
 -- No two of a list are the same: each is looked up in the set of those met before.
-use Rattle.std.proofs.Common.{◌≡◌, ℕ, ◌+◌, ◌<◌, List, [], ◌∷◌, ◌++◌, map, take, get_or, length, add-one, Bool, true, false, cond, not, ◌||◌, Ordering, refl, sym, ap, ap₂, ◌∙◌}
+use Rattle.std.proofs.Common.{◌≡◌, ℕ, ◌+◌, ◌<◌, List, [], ◌∷◌, ◌++◌, map, take, get_or, length, add-one, Bool, true, false, cond, not, ◌||◌, Ordering, refl, sym, ap, ap₂, ◌∙◌, arith, take-suc}
 use Rattle.std.specs.BTreeSet.{BTreeSet, contains}
 use Rattle.std.specs.BTreeMap.{is_at}
 use Rattle.std.specs.Cmp.{IsTotalOrder}
 use Rattle.std.specs.List.{AllByRecursion, IsDistinct, list_any}
 use Rattle.std.specs.Ordering.{eq_by_cmp}
-use Rattle.std.proofs.Math.Seq.{take-suc}
 use Rattle.std.proofs.lemmas.Cmp.{eq_by_cmp_equiv}
 use Rattle.std.proofs.lemmas.List.{map-append}
 use Rattle.std.proofs.lemmas.List.Folds.{list_any-append}
@@ -28,14 +27,10 @@ module _ {K X : Type 0} {R : X → X → Ordering} (total : IsTotalOrder R) (g :
   none_met seen empty = (tt, λ k. ap (list_any (is_at (by_key k))) empty)
 
   one_or : (a b : Bool) → cond a true b ≡ (b || (a || false))
-  one_or true true = refl
-  one_or true false = refl
-  one_or false true = refl
-  one_or false false = refl
+  one_or a b = grind arith
 
   is_new : (b : Bool) → true ≡ not b → b ≡ false
-  is_new true h = cc
-  is_new false h = refl
+  is_new b h = grind arith
 
   pub one_more_met : (seen next : BTreeSet K) (xs : List X) (k : K) (x : X) → g k ≡ x → true ≡ not (contains by_key seen k)
       → ((q : K) → contains by_key next q ≡ cond (is_at (by_key k) q) true (contains by_key seen q)) → AreMet seen xs → AreMet next (xs ++ x ∷ [])

@@ -1,9 +1,6 @@
 -- What a quoted text means, character by character.
-use Rattle.std.proofs.Common.{◌≡◌, ℕ, ◌-◌, ◌==◌, Bool, true, false, List, [], ◌∷◌, ◌++◌, length, take, Option, Some, None, refl, sym, ap, ◌∙◌, append-nil, append_assoc, length-append, arith}
+use Rattle.std.proofs.Common.{◌≡◌, ℕ, ◌-◌, ◌==◌, Bool, true, false, List, [], ◌∷◌, ◌++◌, length, take, Option, Some, None, refl, sym, ap, ◌∙◌, append-nil, append_assoc, length-append, arith, MatchOption, chars, IsUtf8, encode_utf8_all, encode_utf8}
 use Rattle.std.specs.List.{list_any}
-use Rattle.std.specs.Option.{MatchOption}
-use Rattle.std.specs.Str.{chars, IsUtf8, encode_utf8_all}
-use Rattle.std.specs.Char.{encode_utf8}
 use Rattle.std.proofs.lemmas.Bool.{or_parts}
 use Rattle.std.proofs.lemmas.Str.{cons_from_encodes, length-le-encodes, encodes-chars, chars-nil, chars_past_char}
 use Rattle.std.proofs.lemmas.List.{nil_from_length}

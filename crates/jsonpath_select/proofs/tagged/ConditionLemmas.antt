@@ -1,7 +1,6 @@
 -- Lists of tags, tag by tag.
-use Rattle.std.proofs.Common.{◌≡◌, ℕ, zero, suc, ◌+◌, ◌-◌, ◌==◌, ◌<◌, Bool, true, false, List, [], ◌∷◌, ◌++◌, drop, cond, refl, sym, ap, ap₂, ◌∙◌, append_assoc, arith, ltb}
+use Rattle.std.proofs.Common.{◌≡◌, ℕ, zero, suc, ◌+◌, ◌-◌, ◌==◌, ◌<◌, Bool, true, false, List, [], ◌∷◌, ◌++◌, drop, cond, refl, sym, ap, ap₂, ◌∙◌, append_assoc, arith, ltb, lt-ltb}
 use Rattle.std.specs.List.{prefix_len}
-use Rattle.std.proofs.lemmas.Bool.{lt-ltb}
 use Rattle.std.proofs.lemmas.Bool.Decides.{nat_tests}
 use Rattle.std.proofs.lemmas.List.{drop-map, drop-drop}
 use Rattle.jsonpath_paths.specs.declared.token.tokens.FilterToken.{FilterToken}
@@ -37,11 +36,7 @@ is_above from (suc n) = let above : from < from + suc n = omega arith in let som
 
 some_run : (t : ℕ) (ps : List Tagged) → is_some_location (front_of_tag t ps) ≡ ltb 0 (run t ps)
 some_run t [] = refl
-some_run t (p ∷ ps) = by (p.0 == t)
-  where
-    by : (b : Bool) → is_some_location (cond b (p.1 ∷ front_of_tag t ps) []) ≡ ltb 0 (cond b (1 + run t ps) 0)
-    by true = let some : 0 < 1 + run t ps = omega arith in sym (lt-ltb 0 (1 + run t ps) some)
-    by false = refl
+some_run t (p ∷ ps) = grind arith
 
 pub reached_next : (ps : List Tagged) (tags : List ℕ) (count t from end : ℕ) (out new : List ℕ) → tags ≡ tags_of ps → t < count → end ≡ from + prefix_len (λ u. u == t) (drop from tags)
     → new ≡ cond (ltb from end) (out ++ t ∷ []) out → out ++ some_tags t (count - t) (drop from ps) ≡ some_tags 0 count ps
@@ -65,11 +60,7 @@ reached_next ps tags count t from end out new are below ends added held =
 
 after_is : (t : ℕ) (ts : List ℕ) → after t ts ≡ drop (cond (is_next t ts) 1 0) ts
 after_is t [] = refl
-after_is t (u ∷ us) = by (u == t)
-  where
-    by : (b : Bool) → cond b us (u ∷ us) ≡ drop (cond b 1 0) (u ∷ us)
-    by true = refl
-    by false = refl
+after_is t (u ∷ us) = grind arith
 
 pub after_past : (t from end : ℕ) (ts : List ℕ) → end ≡ from + cond (is_next t (drop from ts)) 1 0 → after t (drop from ts) ≡ drop end ts
 after_past t from end ts goes = after_is t (drop from ts) ∙ drop-drop (cond (is_next t (drop from ts)) 1 0) from ts ∙ ap (λ k. drop k ts) (sym goes)

@@ -1,6 +1,5 @@
 -- The machine's lists, where they come from one list for each candidate.
-use Rattle.std.proofs.Common.{◌≡◌, ℕ, suc, ◌==◌, ◌<◌, ◌≢◌, Bool, true, false, List, [], ◌∷◌, ◌++◌, length, cond, refl, ap, ap₂, ◌∙◌, append-nil, arith, eq-eqb, ne_eqb}
-use Rattle.std.specs.Prelude.{filter}
+use Rattle.std.proofs.Common.{◌≡◌, ℕ, suc, ◌==◌, ◌<◌, ◌≢◌, Bool, true, false, List, [], ◌∷◌, ◌++◌, length, cond, refl, ap, ap₂, ◌∙◌, append-nil, arith, eq-eqb, ne_eqb, filter}
 use Rattle.jsonpath_nodes.specs.document.Document.{Document}
 use Rattle.jsonpath_paths.specs.tree.Tree.{Path, path, PathSteps, Term}
 use Rattle.jsonpath_paths.specs.tree.Tree as tree
@@ -125,33 +124,17 @@ module _ (text : List ℕ) (doc : Document) (reach : Path → Location → List 
 module _ (test : Location → Bool) where
   next-later : (t m : ℕ) (cs : List Location) → t < m → is_next t (numbers_where test m cs) ≡ false
   next-later t m [] below = refl
-  next-later t m (c ∷ cs) below = by (test c) (next-later t (suc m) cs (omega arith))
-    where
-      by : (b : Bool) → is_next t (numbers_where test (suc m) cs) ≡ false → is_next t (cond b (m ∷ numbers_where test (suc m) cs) (numbers_where test (suc m) cs)) ≡ false
-      by true later = other_tag t m below
-      by false later = later
+  next-later t m (c ∷ cs) below = grind (arith, next-later t (suc m) cs (omega arith), other_tag t m below)
 
   after-later : (t m : ℕ) (cs : List Location) → t < m → after t (numbers_where test m cs) ≡ numbers_where test m cs
   after-later t m [] below = refl
-  after-later t m (c ∷ cs) below = by (test c) (after-later t (suc m) cs (omega arith))
-    where
-      by : (b : Bool) → after t (numbers_where test (suc m) cs) ≡ numbers_where test (suc m) cs → after t (cond b (m ∷ numbers_where test (suc m) cs) (numbers_where test (suc m) cs)) ≡ cond b (m ∷ numbers_where test (suc m) cs) (numbers_where test (suc m) cs)
-      by true later = rw (other_tag t m below) refl
-      by false later = later
+  after-later t m (c ∷ cs) below = grind (arith, after-later t (suc m) cs (omega arith), other_tag t m below)
 
   pub next-chosen : (t : ℕ) (c : Location) (cs : List Location) → is_next t (numbers_where test t (c ∷ cs)) ≡ test c
-  next-chosen t c cs = by (test c)
-    where
-      by : (b : Bool) → is_next t (cond b (t ∷ numbers_where test (suc t) cs) (numbers_where test (suc t) cs)) ≡ b
-      by true = same_tag t
-      by false = next-later t (suc t) cs (omega arith)
+  next-chosen t c cs = grind (arith, same_tag t, next-later t (suc t) cs (omega arith))
 
   pub after-chosen : (t : ℕ) (c : Location) (cs : List Location) → after t (numbers_where test t (c ∷ cs)) ≡ numbers_where test (suc t) cs
-  after-chosen t c cs = by (test c)
-    where
-      by : (b : Bool) → after t (cond b (t ∷ numbers_where test (suc t) cs) (numbers_where test (suc t) cs)) ≡ numbers_where test (suc t) cs
-      by true = rw (same_tag t) refl
-      by false = after-later t (suc t) cs (omega arith)
+  after-chosen t c cs = grind (arith, same_tag t, after-later t (suc t) cs (omega arith))
 
   pub kept-chosen : (t : ℕ) (ps : List Tagged) → kept_by_number t (numbers_where test t (places ps)) ps ≡ filter (λ (p : Tagged). test p.1) ps
   kept-chosen t [] = refl
@@ -161,13 +144,7 @@ module _ (test : Location → Bool) where
 
   pub filter-tagged : (t : ℕ) (ls : List Location) (ps : List Tagged) → filter (λ (p : Tagged). test p.1) (tagged t ls ++ ps) ≡ tagged t (filter test ls) ++ filter (λ (p : Tagged). test p.1) ps
   filter-tagged t [] ps = refl
-  filter-tagged t (l ∷ ls) ps = by (test l) (filter-tagged t ls ps)
-    where
-      by : (b : Bool) → filter (λ (p : Tagged). test p.1) (tagged t ls ++ ps) ≡ tagged t (filter test ls) ++ filter (λ (p : Tagged). test p.1) ps
-          → cond b ((t, l) ∷ filter (λ (p : Tagged). test p.1) (tagged t ls ++ ps)) (filter (λ (p : Tagged). test p.1) (tagged t ls ++ ps))
-          ≡ tagged t (cond b (l ∷ filter test ls) (filter test ls)) ++ filter (λ (p : Tagged). test p.1) ps
-      by true later = ap (λ (qs : List Tagged). (t, l) ∷ qs) later
-      by false later = later
+  filter-tagged t (l ∷ ls) ps = grind (arith, filter-tagged t ls ps)
 
   pub filter-spread : (f : Location → List Location) (t : ℕ) (cs : List Location) → filter (λ (p : Tagged). test p.1) (spread f t cs) ≡ spread (λ c. filter test (f c)) t cs
   filter-spread f t [] = refl

@@ -1,6 +1,5 @@
 -- The walk: lists of candidates at a time lead where the meaning in the manner told leads from each.
-use Rattle.std.proofs.Common.{◌≡◌, ℕ, suc, ◌≤◌, Bool, true, false, cond, List, [], ◌∷◌, ◌++◌, length, drop, refl, sym, ap, ap₂, subst, ◌∙◌, drop_of_length-le, drop-cons, get_or, ◌+◌, ◌<◌, ◌==◌, ◌≢◌, ne_eqb, arith, add-one}
-use Rattle.std.specs.Prelude.{filter}
+use Rattle.std.proofs.Common.{◌≡◌, ℕ, suc, ◌≤◌, Bool, true, false, cond, List, [], ◌∷◌, ◌++◌, length, drop, refl, sym, ap, ap₂, subst, ◌∙◌, drop_of_length-le, drop-cons, get_or, ◌+◌, ◌<◌, ◌==◌, ◌≢◌, ne_eqb, arith, add-one, filter}
 use Rattle.jsonpath_nodes.specs.document.Document.{Document}
 use Rattle.jsonpath_paths.specs.tree.Tree.{Path, path, Inner, Condition, Term}
 use Rattle.jsonpath_paths.specs.tree.Tree as tree
@@ -10,7 +9,7 @@ use Rattle.jsonpath_nodes.specs.place.NumbersWhere.{numbers_where}
 use Rattle.jsonpath_nodes.specs.step.Steps.{every, step, all_below, flattened}
 use Rattle.jsonpath_select.specs.Meaning.{is_some_location, has_own_step, candidates}
 use Rattle.jsonpath_select.specs.plan.Machine.{Tagged, tagged, places, each_tag, spread, starts, itself, found_tags, kept_by_number, compared, gathered, entered}
-use Rattle.jsonpath_select.specs.plan.Manner.{lessened, descent, reached_in, follow_in, holds_in, values_in}
+use Rattle.jsonpath_select.specs.plan.Manner.{reached_in, follow_in, holds_in, values_in}
 use Rattle.jsonpath_select.specs.plan.Walk.{led_in, step_in, set_after, found_in, term_in}
 use Rattle.jsonpath_select.specs.plan.Shown.{Shows, tags_of}
 use Rattle.jsonpath_select.specs.declared.tagged.marks.TaggedMarks.{TaggedMarks}
@@ -45,44 +44,25 @@ empty_tags (p ∷ ps) (t ∷ tags) is none = let apart : suc (length tags) ≢ 0
 
 -- ---- steps
 
--- a step by sets, and a step in the manner of lists
-by_sets : (text : List ℕ) (doc : Document) (inner : Inner) (leaves : Bool) (ls : List Location) → set_after true text doc inner leaves ls ≡ step_in true text doc inner leaves ls
-by_sets text doc (tree.plain token) true ls = refl
-by_sets text doc (tree.plain token) false ls = refl
-by_sets text doc (tree.filter f) true ls = refl
-by_sets text doc (tree.filter f) false ls = refl
-
-by_lists : (text : List ℕ) (doc : Document) (inner : Inner) (leaves : Bool) (ls : List Location) → led_in false text doc inner leaves ls ≡ step_in false text doc inner leaves ls
-by_lists text doc (tree.plain token) true ls = refl
-by_lists text doc (tree.plain token) false ls = refl
-by_lists text doc (tree.filter f) true ls = refl
-by_lists text doc (tree.filter f) false ls = refl
-
--- .. where the step is in the manner told
+-- a step in the manner told: by sets
 pub step_by_sets : (sets : Bool) (text : List ℕ) (doc : Document) (inner : Inner) (leaves : Bool) (ls : List Location) → sets ≡ true → set_after sets text doc inner leaves ls ≡ step_in sets text doc inner leaves ls
-step_by_sets true text doc inner leaves ls is = by_sets text doc inner leaves ls
+step_by_sets true text doc (tree.plain token) true ls is = refl
+step_by_sets true text doc (tree.plain token) false ls is = refl
+step_by_sets true text doc (tree.filter f) true ls is = refl
+step_by_sets true text doc (tree.filter f) false ls is = refl
 step_by_sets false text doc inner leaves ls is = cc
 
+-- .. and by lists
 pub step_by_lists : (sets : Bool) (text : List ℕ) (doc : Document) (inner : Inner) (leaves : Bool) (ls : List Location) → sets ≡ false → led_in sets text doc inner leaves ls ≡ step_in sets text doc inner leaves ls
 step_by_lists true text doc inner leaves ls is = cc
-step_by_lists false text doc inner leaves ls is = by_lists text doc inner leaves ls
+step_by_lists false text doc (tree.plain token) true ls is = refl
+step_by_lists false text doc (tree.plain token) false ls is = refl
+step_by_lists false text doc (tree.filter f) true ls is = refl
+step_by_lists false text doc (tree.filter f) false ls is = refl
 
 pub none_after : (sets : Bool) (text : List ℕ) (doc : Document) (inner : Inner) (leaves : Bool) → step_in sets text doc inner leaves [] ≡ []
-none_after true text doc (tree.plain token) true = refl
-none_after true text doc (tree.plain token) false = refl
-none_after false text doc (tree.plain token) true = refl
-none_after false text doc (tree.plain token) false = refl
-none_after sets text doc (tree.filter f) leaves = by sets leaves (has_own_step f)
-  where
-    by : (s b own : Bool) → lessened s (filter (λ c. holds_in sets text doc f c) (cond own (flattened doc (cond b (step doc every (descent s doc [])) [])) (cond b (step doc every (descent s doc [])) []))) ≡ []
-    by true true true = refl
-    by true true false = refl
-    by true false true = refl
-    by true false false = refl
-    by false true true = refl
-    by false true false = refl
-    by false false true = refl
-    by false false false = refl
+none_after sets text doc (tree.plain token) leaves = grind arith
+none_after sets text doc (tree.filter f) leaves = grind arith
 
 pub gathered_is : (doc : Document) (f : Condition) (deep leaves : Bool) (ls : List Location) → deep ≡ has_own_step f → gathered doc leaves deep ls ≡ candidates doc f (cond leaves (step doc every (all_below doc ls)) ls)
 gathered_is doc f deep leaves ls is = ap (λ b. cond b (flattened doc (cond leaves (step doc every (all_below doc ls)) ls)) (cond leaves (step doc every (all_below doc ls)) ls)) is

@@ -1,6 +1,5 @@
 -- What leads to nothing needs not be followed: a path leads from some locations where it leads from those alone that lead on.
-use Rattle.std.proofs.Common.{◌≡◌, ℕ, Bool, true, false, cond, ◌&&◌, ◌||◌, List, [], ◌∷◌, ◌++◌, Equal, refl, sym, ap, ap₂, ◌∙◌, append-nil}
-use Rattle.std.specs.Prelude.{filter}
+use Rattle.std.proofs.Common.{◌≡◌, ℕ, Bool, true, false, cond, ◌&&◌, ◌||◌, List, [], ◌∷◌, ◌++◌, Equal, refl, sym, ap, ◌∙◌, append-nil, arith, filter}
 use Rattle.std.specs.Cmp.{Equal-is}
 use Rattle.std.specs.List.{list_any}
 use Rattle.std.proofs.lemmas.Grind.{flat_map-append}
@@ -23,29 +22,15 @@ Additive f = (l : Location) (ls : List Location) → f (l ∷ ls) ≡ f (l ∷ [
 
 any-filter : (one two : Location → Bool) (xs : List Location) → list_any two (filter one xs) ≡ list_any (λ x. one x && two x) xs
 any-filter one two [] = refl
-any-filter one two (x ∷ xs) = by (one x) (any-filter one two xs)
-  where
-    by : (b : Bool) → list_any two (filter one xs) ≡ list_any (λ y. one y && two y) xs
-        → list_any two (cond b (x ∷ filter one xs) (filter one xs)) ≡ ((b && two x) || list_any (λ y. one y && two y) xs)
-    by true e = ap (λ c. two x || c) e
-    by false e = e
+any-filter one two (x ∷ xs) = grind (arith, any-filter one two xs)
 
 filter-filter : (one two : Location → Bool) (xs : List Location) → filter two (filter one xs) ≡ filter (λ x. one x && two x) xs
 filter-filter one two [] = refl
-filter-filter one two (x ∷ xs) = by (one x) (filter-filter one two xs)
-  where
-    by : (b : Bool) → filter two (filter one xs) ≡ filter (λ y. one y && two y) xs
-        → filter two (cond b (x ∷ filter one xs) (filter one xs)) ≡ cond (b && two x) (x ∷ filter (λ y. one y && two y) xs) (filter (λ y. one y && two y) xs)
-    by true e = ap (λ (zs : List Location). cond (two x) (x ∷ zs) zs) e
-    by false e = e
+filter-filter one two (x ∷ xs) = grind (arith, filter-filter one two xs)
 
 pub none-filter : (test : Location → Bool) (xs : List Location) → list_any test xs ≡ false → filter test xs ≡ []
 none-filter test [] h = refl
-none-filter test (x ∷ xs) h = by (test x) h (none-filter test xs)
-  where
-    by : (b : Bool) → (b || list_any test xs) ≡ false → (list_any test xs ≡ false → filter test xs ≡ []) → cond b (x ∷ filter test xs) (filter test xs) ≡ []
-    by true e later = cc
-    by false e later = later e
+none-filter test (x ∷ xs) h = grind (arith, none-filter test xs)
 
 pub any_of : (f : List Location → List Location) (test : Location → Bool) → f [] ≡ [] → Additive f → (ls : List Location) → list_any test (f ls) ≡ list_any (λ l. list_any test (f (l ∷ []))) ls
 any_of f test none add [] = ap (list_any test) none
@@ -87,23 +72,7 @@ module _ (apart : (l m : Location) → location_cmp l m ≡ Equal → l ≡ m) (
 
   once_kept : (before xs : List Location) → filter test (each_once_after before xs) ≡ each_once_after (filter test before) (filter test xs)
   once_kept before [] = refl
-  once_kept before (x ∷ xs) = by (list_any (is_same x) before) refl (test x) refl (once_kept before xs) (once_kept (before ++ x ∷ []) xs)
-    where
-      by : (b : Bool) → list_any (is_same x) before ≡ b → (t : Bool) → test x ≡ t
-          → filter test (each_once_after before xs) ≡ each_once_after (filter test before) (filter test xs)
-          → filter test (each_once_after (before ++ x ∷ []) xs) ≡ each_once_after (filter test (before ++ x ∷ [])) (filter test xs)
-          → filter test (cond b (each_once_after before xs) (x ∷ each_once_after (before ++ x ∷ []) xs)) ≡ each_once_after (filter test before) (cond t (x ∷ filter test xs) (filter test xs))
-      by true is true passes old new =
-          let there : list_any (is_same x) (filter test before) ≡ true = same_passes x before ∙ ap₂ (λ a b. a && b) passes is in
-          rw there old
-      by true is false fails old new = old
-      by false is true passes old new =
-          let absent : list_any (is_same x) (filter test before) ≡ false = same_passes x before ∙ ap₂ (λ a b. a && b) passes is in
-          let longer : filter test (before ++ x ∷ []) ≡ filter test before ++ x ∷ [] = filter-append test before (x ∷ []) ∙ ap (λ t. filter test before ++ cond t (x ∷ []) []) passes in
-          rw (absent, passes) (ap (λ (zs : List Location). x ∷ zs) (new ∙ ap (λ (ys : List Location). each_once_after ys (filter test xs)) longer))
-      by false is false fails old new =
-          let same : filter test (before ++ x ∷ []) ≡ filter test before = filter-append test before (x ∷ []) ∙ ap (λ t. filter test before ++ cond t (x ∷ []) []) fails ∙ append-nil (filter test before) in
-          rw fails (new ∙ ap (λ (ys : List Location). each_once_after ys (filter test xs)) same)
+  once_kept before (x ∷ xs) = grind (arith, once_kept before xs, once_kept (before ++ x ∷ []) xs, same_passes x before, filter-append test before (x ∷ []), append-nil (filter test before))
 
 -- ---- the steps one after the other
 

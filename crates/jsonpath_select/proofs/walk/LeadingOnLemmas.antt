@@ -1,8 +1,6 @@
 -- What leads on, found by sets: of the places after a step those are kept from which the later steps lead somewhere, and a list needs
 -- to go on from these alone.
-use Rattle.std.proofs.Common.{◌≡◌, ℕ, zero, suc, ◌<◌, ◌≤◌, Bool, true, false, cond, ◌||◌, List, [], ◌∷◌, ◌++◌, length, take, drop, get_or, set, Equal, refl, sym, ap, ap₂, subst, ◌∙◌, arith, drop-cons, drop_of_length-le}
-use Rattle.std.proofs.Math.Bool.{or-true}
-use Rattle.std.specs.Prelude.{filter}
+use Rattle.std.proofs.Common.{◌≡◌, ℕ, zero, suc, ◌<◌, ◌≤◌, Bool, true, false, cond, List, [], ◌∷◌, ◌++◌, length, take, drop, get_or, set, Equal, refl, sym, ap, ap₂, subst, ◌∙◌, arith, drop-cons, drop_of_length-le, filter}
 use Rattle.std.specs.Cmp.{Equal-is}
 use Rattle.std.specs.List.{AllByRecursion, list_any}
 use Rattle.jsonpath_nodes.specs.document.Document.{Document}
@@ -32,11 +30,7 @@ use Rattle.jsonpath_select.proofs.walk.SetMeaningLemmas.{same-itself, same-trans
 
 pub places_filter : (test : Location → Bool) (ps : List Tagged) → places (filter (λ (p : Tagged). test p.1) ps) ≡ filter test (places ps)
 places_filter test [] = refl
-places_filter test (p ∷ ps) = by (test p.1) (places_filter test ps)
-  where
-    by : (b : Bool) → places (filter (λ (q : Tagged). test q.1) ps) ≡ filter test (places ps) → places (cond b (p ∷ filter (λ (q : Tagged). test q.1) ps) (filter (λ (q : Tagged). test q.1) ps)) ≡ cond b (p.1 ∷ filter test (places ps)) (filter test (places ps))
-    by true e = ap (λ (ls : List Location). p.1 ∷ ls) e
-    by false e = e
+places_filter test (p ∷ ps) = grind (arith, places_filter test ps)
 
 pub places_itself : (t : ℕ) (ls : List Location) → places (spread itself t ls) ≡ ls
 places_itself t [] = refl
@@ -44,11 +38,7 @@ places_itself t (l ∷ ls) = ap (λ (ms : List Location). l ∷ ms) (places_itse
 
 some_filter : (test : Location → Bool) (ls : List Location) → is_some_location (filter test ls) ≡ list_any test ls
 some_filter test [] = refl
-some_filter test (l ∷ ls) = by (test l) (some_filter test ls)
-  where
-    by : (b : Bool) → is_some_location (filter test ls) ≡ list_any test ls → is_some_location (cond b (l ∷ filter test ls) (filter test ls)) ≡ (b || list_any test ls)
-    by true e = refl
-    by false e = e
+some_filter test (l ∷ ls) = grind (arith, some_filter test ls)
 
 abbrev Alike : (Location → Bool) → (Location → Bool) → Location → Type 0
 Alike p q l = p l ≡ q l
@@ -59,11 +49,7 @@ filter_alike p q (l ∷ ls) all = ap₂ (λ (b : Bool) (ms : List Location). con
 
 there_filter : (P : Location → Type 0) (test : Location → Bool) (ls : List Location) → AllByRecursion P ls → AllByRecursion P (filter test ls)
 there_filter P test [] all = tt
-there_filter P test (l ∷ ls) all = by (test l) (there_filter P test ls all.1)
-  where
-    by : (b : Bool) → AllByRecursion P (filter test ls) → AllByRecursion P (cond b (l ∷ filter test ls) (filter test ls))
-    by true rest = (all.0, rest)
-    by false rest = rest
+there_filter P test (l ∷ ls) all = grind (arith, there_filter P test ls all.1)
 
 -- ---- sets along a path
 
@@ -96,19 +82,11 @@ module _ (apart : (l m : Location) → location_cmp l m ≡ Equal → l ≡ m) (
     (sets : Bool) (text : List ℕ) (doc : Document) (ordered : IsOrderedDocument doc) where
   any_at : (P : Location → Bool) (l : Location) (ms : List Location) → IsThere ms l → P l ≡ true → list_any P ms ≡ true
   any_at P l [] there passes = cc
-  any_at P l (m ∷ ms) there passes = by (is_same l m) refl there (λ later. any_at P l ms later passes)
-    where
-      by : (b : Bool) → is_same l m ≡ b → (b || list_any (is_same l) ms) ≡ true → (list_any (is_same l) ms ≡ true → list_any P ms ≡ true) → (P m || list_any P ms) ≡ true
-      by true same there later = let here : P m ≡ true = ap P (sym (apart l m ((Equal-is (location_cmp l m)).0 same))) ∙ passes in ap (λ (b : Bool). b || list_any P ms) here
-      by false same there later = ap (λ (b : Bool). P m || b) (later there) ∙ or-true (P m)
+  any_at P l (m ∷ ms) there passes = grind (arith, any_at P l ms, apart l m, (Equal-is (location_cmp l m)).0)
 
   any_within : (P : Location → Bool) (ls ms : List Location) → AllByRecursion (IsThere ms) ls → list_any P ls ≡ true → list_any P ms ≡ true
   any_within P [] ms all some = cc
-  any_within P (l ∷ ls) ms all some = by (P l) refl some (any_within P ls ms all.1)
-    where
-      by : (b : Bool) → P l ≡ b → (b || list_any P ls) ≡ true → (list_any P ls ≡ true → list_any P ms ≡ true) → list_any P ms ≡ true
-      by true passes some later = any_at P l ms all.0 passes
-      by false passes some later = later some
+  any_within P (l ∷ ls) ms all some = grind (arith, any_at P l ms all.0, any_within P ls ms all.1)
 
   is_led : (inner : Inner) (leaves : Bool) (ls : List Location) → led_in sets text doc inner leaves ls ≡ inner_on text doc inner leaves ls
   is_led = led_is keeps below alike sets text doc ordered

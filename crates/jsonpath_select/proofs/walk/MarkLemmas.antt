@@ -1,6 +1,5 @@
 -- Marks that stand at locations of a document.
-use Rattle.std.proofs.Common.{Option, ◌≡◌, ℕ, zero, suc, ◌<◌, Bool, List, [], ◌∷◌, map, length, drop, Some, refl, sym, ap, ◌∙◌, get_or, arith}
-use Rattle.std.specs.Prelude.{filter_map}
+use Rattle.std.proofs.Common.{Option, ◌≡◌, ℕ, zero, suc, ◌<◌, Bool, List, [], ◌∷◌, map, length, drop, Some, refl, sym, ap, ◌∙◌, get_or, arith, filter_map}
 use Rattle.std.specs.List.{cons_option}
 use Rattle.std.proofs.lemmas.List.{length-map, map-id}
 use mathlib.Core.List.{map-map}

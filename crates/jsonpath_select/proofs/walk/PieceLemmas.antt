@@ -1,16 +1,14 @@
 -- What a list leads to begins with what its front leads to, so the first place of an answer is found from one piece at a time.
-use Rattle.std.proofs.Common.{◌≡◌, ℕ, ◌+◌, Option, Some, None, Bool, true, false, cond, List, [], ◌∷◌, ◌++◌, take, drop, length, ◌==◌, suc, ne_eqb, arith, Equal, refl, sym, ap, ◌∙◌}
+use Rattle.std.proofs.Common.{◌≡◌, ℕ, ◌+◌, Option, Some, None, Bool, true, false, cond, List, [], ◌∷◌, ◌++◌, take, drop, length, ◌==◌, suc, ne_eqb, arith, Equal, refl, sym, ap, ◌∙◌, drop-drop, take-append-drop, filter}
 use Rattle.std.proofs.lemmas.Grind.{flat_map-append}
-use Rattle.std.proofs.lemmas.List.{drop-drop, take-append-drop}
 use Rattle.std.proofs.lemmas.List.Elements.{filter-append}
-use Rattle.std.specs.Prelude.{filter}
 use Rattle.std.specs.List.{list_any}
 use Rattle.jsonpath_nodes.specs.document.Document.{Document}
 use Rattle.jsonpath_paths.specs.tree.Tree.{PathSteps, Inner, Condition}
 use Rattle.jsonpath_paths.specs.tree.Tree as tree
 use Rattle.jsonpath_nodes.specs.place.Location.{Location, location_cmp, is_same, below, flat}
 use Rattle.jsonpath_nodes.specs.step.SameMembers.{SomeOfASet, EachOnceKeepsMembers}
-use Rattle.jsonpath_nodes.specs.step.Steps.{every, step, all_below, from, from_each, single_steps, each_once, each_once_after, flattened}
+use Rattle.jsonpath_nodes.specs.step.Steps.{every, from, from_each, single_steps, each_once, each_once_after, flattened}
 use Rattle.jsonpath_select.specs.Meaning.{follow, inner_on, holds, is_some_location, has_own_step}
 use Rattle.jsonpath_select.specs.Parts.{plain_of}
 use Rattle.jsonpath_nodes.specs.place.Mark.{MarksStandAt}
@@ -78,18 +76,8 @@ module _ (apart : (l m : Location) → location_cmp l m ≡ Equal → l ≡ m) (
 module _ (text : List ℕ) (doc : Document) where
   follow-none : (ss : PathSteps) → follow text doc ss [] ≡ []
   follow-none tree.no_steps = refl
-  follow-none (tree.step_then leaves bracket (tree.plain token) rest) = by leaves (follow-none rest)
-    where
-      by : (b : Bool) → follow text doc rest [] ≡ [] → follow text doc rest (step doc (plain_of text token) (cond b (all_below doc []) [])) ≡ []
-      by true none = none
-      by false none = none
-  follow-none (tree.step_then leaves bracket (tree.filter f) rest) = by leaves (has_own_step f) (follow-none rest)
-    where
-      by : (b own : Bool) → follow text doc rest [] ≡ [] → follow text doc rest (filter (λ c. holds text doc f c) (cond own (flattened doc (cond b (step doc every (all_below doc [])) [])) (cond b (step doc every (all_below doc [])) []))) ≡ []
-      by true true none = none
-      by true false none = none
-      by false true none = none
-      by false false none = none
+  follow-none (tree.step_then leaves bracket (tree.plain token) rest) = grind (arith, follow-none rest)
+  follow-none (tree.step_then leaves bracket (tree.filter f) rest) = grind (arith, follow-none rest)
 
 -- ---- slices of a list
 

@@ -1,7 +1,6 @@
 -- The meaning of a path by sets of locations.
-use Rattle.std.proofs.Common.{◌≡◌, ℕ, List, [], ◌∷◌, Option, Some, None, Bool, true, false, cond, ◌||◌, refl, sym, ap, ap₂, subst, ◌∙◌}
-use Rattle.std.specs.Prelude.{filter, option_map}
-use Rattle.std.specs.List.{list_any, cons_option}
+use Rattle.std.proofs.Common.{◌≡◌, ℕ, List, [], ◌∷◌, Option, Some, None, Bool, true, false, cond, refl, sym, ap₂, subst, ◌∙◌, arith, filter, option_map}
+use Rattle.std.specs.List.{list_any}
 use Rattle.jsonpath_nodes.specs.document.Document.{Document}
 use Rattle.jsonpath_paths.specs.tree.Tree.{Path, PathSteps, Inner, Condition, Term}
 use Rattle.jsonpath_paths.specs.tree.Tree as tree
@@ -30,12 +29,7 @@ seen_holds test (Some x) = test x
 
 any_values : (doc : Document) (test : Seen → Bool) (ls : List Location) → list_any test (values_at doc ls) ≡ list_any (λ l. seen_holds test (option_map seen (at doc l))) ls
 any_values doc test [] = refl
-any_values doc test (l ∷ ls) = by (option_map seen (at doc l)) (any_values doc test ls)
-  where
-    by : (o : Option Seen) → list_any test (values_at doc ls) ≡ list_any (λ m. seen_holds test (option_map seen (at doc m))) ls
-        → list_any test (cons_option o (values_at doc ls)) ≡ (seen_holds test o || list_any (λ m. seen_holds test (option_map seen (at doc m))) ls)
-    by None e = e
-    by (Some x) e = ap (λ (b : Bool). test x || b) e
+any_values doc test (l ∷ ls) = grind (arith, any_values doc test ls)
 
 some_location : (ls : List Location) → is_some_location ls ≡ list_any (λ l. true) ls
 some_location [] = refl

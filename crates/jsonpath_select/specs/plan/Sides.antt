@@ -3,8 +3,7 @@ use Rattle.std.specs.Prelude.{◌≡◌, List, true, false, Some, option_map, ma
 use Rattle.jsonpath_nodes.specs.document.Document.{Document}
 use Rattle.jsonpath_nodes.specs.place.Location.{Location, at}
 use Rattle.jsonpath_nodes.specs.compare.Comparisons.{seen}
-use Rattle.jsonpath_nodes.specs.compare.Atoms.{seen_by}
-use Rattle.jsonpath_nodes.specs.compare.Atoms.{DecimalAtom}
+use Rattle.jsonpath_nodes.specs.compare.Atoms.{seen_by, DecimalAtom}
 use Rattle.jsonpath_select.specs.plan.Machine.{Operand, of_path, tags, literal, places}
 use Rattle.jsonpath_select.specs.plan.Shown.{tags_of}
 use Rattle.jsonpath_select.specs.declared.comparison.side.Side.{Side}

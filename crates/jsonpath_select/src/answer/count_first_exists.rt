@@ -2,7 +2,6 @@
 ghost use Rattle.std.specs.Prelude.{◌≡◌, option_map, IfOk, IfErr};
 ghost use Rattle.serde_json.specs.View.{view};
 ghost use Rattle.jsonpath_nodes.specs.document.OfData.{document_of};
-ghost use Rattle.jsonpath_paths.specs.Listed.{IsListOfText};
 ghost use Rattle.jsonpath_select.specs.answer.Counted.{IsFirstOf, TellsIfAny};
 ghost use Rattle.jsonpath_select.specs.AnyPath.{ArePartsOf};
 ghost use Rattle.jsonpath_select.specs.Meaning.{Selects};
@@ -14,13 +13,13 @@ use crate::error::halt::Halt;
 use crate::laws::each_location_has_a_value;
 use crate::machine::machine::Machine;
 use crate::machine::manner::manner_of_token_list;
+use jsonpath_nodes::Spot;
 use jsonpath_nodes::laws::{locations_once_in_order_ascend, value_is_document};
-use jsonpath_nodes::{NoMemory, Spot};
-use jsonpath_paths::ParseToken;
 use serde_json::Value;
 use std::alloc::Global;
 
-// The first of the values that the path selects, in the path's order, if there is one.
+// The first of the values that the path selects, in the path's order, if there is one, by the machine. It follows
+// references, and spots only where references can't tell whether a place is met twice.
 pub(crate) fn first_by_parts<'a>(
     alloc: Global,
     json: &'a Value,
@@ -30,11 +29,26 @@ pub(crate) fn first_by_parts<'a>(
     ensures ok { IfOk result (λ first. IsFirstOf (Selects path.entry.text.now (document_of (view json.now))) (option_map (λ v. document_of (view v.now)) first)) }
     ensures refused { IfErr result (λ e. e ≡ JsonPathError.OutOfMemory) }
 {
-    Ok(first_by_tokens(alloc, json, path.text, path.tokens)?)
+    let machine = Machine {
+        alloc,
+        root: json,
+        text: path.text,
+        by_sets: false,
+    };
+    match machine.first_by_tokens::<&Value>(path.tokens) {
+        Ok(found) => Ok(found.first().copied()),
+        Err(Halt::OutOfMemory) => Err(JsonPathError::OutOfMemory),
+        Err(Halt::NeedsLocations) => {
+            let found = machine.first_by_tokens::<Spot>(path.tokens)?;
+            match found.first() {
+                Some(spot) => Ok(Some(spot.value())),
+                None => Ok(None),
+            }
+        }
+    }
 }
 
-// Whether the path selects a value. Where a path is decided by sets, its set is found whole; else the first value is
-// looked for.
+// Whether the path selects a value. If a path is decided by sets, its set is found; else the first value is looked for.
 pub(crate) fn exists_by_parts(
     alloc: Global,
     json: &Value,
@@ -51,36 +65,6 @@ pub(crate) fn exists_by_parts(
         let set = spot_set_by_parts(alloc, json, path)?;
         return Ok(!set.as_slice().is_empty());
     }
-    let first = first_by_tokens(alloc, json, path.text, path.tokens)?;
+    let first = first_by_parts(alloc, json, path)?;
     Ok(first.is_some())
-}
-
-// The first of the values that the path with this text and token list selects, by the machine. It follows references,
-// and spots only where references can't tell whether a place is met twice.
-fn first_by_tokens<'a>(
-    alloc: Global,
-    json: &'a Value,
-    text: &str,
-    tokens: &[ParseToken],
-) -> Result<Option<&'a Value>, NoMemory>
-    requires { IsListOfText text.now tokens.now }
-    ensures { IfOk result (λ first. IsFirstOf (Selects text.now (document_of (view json.now))) (option_map (λ v. document_of (view v.now)) first)) }
-{
-    let machine = Machine {
-        alloc,
-        root: json,
-        text,
-        by_sets: false,
-    };
-    match machine.first_by_tokens::<&Value>(tokens) {
-        Ok(found) => Ok(found.first().copied()),
-        Err(Halt::OutOfMemory) => Err(NoMemory),
-        Err(Halt::NeedsLocations) => {
-            let found = machine.first_by_tokens::<Spot>(tokens)?;
-            match found.first() {
-                Some(spot) => Ok(Some(spot.value())),
-                None => Ok(None),
-            }
-        }
-    }
 }

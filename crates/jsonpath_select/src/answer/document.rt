@@ -6,7 +6,7 @@ ghost use Rattle.jsonpath_select.specs.answer.AnswerText.{document_text, IsDocum
 use crate::answer::unread_number::{has_unread_number, unread_number_error};
 use crate::error::{JsonPathError, serde_error};
 use serde_json::Value;
-use std::alloc::{AllocError, Global};
+use std::alloc::Global;
 
 /// Reads a JSON text. Errors: `Serde`, with `serde_json`'s message, if it is no JSON document, or `OutOfMemory`.
 ///
@@ -19,10 +19,7 @@ pub fn read_document(alloc: Global, bytes: &[u8]) -> Result<Value, JsonPathError
     ensures ok { IfOk result (λ document. IsTextOf bytes.now (view document)) }
     ensures refused { IfErr result (IsDocumentRefused bytes.now) }
 {
-    match Value::from_slice(alloc, bytes) {
-        Ok(document) => Ok(document),
-        Err(error) => Err(serde_error(alloc, &error)),
-    }
+    Value::from_slice(alloc, bytes).map_err(|error| serde_error(alloc, &error))
 }
 
 /// The compact JSON text of a document. Errors: `Serde` exactly if the document contains, at any depth, a number that
@@ -42,8 +39,5 @@ pub fn document_to_text(alloc: Global, document: &Value) -> Result<String, JsonP
     if has_unread_number(document) {
         return Err(unread_number_error(alloc));
     }
-    match Value::to_string(document, alloc) {
-        Ok(text) => Ok(text),
-        Err(AllocError) => Err(JsonPathError::OutOfMemory),
-    }
+    Ok(Value::to_string(document, alloc)?)
 }

@@ -11,8 +11,7 @@ use jsonpath_nodes::{Location, Spot};
 use serde_json::Value;
 use std::alloc::Global;
 
-// The locations of the spots that a path has selected, in their order, with their repeats. Refused with `OutOfMemory`
-// alone.
+// The locations of the spots that a path has selected, in their order, with their repeats.
 pub(crate) fn locations_of_selected_spots(
     alloc: Global,
     spots: &[Spot<'_>],
@@ -28,8 +27,7 @@ pub(crate) fn locations_of_selected_spots(
     Ok(found)
 }
 
-// The values at the spots that a path has selected, in their order, with their repeats. Refused with `OutOfMemory`
-// alone.
+// The values at the spots that a path has selected, in their order, with their repeats.
 pub(crate) fn values_of_selected_spots<'a>(
     alloc: Global,
     spots: &[Spot<'a>],

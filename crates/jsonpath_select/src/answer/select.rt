@@ -3,7 +3,7 @@ ghost use Rattle.std.specs.Prelude.{◌≡◌, map, IfOk, IfErr};
 ghost use Rattle.serde_json.specs.View.{view};
 ghost use Rattle.jsonpath_nodes.specs.document.OfData.{document_of};
 ghost use Rattle.jsonpath_nodes.specs.place.SpotPlace.{StandAt};
-ghost use Rattle.jsonpath_paths.specs.Listed.{IsListOf, IsListOfText, IsSomePath};
+ghost use Rattle.jsonpath_paths.specs.Listed.{IsListOf, IsSomePath};
 ghost use Rattle.jsonpath_select.specs.AnyPath.{ArePartsOf};
 ghost use Rattle.jsonpath_select.specs.Meaning.{sel, Selects, SelectsSet, SelectsSpots};
 ghost use Rattle.jsonpath_paths.specs.tree.Tree.{Path};
@@ -44,8 +44,7 @@ pub fn select_path<'a>(
 /// order in which its steps find them, with duplicates. They borrow only the value. The only error is `OutOfMemory`.
 ///
 /// Precondition, which holds if `tokens_fit` returned true: the tokens are the token list of some path, however deeply
-/// nested, and the text has an unquoted or a quoted name at the span of each name in them. The text itself need not be
-/// a path.
+/// nested, and the text has a name, quoted or not, at the span of each name in them. The text need not be a path.
 ///
 /// ```text
 /// let document = read_document(alloc, br#"{"a": 1}"#)?;
@@ -108,7 +107,8 @@ pub(crate) fn spots_by_parts<'a>(
     select_tokens(alloc, json, path.text, path.tokens)
 }
 
-// The values that the path selects in the value, in the path's order.
+// The values that the path selects in the value, in the path's order, by the machine. It follows references, and spots
+// only where references can't tell whether a place is met twice.
 pub(crate) fn values_by_parts<'a>(
     alloc: Global,
     json: &'a Value,
@@ -118,7 +118,21 @@ pub(crate) fn values_by_parts<'a>(
     ensures ok { IfOk result (λ found. Selects path.entry.text.now (document_of (view json.now)) (map (λ v. document_of (view v.now)) found.items)) }
     ensures refused { IfErr result (λ e. e ≡ JsonPathError.OutOfMemory) }
 {
-    values_by_tokens(alloc, json, path.text, path.tokens)
+    let machine = Machine {
+        alloc,
+        root: json,
+        text: path.text,
+        by_sets: false,
+    };
+    match machine.select_by_tokens::<&Value>(path.tokens) {
+        Ok(found) => Ok(found),
+        Err(Halt::OutOfMemory) => Err(JsonPathError::OutOfMemory),
+        Err(Halt::NeedsLocations) => {
+            let spots = spots_by_parts(alloc, json, path)?;
+            let found = values_of_selected_spots(alloc, spots.as_slice())?;
+            Ok(found)
+        }
+    }
 }
 
 // Nodes at what the path selects in the value, as a set.
@@ -184,35 +198,6 @@ pub(crate) fn values_by_walk<'a>(
         Err(Halt::OutOfMemory) => Err(JsonPathError::OutOfMemory),
         Err(Halt::NeedsLocations) => {
             let spots = spots_by_walk(alloc, json, path)?;
-            let found = values_of_selected_spots(alloc, spots.as_slice())?;
-            Ok(found)
-        }
-    }
-}
-
-// The values that the path with this text and token list selects in the value, in the path's order, by the machine. It
-// follows references, and spots only where references can't tell whether a place is met twice.
-pub(crate) fn values_by_tokens<'a>(
-    alloc: Global,
-    json: &'a Value,
-    text: &str,
-    tokens: &[ParseToken],
-) -> Result<Vec<&'a Value>, JsonPathError>
-    requires { IsListOfText text.now tokens.now }
-    ensures ok { IfOk result (λ found. Selects text.now (document_of (view json.now)) (map (λ v. document_of (view v.now)) found.items)) }
-    ensures refused { IfErr result (λ e. e ≡ JsonPathError.OutOfMemory) }
-{
-    let machine = Machine {
-        alloc,
-        root: json,
-        text,
-        by_sets: false,
-    };
-    match machine.select_by_tokens::<&Value>(tokens) {
-        Ok(found) => Ok(found),
-        Err(Halt::OutOfMemory) => Err(JsonPathError::OutOfMemory),
-        Err(Halt::NeedsLocations) => {
-            let spots = machine.select_by_tokens::<Spot>(tokens)?;
             let found = values_of_selected_spots(alloc, spots.as_slice())?;
             Ok(found)
         }

@@ -1,6 +1,6 @@
 //! JSON texts of what a path selects, and of a list of values.
 ghost use Rattle.std.specs.Prelude.{◌≡◌, false, map, string_bytes, Some, None, IfOk, IfErr, IsTrue, OnOk, ◌++◌};
-ghost use Rattle.json.specs.Print.{escape, quoted};
+ghost use Rattle.json.specs.Print.{escape};
 ghost use Rattle.serde_json.specs.View.{view};
 ghost use Rattle.serde_json.specs.Written.{has_float, compact_text, comma_if};
 ghost use Rattle.jsonpath_select.specs.answer.AnswerText.{list_text, bracketed, holds_unread, IsListTextRefused};
@@ -27,10 +27,7 @@ pub fn list_to_text(alloc: Global, values: &[&Value]) -> Result<String, JsonPath
     if has_unread_number_in_values(values) {
         return Err(unread_number_error(alloc));
     }
-    match compact_list_text(alloc, values) {
-        Ok(text) => Ok(text),
-        Err(_) => Err(JsonPathError::OutOfMemory),
-    }
+    Ok(compact_list_text(alloc, values)?)
 }
 
 // The values' compact texts in brackets, with commas between them.
@@ -71,14 +68,12 @@ fn push_list_value(
             Some(n) => text.push_str(Buffer::new().format(n)),
             None => push_compact_text(alloc, text, value),
         },
-        Value::String(s) => {
-            if needs_no_escape(s.as_str()) {
-                push_quoted_without_escapes(text, s.as_str())
-            } else {
-                push_compact_text(alloc, text, value)
-            }
+        Value::String(s) if needs_no_escape(s.as_str()) => {
+            text.push('"')?;
+            text.push_str(s.as_str())?;
+            text.push('"')
         }
-        Value::Array(_) | Value::Object(_) => push_compact_text(alloc, text, value),
+        _ => push_compact_text(alloc, text, value),
     }
 }
 
@@ -97,8 +92,7 @@ fn push_compact_text(alloc: Global, text: &mut String, value: &Value) -> Result<
     Ok(())
 }
 
-// Whether the JSON string of this text is the text itself in quotes: it has no quote, no backslash and no byte below
-// 32.
+// Whether the JSON string of this text is the text itself in quotes: no quote, backslash or byte below 32 is in it.
 fn needs_no_escape(text: &str) -> bool
     ensures { IsTrue result → escape text.now ≡ text.now }
 {
@@ -109,14 +103,4 @@ fn needs_no_escape(text: &str) -> bool
         }
     }
     true
-}
-
-// Adds a text that needs no escapes to the other one, in quotes.
-fn push_quoted_without_escapes(text: &mut String, plain: &str) -> Result<(), AllocError>
-    requires { escape plain.now ≡ plain.now }
-    ensures { OnOk result (string_bytes text.new ≡ string_bytes text.old ++ quoted plain.now) }
-{
-    text.push('"')?;
-    text.push_str(plain)?;
-    text.push('"')
 }

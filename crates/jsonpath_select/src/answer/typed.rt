@@ -32,13 +32,8 @@ pub fn list_to_typed<T: DeserializeOwned>(
     }
     let mut found = Vec::new(alloc);
     for value in values {
-        let typed = match typed_value(alloc, value) {
-            Ok(typed) => typed,
-            Err(error) => return Err(serde_error(alloc, &error)),
-        };
-        if found.push(typed).is_err() {
-            return Err(JsonPathError::OutOfMemory);
-        }
+        let typed = typed_value(alloc, value).map_err(|error| serde_error(alloc, &error))?;
+        found.push(typed)?;
     }
     Ok(found)
 }

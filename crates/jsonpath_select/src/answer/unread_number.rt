@@ -1,5 +1,4 @@
-//! Numbers that are not integers of 64 bits, which are neither printed nor deserialized: whether a value contains
-//! one, and the error.
+//! Numbers that are no integers of 64 bits, which are not printed: whether a value contains one, and the error.
 ghost use Rattle.std.specs.Prelude.{◌≡◌, map};
 ghost use Rattle.serde_json.specs.View.{view};
 ghost use Rattle.serde_json.specs.Written.{has_float};
@@ -53,8 +52,5 @@ pub(crate) fn has_unread_number_in_values(values: &[&Value]) -> bool
 pub(crate) fn unread_number_error(alloc: Global) -> JsonPathError
     ensures { IsUnreadError result }
 {
-    match String::from_str(alloc, UNREAD_NUMBER) {
-        Ok(message) => JsonPathError::Serde(message),
-        Err(_) => JsonPathError::OutOfMemory,
-    }
+    String::from_str(alloc, UNREAD_NUMBER).map_or(JsonPathError::OutOfMemory, JsonPathError::Serde)
 }

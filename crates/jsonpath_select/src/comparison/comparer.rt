@@ -35,8 +35,7 @@ pub struct Comparer<'t> {
 }
 
 impl<'t> Comparer<'t> {
-    // The numbers of the candidates, ascending, at which some value of the left term and some value of the right one
-    // satisfy the comparison.
+    // The numbers of the candidates, ascending, at which some left and some right value satisfy the comparison.
     pub(crate) fn tags_where_comparison_holds<'a, M: Carried<'a>>(
         &self,
         left: Operand<'_, M>,
@@ -73,8 +72,7 @@ impl<'t> Comparer<'t> {
         Ok(tags)
     }
 
-    // The numbers of the candidates at which some atom of the left side and some atom of the right one satisfy the
-    // comparison.
+    // The numbers of the candidates at which some left and some right atom satisfy the comparison.
     fn compare_sides<'b>(&self, left: &Side<'b>, right: &Side<'b>) -> Result<Vec<usize>, NoMemory>
         ensures { IfOk result (λ ts. (doc : Document) (a b : machine.Operand) → ShowsSide doc a left.now → ShowsSide doc b right.now → ts.items ≡ compared doc self.now.op 0 self.now.count a b) }
     {
@@ -93,8 +91,7 @@ impl<'t> Comparer<'t> {
         }
     }
 
-    // The numbers of all candidates where the two sides, each of which is the same for all of them, satisfy the
-    // comparison; else none.
+    // The numbers of all candidates, if the two sides, which all share, satisfy the comparison; else none.
     fn compare_constants<'b>(
         &self,
         left: &Side<'b>,

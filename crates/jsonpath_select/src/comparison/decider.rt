@@ -1,5 +1,4 @@
-//! What is stored of the right-hand values of a comparison, so that each left-hand one is decided without comparing
-//! every pair.
+//! What is stored of the right values of a comparison, to decide each left one without comparing every pair.
 
 ghost use Rattle.std.specs.Prelude.{◌≡◌, IfOk, map};
 ghost use Rattle.std.specs.List.{list_any};
@@ -42,21 +41,12 @@ impl<'s, 't> Decider<'s, 't> {
             return Ok(Decider::All(rights));
         }
         match op {
-            FilterToken::Equal => {
-                let known = ValueSet::of_atoms(alloc, rights)?;
-                Ok(Decider::ValueSet(known))
-            }
+            FilterToken::Equal => Ok(Decider::ValueSet(ValueSet::of_atoms(alloc, rights)?)),
             FilterToken::Little
             | FilterToken::LittleOrEqual
             | FilterToken::Greater
-            | FilterToken::GreaterOrEqual => {
-                let few = extreme_atoms(alloc, op, rights)?;
-                Ok(Decider::Few(few))
-            }
-            FilterToken::NotEqual => {
-                let two = two_unequal(alloc, rights)?;
-                Ok(Decider::Few(two))
-            }
+            | FilterToken::GreaterOrEqual => Ok(Decider::Few(extreme_atoms(alloc, op, rights)?)),
+            FilterToken::NotEqual => Ok(Decider::Few(two_unequal(alloc, rights)?)),
             _ => Ok(Decider::All(rights)),
         }
     }

@@ -66,8 +66,7 @@ impl<'t> Extremes<'t> {
         }
     }
 
-    // Takes in an atom: a truth value, number or text is kept if it is more extreme than the one held; no other kind
-    // is.
+    // Takes in an atom: a truth value, number or text is kept if it is beyond the one held, no other kind.
     fn add_atom(&mut self, op: FilterToken, atom: Atom<'t>)
         requires { IsTrue (is_order op) }
         ensures { (x : Seen) → some_right op x (extreme_values self.new) ≡ (is_pair op x (seen_by atom.entry) || some_right op x (extreme_values self.old)) }
@@ -125,5 +124,5 @@ pub(crate) fn extreme_atoms<'t>(
     ensures { IfOk result (λ few. (x : Seen) → some_right op x (map seen_by few.items) ≡ some_right op x (map seen_by atoms.now)) }
 {
     let extremes = Extremes::of_atoms(op, atoms);
-    Ok(extremes.to_atoms(alloc)?)
+    extremes.to_atoms(alloc)
 }

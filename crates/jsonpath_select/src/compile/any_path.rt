@@ -25,8 +25,7 @@ use serde_json::Value;
 use std::alloc::Global;
 use std::rc::Rc;
 
-/// The parts of a compiled path, borrowed: its text, its syntax tree, and its token list, which is that tree written
-/// out as a list.
+/// The parts of a compiled path, borrowed: its text, its syntax tree, and its token list, which is that tree as a list.
 ///
 /// ```text
 /// let path = Parser::compile(alloc, "$[0]")?;
@@ -107,8 +106,7 @@ pub trait AnyPath {
         spots_by_parts(alloc, value, self.parts())
     }
 
-    /// The locations that the path selects, in the order in which the path finds them, with duplicates. The only error
-    /// is `OutOfMemory`.
+    /// The locations that the path selects, in the order in which it finds them, with duplicates. Error: `OutOfMemory`.
     ///
     /// ```text
     /// let document = read_document(alloc, b"[1, 2, 3]")?;
@@ -150,8 +148,7 @@ pub trait AnyPath {
     /// let document = read_document(alloc, b"[1, 2, 3]")?;
     /// let path = compile_path(alloc, "$[1:]")?;
     /// let numbers = path.select_as::<u8>(alloc, &document)?;
-    /// assert_eq!(rt; numbers.len(), 2);
-    /// assert_eq!(rt; numbers[1], 3);
+    /// assert!(rt; matches!(numbers.as_slice(), [2, 3]));
     /// ```
     fn select_as<T: DeserializeOwned>(
         &self,

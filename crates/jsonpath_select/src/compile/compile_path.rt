@@ -7,8 +7,7 @@ use crate::error::{JsonPathError, path_error};
 use jsonpath_paths::PathParser;
 use std::alloc::Global;
 
-/// Compiles a path text. Errors: `Path` exactly if the text is outside the grammar, or `OutOfMemory` if memory runs
-/// out before that is known.
+/// Compiles a path text. Errors: `Path` exactly if the text is outside the grammar, or `OutOfMemory`.
 ///
 /// ```text
 /// let path = compile_path(alloc, "$[*]")?;

@@ -71,8 +71,7 @@ impl Node {
     }
 }
 
-/// A copy of a compiled path has the same text, syntax tree and token list (the tree written out as a list). The only
-/// error is out of memory.
+/// A copy of a compiled path has the same text, syntax tree and token list. The only error is out of memory.
 impl Clone for Node {
     ghost is_clone = { λ node copy. copy ≡ node };
 

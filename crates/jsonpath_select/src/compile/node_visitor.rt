@@ -50,8 +50,7 @@ pub trait NodeVisitor {
     /// For proofs: the tokens that this receiver has received, in their order.
     ghost tokens: { Self → List ParseToken };
 
-    /// For proofs: whether this receiver has failed. Once it has, its `tokens` (for proofs, the tokens that it has
-    /// received) mean nothing.
+    /// For proofs: whether this receiver has failed. Once it has, its `tokens` mean nothing.
     ghost has_failed: { Self → Bool };
 
     /// Receives the next token of a compiled path, or fails, as when memory runs out.
@@ -59,8 +58,7 @@ pub trait NodeVisitor {
         ensures stays_failed { has_failed self.old ≡ true → has_failed self.new ≡ true }
         ensures given { has_failed self.new ≡ false → tokens self.new ≡ tokens self.old ++ token.now ∷ [] };
 
-    /// Called after the tokens of one side of a comparison. An implementation must change neither `tokens` nor what
-    /// `failed` returns.
+    /// Called after the tokens of one side of a comparison. It must change neither `tokens` nor what `failed` returns.
     fn end_term(&mut self)
         ensures failed { has_failed self.new ≡ has_failed self.old }
         ensures tokens { tokens self.new ≡ tokens self.old }

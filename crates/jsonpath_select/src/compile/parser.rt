@@ -1,5 +1,4 @@
-//! `Parser`, which compiles a path text to a `Node` that owns it, and `ParseFault`, its error, whose message has a
-//! row of `^`.
+//! `Parser`, which compiles a path text to a `Node` that owns it, and its error `ParseFault`, which has a row of `^`.
 ghost use Rattle.std.specs.Prelude.{◌≡◌, ◌<◌, ◌^◌, ◌++◌, List, ℕ, Some, None, codes, decimal, string_bytes, IfOk, IfErr};
 ghost use Rattle.jsonpath_paths.specs.Spelling.{IsInGrammar};
 ghost use Rattle.jsonpath_select.specs.compile.Faults.{caret_text, parse_fault_text, IsEndOfRow, IsFaultOf, IsParseRefused};
@@ -111,10 +110,7 @@ fn fault_of_token_error(alloc: Global, path: &str, error: TokenError) -> ParseFa
         TokenError::Eof => path.len(),
         TokenError::Position(at) => at,
     };
-    match path_with_caret_row(alloc, path, carets) {
-        Ok(message) => ParseFault::Text(message),
-        Err(AllocError) => ParseFault::OutOfMemory,
-    }
+    path_with_caret_row(alloc, path, carets).map_or(ParseFault::OutOfMemory, ParseFault::Text)
 }
 
 // The path, a line end and so many `^`.

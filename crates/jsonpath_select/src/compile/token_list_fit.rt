@@ -15,8 +15,7 @@ use jsonpath_nodes::NoMemory;
 use jsonpath_paths::{FilterToken, ParseToken, StrRange, Token, Tokenizer};
 use std::alloc::Global;
 
-// What stands on the stack of that pass. `absolute` says that a path begins at the root, `leaves` that `..` stands
-// behind it.
+// What stands on the stack of that pass. `absolute`: a path begins at the root; `leaves`: `..` stands behind it.
 #[derive(Clone, Copy)]
 pub enum Entry {
     // A path.
@@ -25,8 +24,7 @@ pub enum Entry {
     Dotted { absolute: bool, leaves: bool },
     // A path with an open bracket behind it, or with `..` and an open bracket.
     Opened { absolute: bool, leaves: bool },
-    // A plain step or a literal that stands behind no dots: whether it may stand alone in brackets, and whether beside
-    // a comparison.
+    // A plain step or a literal behind no dots: whether it may stand alone in brackets, or beside a comparison.
     StepOrLiteral { alone: bool, term: bool },
     // A comparison, or conditions joined.
     Logical,
@@ -82,12 +80,7 @@ fn is_name_at(text: &str, span: StrRange) -> bool
 fn are_names_at(text: &str, spans: &[StrRange]) -> bool
     ensures { result ≡ list_all (is_name_at text.now) spans.now }
 {
-    for span in spans {
-        if !is_name_at(text, *span) {
-            return false;
-        }
-    }
-    true
+    spans.iter().all(|span| is_name_at(text, *span))
 }
 
 // Whether the text has a word, or a text in quotes, at each span of the token.
@@ -105,12 +98,7 @@ fn has_names_of_token(text: &str, token: &ParseToken) -> bool
 fn has_names_of_tokens(text: &str, tokens: &[ParseToken]) -> bool
     ensures { result ≡ list_all (has_names_of_token text.now) tokens.now }
 {
-    for token in tokens {
-        if !has_names_of_token(text, token) {
-            return false;
-        }
-    }
-    true
+    tokens.iter().all(|token| has_names_of_token(text, token))
 }
 
 // Takes in `.`, or `..` where `leaves` is set, behind the path on top of the stack; false where no path is there.
@@ -130,28 +118,13 @@ fn accept_dots(leaves: bool, entries: &mut Vec<Entry>) -> Result<bool, NoMemory>
 fn accept_open_bracket(entries: &mut Vec<Entry>) -> Result<bool, NoMemory>
     ensures { IfOk result (λ ok. Took ok entries.new.items (on_top takes_array (entries_of entries.old.items))) }
 {
-    match entries.pop() {
-        Some(Entry::Ready { absolute }) => {
-            entries.push(Entry::Opened {
-                absolute,
-                leaves: false,
-            })?;
-            Ok(true)
-        }
-        Some(
-            Entry::Dotted {
-                absolute,
-                leaves: true,
-            },
-        ) => {
-            entries.push(Entry::Opened {
-                absolute,
-                leaves: true,
-            })?;
-            Ok(true)
-        }
-        _ => Ok(false),
-    }
+    let (absolute, leaves) = match entries.pop() {
+        Some(Entry::Ready { absolute }) => (absolute, false),
+        Some(Entry::Dotted { absolute, leaves }) if leaves => (absolute, true),
+        _ => return Ok(false),
+    };
+    entries.push(Entry::Opened { absolute, leaves })?;
+    Ok(true)
 }
 
 // Takes in a bracket that closes: with what is on top of the stack it makes a step of the path below; false where that

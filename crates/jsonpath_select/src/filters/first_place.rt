@@ -5,14 +5,13 @@
 ghost use Rattle.std.specs.Prelude.{◌<◌, ◌≤◌, [], ◌∷◌, List, IfOk, Option};
 ghost use Rattle.serde_json.specs.View.{view};
 ghost use Rattle.jsonpath_nodes.specs.document.OfData.{document_of};
-ghost use Rattle.jsonpath_paths.specs.tree.Tree.{Path, PathSteps};
+ghost use Rattle.jsonpath_paths.specs.tree.Tree.{Path, PathSteps, Condition};
 ghost use Rattle.jsonpath_nodes.specs.place.Location.{Location};
 ghost use Rattle.jsonpath_paths.specs.Listed.{IsListOf, IsSomePath};
 ghost use Rattle.jsonpath_select.specs.Meaning.{follow, sel};
 ghost use Rattle.jsonpath_select.specs.plan.First.{BeginAs, CodesOptionalCondition, kept_by};
 ghost use Rattle.jsonpath_select.specs.plan.NextFilter.{CodesSteps};
 ghost use Rattle.jsonpath_select.specs.plan.Standing.{AreStanding, IsStanding};
-ghost use Rattle.jsonpath_paths.specs.tree.Tree.{Condition};
 ghost use Rattle.jsonpath_nodes.specs.place.Mark.{MarksStandAt};
 
 use crate::filters::next_filter::{condition_end, next_filter};
@@ -108,8 +107,7 @@ impl<'a, 't> Machine<'a, 't> {
         Ok(Vec::new(self.alloc))
     }
 
-    // Marks at where the instructions lead from those places at which the condition holds, from all where there is
-    // none.
+    // Marks at where the instructions lead from the places at which the condition holds, or from all, without one.
     fn lead_slice_to_end<M: Carried<'a>>(
         &self,
         condition: Option<&[Instruction<'_>]>,

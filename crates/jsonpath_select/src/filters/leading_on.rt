@@ -17,7 +17,6 @@ use crate::machine::instruction::Instruction;
 use crate::machine::machine::Machine;
 use crate::machine::standing::{Standing, StandingMarks};
 use crate::step::carried_mark::Carried;
-use crate::tagged::shared_lists::marks_shared_by_candidates;
 use jsonpath_nodes::NoMemory;
 use std::alloc::Global;
 
@@ -60,12 +59,8 @@ impl<'a, 't> Machine<'a, 't> {
             ..*self
         };
         let condition = lone_condition(self.alloc, steps)?;
-        let all = marks_shared_by_candidates(self.alloc, marks)?;
-        let kept = machine.keep_passing_candidates(condition.as_slice(), all)?;
-        Ok(StandingMarks {
-            standing: Standing::Unknown,
-            marks: kept.pairs.marks,
-        })
+        let standing = Standing::Unknown;
+        machine.keep_passing_with_standing(condition.as_slice(), StandingMarks { standing, marks })
     }
 }
 

@@ -18,8 +18,7 @@ pub struct FilterApproach<'c, 't> {
     pub(crate) deep: bool,
 }
 
-// The plain steps that lead to the next filter, and the instructions from its condition on; None where no filter is
-// left.
+// The plain steps that lead to the next filter, and the instructions from its condition on; None if no filter is left.
 pub(crate) fn next_filter<'c, 't>(
     left: &'c [Instruction<'t>],
 ) -> Option<(FilterApproach<'c, 't>, &'c [Instruction<'t>])>

@@ -1,6 +1,5 @@
-//! What a path selects, as a list: its filters one after the other, each decided for all of its candidates at once.
-//! If the locations before a filter are known to be apart, no candidate can come twice, and duplicates are not
-//! looked for.
+//! What a path selects, as a list: its filters one after the other, each decided for all of its candidates at once. If
+//! the locations before a filter are known to be apart, no candidate can come twice.
 
 ghost use Rattle.std.specs.Prelude.{List, filter, IfOk, IsTrue};
 ghost use Rattle.std.specs.List.{list_all};

@@ -3,7 +3,7 @@
 
 ghost use Rattle.std.specs.Prelude.{◌≡◌, ◌++◌, map, OnOk, IfOk};
 ghost use Rattle.jsonpath_paths.specs.tree.Tree.{Condition};
-ghost use Rattle.jsonpath_select.specs.plan.Code.{all_by_sets, before_step, by_sets, condition_code, decided_by_sets};
+ghost use Rattle.jsonpath_select.specs.plan.Code.{all_by_sets, by_sets, condition_code, decided_by_sets};
 ghost use Rattle.jsonpath_select.specs.plan.NextFilter.{CodesCondition};
 ghost use Rattle.jsonpath_select.specs.plan.Ordered.{instruction_of};
 
@@ -50,33 +50,20 @@ fn push_by_sets<'t>(
 ) -> Result<(), NoMemory>
     ensures { OnOk result (map instruction_of code.new.items ≡ map instruction_of code.old.items ++ by_sets (instruction_of instruction.entry)) }
 {
+    if let Instruction::Step { leaves: true, .. }
+    | Instruction::Enter { leaves: true, .. } = instruction
+    {
+        code.push(Instruction::Topmost)?;
+    }
+    code.push(instruction)?;
     match instruction {
-        Instruction::Step { leaves, .. } => {
-            push_before_step(leaves, code)?;
-            code.push(instruction)?;
-            code.push(Instruction::InOrder)?;
-        }
-        Instruction::Enter { leaves, .. } => {
-            push_before_step(leaves, code)?;
-            code.push(instruction)?;
-            code.push(Instruction::Distinct)?;
-        }
+        Instruction::Step { .. } => code.push(Instruction::InOrder)?,
+        Instruction::Enter { .. } => code.push(Instruction::Distinct)?,
         Instruction::Leave => {
-            code.push(Instruction::Leave)?;
             code.push(Instruction::PutBack)?;
             code.push(Instruction::InOrder)?;
         }
-        _ => code.push(instruction)?,
-    }
-    Ok(())
-}
-
-// Adds what stands before a step or a filter, where `..` does.
-fn push_before_step(leaves: bool, code: &mut Vec<Instruction<'_>>) -> Result<(), NoMemory>
-    ensures { OnOk result (map instruction_of code.new.items ≡ map instruction_of code.old.items ++ before_step leaves) }
-{
-    if leaves {
-        code.push(Instruction::Topmost)?;
+        _ => {}
     }
     Ok(())
 }

@@ -182,8 +182,7 @@ impl<'a, 't> Machine<'a, 't> {
         Ok(push_top(&mut stacks.frames, Found { is_shared, pairs })?)
     }
 
-    // Closes the innermost filter: its candidates at which the condition on top of the operands holds are put on the
-    // operands.
+    // Closes the innermost filter: its candidates that pass the condition on top of the operands are put there.
     fn end_filter<M: Carried<'a>>(&self, stacks: &mut Stacks<'_, M>) -> Result<(), NoMemory>
         requires { CanExecute M.located M.stand M.content self.now.text.now code.leave stacks.old }
         ensures { OnOk result ((doc : Document) → Executes M.located M.stand M.content self.now.text.now doc code.leave stacks.old stacks.new) }
@@ -198,8 +197,7 @@ impl<'a, 't> Machine<'a, 't> {
         Ok(())
     }
 
-    // Puts on the operands, in place of the two on top, the tags of the candidates at which the comparison holds
-    // between them.
+    // Puts on the operands, in place of the two on top, the tags of the candidates at which the comparison holds.
     fn compare_two_operands<M: Carried<'a>>(
         &self,
         op: FilterToken,
@@ -221,8 +219,7 @@ impl<'a, 't> Machine<'a, 't> {
         Ok(())
     }
 
-    // Puts on the operands, in place of the two conditions on top, the tags of the candidates at which `&&` or `||` of
-    // them holds.
+    // Puts on the operands, in place of the two conditions on top, the tags at which their `&&` or `||` holds.
     fn join_two_conditions<M: Carried<'a>>(
         &self,
         op: FilterToken,

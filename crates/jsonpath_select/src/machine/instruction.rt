@@ -117,22 +117,19 @@ fn note_own_step(has_step: bool, own: &mut Vec<bool>) -> Result<(), NoMemory>
     }
 }
 
-// Notes at the step or filter found last that `.` or `..` stands before it. A `Constant` found last, here a name or
-// `*`, becomes a plain step.
+// Notes at the step or filter found last that `.` or `..` stands before it. A `Constant` becomes a plain step.
 fn note_dots_before_step(leaves: bool, code: &mut Vec<Instruction<'_>>) -> Result<(), NoMemory>
     ensures { OnOk result (front_of code.new.items ≡ with_dots leaves (front_of code.old.items)) }
 {
-    match code.pop() {
+    let found = match code.pop() {
         Some(Instruction::Constant(token)) | Some(Instruction::Step { token, .. }) => {
-            push_top(code, Instruction::Step { leaves, token })
+            Instruction::Step { leaves, token }
         }
-        Some(Instruction::Enter { deep, .. }) => push_top(
-            code,
-            Instruction::Enter { leaves, deep },
-        ),
-        Some(other) => push_top(code, other),
-        None => Ok(()),
-    }
+        Some(Instruction::Enter { deep, .. }) => Instruction::Enter { leaves, deep },
+        Some(other) => other,
+        None => return Ok(()),
+    };
+    push_top(code, found)
 }
 
 // Takes in a bracket that opens. Where one token alone stands in it (names, indexes, a range or `*`), it is a plain

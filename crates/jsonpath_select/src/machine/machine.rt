@@ -146,8 +146,7 @@ impl<'a, 't> Machine<'a, 't> {
     }
 }
 
-// The span of the name, if the instructions begin with a path from `@` whose first step is that name, with no `..`
-// before it; else None.
+// The span of the name, if the instructions begin with a path from `@` whose first step, without `..`, is that name.
 fn leading_name_span(left: &[Instruction<'_>]) -> Option<StrRange>
     ensures { IfSome result (BeginsWithName left.now) }
 {

@@ -1,5 +1,4 @@
-//! How the locations of a list of nodes are related, step after step: whether a filter after the steps may find a
-//! candidate twice.
+//! How the locations of a list are related, step after step: whether a filter behind may find a candidate twice.
 
 ghost use Rattle.std.specs.Prelude.{◌≡◌, ◌<◌, Bool, List, false, filter, length, true, IfOk, IsTrue};
 ghost use Rattle.jsonpath_nodes.specs.document.Document.{Document};
@@ -48,10 +47,7 @@ impl Standing {
     pub(crate) fn are_disjoint(self) -> bool
         ensures { IsTrue result → (ls : List Location) → IsStanding self ls → IsDisjoint ls }
     {
-        match self {
-            Standing::Disjoint => true,
-            _ => false,
-        }
+        matches!(self, Standing::Disjoint)
     }
 
     // Whether it is known that no two of the places are the same, and none leads to another by indexes alone, so that

@@ -22,8 +22,7 @@ impl<P: AnyPath> HeldPair<P, Value> {
     ///
     /// ```text
     /// let mut held = SelectorMut::new();
-    /// held.value(read_document(alloc, b"[1, 2, 3]")?);
-    /// held.str_path(alloc, "$[1:]")?;
+    /// held.str_path(alloc, "$[1:]")?.value(read_document(alloc, b"[1, 2, 3]")?);
     /// let changed = held.delete(alloc)?.take().unwrap_or(Value::Null);
     /// assert!(rt; document_to_text(alloc, &changed)?.as_str() == "[1,null,null]");
     /// ```
@@ -45,8 +44,7 @@ impl<P: AnyPath> HeldPair<P, Value> {
     ///
     /// ```text
     /// let mut held = SelectorMut::new();
-    /// held.value(read_document(alloc, b"[1, 2, 3]")?);
-    /// held.str_path(alloc, "$[1:]")?;
+    /// held.str_path(alloc, "$[1:]")?.value(read_document(alloc, b"[1, 2, 3]")?);
     /// let changed = held.remove(alloc)?.take().unwrap_or(Value::Null);
     /// assert!(rt; document_to_text(alloc, &changed)?.as_str() == "[1]");
     /// ```
@@ -68,8 +66,7 @@ impl<P: AnyPath> HeldPair<P, Value> {
     ///
     /// ```text
     /// let mut held = SelectorMut::new();
-    /// held.value(read_document(alloc, b"[1, 2, 3]")?);
-    /// held.str_path(alloc, "$[1:]")?;
+    /// held.str_path(alloc, "$[1:]")?.value(read_document(alloc, b"[1, 2, 3]")?);
     /// let changed = held.set(alloc, &Value::Bool(true))?.take().unwrap_or(Value::Null);
     /// assert!(rt; document_to_text(alloc, &changed)?.as_str() == "[1,true,true]");
     /// ```
@@ -89,13 +86,11 @@ impl<P: AnyPath> HeldPair<P, Value> {
     /// Calls the closure once for each selected location below the root, in document order, with the value that earlier
     /// updates left there: `Some` replaces the value, `None` removes it. The locations are found beforehand and stay
     /// fixed: after an item was removed, the next item is at its location; a location that no longer exists is skipped.
-    /// Errors, before the closure is called: `EmptyPath` without a path, else `EmptyValue` without a document, else
-    /// `OutOfMemory`.
+    /// Errors, before the closure is called: `EmptyPath` (no path), `EmptyValue` (a path, no document), `OutOfMemory`.
     ///
     /// ```text
     /// let mut held = SelectorMut::new();
-    /// held.value(read_document(alloc, b"[1, 2, 3]")?);
-    /// held.str_path(alloc, "$[1:]")?;
+    /// held.str_path(alloc, "$[1:]")?.value(read_document(alloc, b"[1, 2, 3]")?);
     /// let to_null = &mut |_old: Value| Some(Value::Null);
     /// held.replace_with(alloc, to_null)?;
     /// assert!(rt; held.select_as_str(alloc)?.as_str() == "[null,null]");

@@ -92,8 +92,7 @@ impl<P: AnyPath, V: HeldValue> Default for HeldPair<P, V> {
 }
 
 impl<P: AnyPath, V: HeldValue> HeldPair<P, V> {
-    // The path and the value. Refused with `EmptyPath` where no path is held, and with `EmptyValue` where a path and no
-    // value is.
+    // The path and the value. Refused with `EmptyPath` (no path is held) or `EmptyValue` (a path and no value).
     pub(crate) fn path_and_value(&self) -> Result<(&P, &V), JsonPathError>
         ensures path { IfOk result (λ held. self.now.path ≡ Some (P.spelling held.0.now)) }
         ensures value { IfOk result (λ held. document self.now ≡ Some (document_of (view (V.held held.1.now)))) }
@@ -105,14 +104,12 @@ impl<P: AnyPath, V: HeldValue> HeldPair<P, V> {
     }
 
     /// The locations that the selector's path selects in its value, in the order in which the path finds them, with
-    /// duplicates. Errors: `EmptyPath` exactly if there is no path, `EmptyValue` exactly if there is a path and no
-    /// value, or `OutOfMemory`.
+    /// duplicates. Errors: `EmptyPath` (no path), `EmptyValue` (a path, no value), `OutOfMemory`.
     ///
     /// ```text
     /// let document = read_document(alloc, b"[1, 2, 3]")?;
     /// let mut held = JsonSelector::new(alloc, compile_path(alloc, "$[1:]")?)?;
-    /// held.value(&document);
-    /// let found = held.select_locations(alloc)?;
+    /// let found = held.value(&document).select_locations(alloc)?;
     /// assert_eq!(rt; found.len(), 2);
     /// assert!(rt; found[1].to_string(alloc)?.as_str() == "$[2]");
     /// ```
@@ -130,8 +127,7 @@ impl<P: AnyPath, V: HeldValue> HeldPair<P, V> {
     ///
     /// ```text
     /// let mut held = SelectorMut::new();
-    /// held.value(read_document(alloc, b"[1, 2, 3]")?);
-    /// held.str_path(alloc, "$[1:]")?;
+    /// held.str_path(alloc, "$[1:]")?.value(read_document(alloc, b"[1, 2, 3]")?);
     /// assert!(rt; held.select_as_str(alloc)?.as_str() == "[2,3]");
     /// ```
     pub fn select_as_str(&self, alloc: Global) -> Result<String, JsonPathError>
@@ -152,8 +148,7 @@ impl<P: AnyPath, V: HeldValue> HeldPair<P, V> {
     /// let mut held = Selector::new();
     /// held.value(&document).str_path(alloc, "$[1:]")?;
     /// let numbers = held.select_as::<u8>(alloc)?;
-    /// assert_eq!(rt; numbers.len(), 2);
-    /// assert_eq!(rt; numbers[1], 3);
+    /// assert!(rt; matches!(numbers.as_slice(), [2, 3]));
     /// ```
     pub fn select_as<T: DeserializeOwned>(&self, alloc: Global) -> Result<Vec<T>, JsonPathError>
         ensures ok { IfOk result (λ found. IsCountFor self.now.path (document self.now) (vec_len found)) }
@@ -169,8 +164,7 @@ impl<P: AnyPath, V: HeldValue> HeldPair<P, V> {
     /// ```text
     /// let document = read_document(alloc, b"[1, 2, 3]")?;
     /// let mut held = JsonSelector::new(alloc, compile_path(alloc, "$[1:]")?)?;
-    /// held.value(&document);
-    /// assert_eq!(rt; held.count(alloc)?, 2);
+    /// assert_eq!(rt; held.value(&document).count(alloc)?, 2);
     /// ```
     pub fn count(&self, alloc: Global) -> Result<usize, JsonPathError>
         ensures ok { IfOk result (IsCountOf (AreValuesFor self.now.path (document self.now))) }
@@ -184,8 +178,7 @@ impl<P: AnyPath, V: HeldValue> HeldPair<P, V> {
     ///
     /// ```text
     /// let mut held = SelectorMut::new();
-    /// held.value(read_document(alloc, b"[1, 2, 3]")?);
-    /// held.str_path(alloc, "$[1:]")?;
+    /// held.str_path(alloc, "$[1:]")?.value(read_document(alloc, b"[1, 2, 3]")?);
     /// assert!(rt; held.exists(alloc)?);
     /// ```
     pub fn exists(&self, alloc: Global) -> Result<bool, JsonPathError>

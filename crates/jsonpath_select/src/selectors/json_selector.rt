@@ -11,8 +11,7 @@ use std::alloc::Global;
 use std::rc::Rc;
 
 /// A selector, which is an object with a compiled path and a borrowed value to search. Both are optional, and either
-/// can be set again, which replaces the earlier one. A select call changes neither, whether it succeeds or not, and
-/// stores no answer.
+/// can be set again, which replaces the earlier one. A select call changes neither, and stores no answer.
 ///
 /// ```text
 /// let document = read_document(alloc, b"[1, 2, 3]")?;
@@ -36,8 +35,7 @@ pub type JsonSelector<'a> = HeldPair<Rc<PathParser<'a>>, &'a Value>;
 pub type JsonSelectorMut<'a> = HeldPair<Rc<PathParser<'a>>, Value>;
 
 impl<'p, V: HeldValue> HeldPair<Rc<PathParser<'p>>, V> {
-    /// Makes a `JsonSelector` or a `JsonSelectorMut` with this path and no value. The only error is `OutOfMemory`; the
-    /// path is then dropped.
+    /// Makes a `JsonSelector` or a `JsonSelectorMut` with this path and no value. Error: `OutOfMemory`, which drops it.
     ///
     /// ```text
     /// let held = JsonSelector::new(alloc, compile_path(alloc, "$[0]")?)?;

@@ -19,8 +19,7 @@ impl<'a, P: AnyPath> HeldPair<P, &'a Value> {
     /// ```text
     /// let document = read_document(alloc, b"[1, 2, 3]")?;
     /// let mut held = JsonSelector::new(alloc, compile_path(alloc, "$[1:]")?)?;
-    /// held.value(&document);
-    /// assert_eq!(rt; held.count(alloc)?, 2);
+    /// assert_eq!(rt; held.value(&document).count(alloc)?, 2);
     /// ```
     pub fn value(&mut self, value: &'a Value) -> &mut Self
         ensures place { result.ghost_name ≡ self.entry.ghost_name }
@@ -30,8 +29,7 @@ impl<'a, P: AnyPath> HeldPair<P, &'a Value> {
         self
     }
 
-    /// Does nothing, since a selector caches no answer. It is here for code that was written for the Rust crate
-    /// `jsonpath_lib`.
+    /// Does nothing, since a selector caches no answer; for code written for the Rust crate `jsonpath_lib`.
     ///
     /// ```text
     /// let document = read_document(alloc, b"[1, 2, 3]")?;
@@ -47,14 +45,13 @@ impl<'a, P: AnyPath> HeldPair<P, &'a Value> {
     }
 
     /// The values that the selector's path selects, in the order in which the path's steps find them, with duplicates.
-    /// They borrow only the searched value. Errors: `EmptyPath` exactly if there is no path, `EmptyValue` exactly if
-    /// there is a path and no value, else only `OutOfMemory`.
+    /// They borrow only the searched value. Errors: `EmptyPath` (no path), `EmptyValue` (a path, no value),
+    /// `OutOfMemory`.
     ///
     /// ```text
     /// let document = read_document(alloc, b"[1, 2, 3]")?;
     /// let mut held = JsonSelector::new(alloc, compile_path(alloc, "$[1:]")?)?;
-    /// held.value(&document);
-    /// let found = held.select(alloc)?;
+    /// let found = held.value(&document).select(alloc)?;
     /// assert!(rt; list_to_text(alloc, found.as_slice())?.as_str() == "[2,3]");
     /// ```
     pub fn select(&self, alloc: Global) -> Result<Vec<&'a Value>, JsonPathError>
@@ -66,8 +63,8 @@ impl<'a, P: AnyPath> HeldPair<P, &'a Value> {
     }
 
     /// The selected nodes (values with locations), in the order in which the path's steps find them, with duplicates.
-    /// They borrow only the searched value. Errors: `EmptyPath` if there is no path, else `EmptyValue` if there is no
-    /// value, else `OutOfMemory`.
+    /// They borrow only the searched value. Errors: `EmptyPath` (no path), `EmptyValue` (a path, no value),
+    /// `OutOfMemory`.
     ///
     /// ```text
     /// let document = read_document(alloc, b"[1, 2, 3]")?;
@@ -86,14 +83,12 @@ impl<'a, P: AnyPath> HeldPair<P, &'a Value> {
     }
 
     /// The first of the selected values, in the order in which the path finds them, or `None`. It borrows only the
-    /// searched value. Errors: `EmptyPath` if there is no path, else `EmptyValue` if there is no value, else
-    /// `OutOfMemory`.
+    /// searched value. Errors: `EmptyPath` (no path), `EmptyValue` (a path, no value), `OutOfMemory`.
     ///
     /// ```text
     /// let document = read_document(alloc, b"[1, 2, 3]")?;
     /// let mut held = JsonSelector::new(alloc, compile_path(alloc, "$[1:]")?)?;
-    /// held.value(&document);
-    /// let first = held.first(alloc)?.unwrap_or(&Value::Null);
+    /// let first = held.value(&document).first(alloc)?.unwrap_or(&Value::Null);
     /// assert!(rt; first.as_u64() == Some(2));
     /// ```
     pub fn first(&self, alloc: Global) -> Result<Option<&'a Value>, JsonPathError>

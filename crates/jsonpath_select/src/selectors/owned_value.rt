@@ -18,8 +18,7 @@ impl<P: AnyPath> HeldPair<P, Value> {
     ///
     /// ```text
     /// let mut held = SelectorMut::new();
-    /// held.value(read_document(alloc, b"[1, 2, 3]")?);
-    /// held.str_path(alloc, "$[1:]")?;
+    /// held.str_path(alloc, "$[1:]")?.value(read_document(alloc, b"[1, 2, 3]")?);
     /// assert_eq!(rt; held.count(alloc)?, 2);
     /// ```
     pub fn value(&mut self, value: Value) -> &mut Self
@@ -46,13 +45,11 @@ impl<P: AnyPath> HeldPair<P, Value> {
     }
 
     /// The values that the path selects in the document, in the order in which the path finds them, with duplicates.
-    /// Errors: `EmptyPath` exactly if there is no path, `EmptyValue` exactly if there is a path and no document, or
-    /// `OutOfMemory`.
+    /// Errors: `EmptyPath` (no path), `EmptyValue` (a path, no document), `OutOfMemory`.
     ///
     /// ```text
     /// let mut held = SelectorMut::new();
-    /// held.value(read_document(alloc, b"[1, 2, 3]")?);
-    /// held.str_path(alloc, "$[1:]")?;
+    /// held.str_path(alloc, "$[1:]")?.value(read_document(alloc, b"[1, 2, 3]")?);
     /// let found = held.select(alloc)?;
     /// assert!(rt; list_to_text(alloc, found.as_slice())?.as_str() == "[2,3]");
     /// ```
@@ -65,13 +62,11 @@ impl<P: AnyPath> HeldPair<P, Value> {
     }
 
     /// The nodes (values with locations) that the path selects in the document, in the order in which the path finds
-    /// them, with duplicates. Errors: `EmptyPath` if there is no path, else `EmptyValue` if there is no document, else
-    /// `OutOfMemory`.
+    /// them, with duplicates. Errors: `EmptyPath` (no path), `EmptyValue` (a path, no document), `OutOfMemory`.
     ///
     /// ```text
     /// let mut held = SelectorMut::new();
-    /// held.value(read_document(alloc, b"[1, 2, 3]")?);
-    /// held.str_path(alloc, "$[1:]")?;
+    /// held.str_path(alloc, "$[1:]")?.value(read_document(alloc, b"[1, 2, 3]")?);
     /// let spots = held.select_spots(alloc)?;
     /// assert_eq!(rt; spots.len(), 2);
     /// assert!(rt; spots[1].value().as_u64() == Some(3));
@@ -89,8 +84,7 @@ impl<P: AnyPath> HeldPair<P, Value> {
     ///
     /// ```text
     /// let mut held = SelectorMut::new();
-    /// held.value(read_document(alloc, b"[1, 2, 3]")?);
-    /// held.str_path(alloc, "$[1:]")?;
+    /// held.str_path(alloc, "$[1:]")?.value(read_document(alloc, b"[1, 2, 3]")?);
     /// let first = held.first(alloc)?.unwrap_or(&Value::Null);
     /// assert!(rt; first.as_u64() == Some(2));
     /// ```

@@ -71,8 +71,7 @@ impl<P: OfNode + Drop, V: HeldValue> HeldPair<P, V> {
     ///
     /// ```text
     /// let mut held = SelectorMut::new();
-    /// held.value(read_document(alloc, b"[1, 2, 3]")?);
-    /// held.str_path(alloc, "$[1:]")?;
+    /// held.str_path(alloc, "$[1:]")?.value(read_document(alloc, b"[1, 2, 3]")?);
     /// assert!(rt; held.set_path(alloc, "$[").is_err());
     /// assert!(rt; held.select_as_str(alloc)?.as_str() == "[2,3]");
     /// ```
@@ -154,8 +153,7 @@ impl SelectorMut {
     ///
     /// ```text
     /// let mut held = SelectorMut::new();
-    /// held.value(read_document(alloc, b"[1, 2, 3]")?);
-    /// held.str_path(alloc, "$[1:]")?;
+    /// held.str_path(alloc, "$[1:]")?.value(read_document(alloc, b"[1, 2, 3]")?);
     /// held.compiled_path(Parser::compile(alloc, "$[0]")?);
     /// assert!(rt; held.select_as_str(alloc)?.as_str() == "[1]");
     /// ```

@@ -14,13 +14,12 @@ use std::alloc::Global;
 
 impl<P: AnyPath> HeldPair<P, Value> {
     /// Replaces each selected value by null, except the root and values inside another replaced value, as `delete`
-    /// does. Errors: `EmptyPath` (no path), `EmptyValue` (a path, no document), else `OutOfMemory`; nothing has changed
+    /// does. Errors: `EmptyPath` (no path), `EmptyValue` (a path, no document), `OutOfMemory`; nothing has changed
     /// then.
     ///
     /// ```text
     /// let mut held = SelectorMut::new();
-    /// held.value(read_document(alloc, b"[1, 2, 3]")?);
-    /// held.str_path(alloc, "$[1:]")?;
+    /// held.str_path(alloc, "$[1:]")?.value(read_document(alloc, b"[1, 2, 3]")?);
     /// held.delete_in_place(alloc)?;
     /// assert!(rt; held.select_as_str(alloc)?.as_str() == "[null,null]");
     /// ```
@@ -31,9 +30,7 @@ impl<P: AnyPath> HeldPair<P, Value> {
         ensures kept { OnErr result (self.new ≡ self.old) }
     {
         let path = self.path.as_ref().ok_or(JsonPathError::EmptyPath)?;
-        let Some(value) = &mut self.value else {
-            return Err(JsonPathError::EmptyValue);
-        };
+        let value = self.value.as_mut().ok_or(JsonPathError::EmptyValue)?;
         path.delete_in(alloc, value)
     }
 
@@ -42,8 +39,7 @@ impl<P: AnyPath> HeldPair<P, Value> {
     ///
     /// ```text
     /// let mut held = SelectorMut::new();
-    /// held.value(read_document(alloc, b"[1, 2, 3]")?);
-    /// held.str_path(alloc, "$[1:]")?;
+    /// held.str_path(alloc, "$[1:]")?.value(read_document(alloc, b"[1, 2, 3]")?);
     /// held.remove_in_place(alloc)?;
     /// assert!(rt; !held.exists(alloc)?);
     /// ```
@@ -54,20 +50,17 @@ impl<P: AnyPath> HeldPair<P, Value> {
         ensures kept { OnErr result (self.new ≡ self.old) }
     {
         let path = self.path.as_ref().ok_or(JsonPathError::EmptyPath)?;
-        let Some(value) = &mut self.value else {
-            return Err(JsonPathError::EmptyValue);
-        };
+        let value = self.value.as_mut().ok_or(JsonPathError::EmptyValue)?;
         path.remove_in(alloc, value)
     }
 
     /// Replaces each selected value by a copy of `new`, all at once, except the root and values inside another replaced
-    /// value, as `set` does, but returns no `&mut Self`. Errors: `EmptyPath` if there is no path, else `EmptyValue` if
-    /// there is no document, else `OutOfMemory`; nothing has changed then.
+    /// value, as `set` does. Errors: `EmptyPath` (no path), `EmptyValue` (a path, no document), `OutOfMemory`; nothing
+    /// has changed then.
     ///
     /// ```text
     /// let mut held = SelectorMut::new();
-    /// held.value(read_document(alloc, b"[1, 2, 3]")?);
-    /// held.str_path(alloc, "$[1:]")?;
+    /// held.str_path(alloc, "$[1:]")?.value(read_document(alloc, b"[1, 2, 3]")?);
     /// held.set_in_place(alloc, &Value::Bool(true))?;
     /// assert!(rt; held.select_as_str(alloc)?.as_str() == "[true,true]");
     /// ```
@@ -78,9 +71,7 @@ impl<P: AnyPath> HeldPair<P, Value> {
         ensures kept { OnErr result (self.new ≡ self.old) }
     {
         let path = self.path.as_ref().ok_or(JsonPathError::EmptyPath)?;
-        let Some(value) = &mut self.value else {
-            return Err(JsonPathError::EmptyValue);
-        };
+        let value = self.value.as_mut().ok_or(JsonPathError::EmptyValue)?;
         path.set_in(alloc, value, new)
     }
 
@@ -90,8 +81,7 @@ impl<P: AnyPath> HeldPair<P, Value> {
     ///
     /// ```text
     /// let mut held = SelectorMut::new();
-    /// held.value(read_document(alloc, b"[1, 2, 3]")?);
-    /// held.str_path(alloc, "$[1:]")?;
+    /// held.str_path(alloc, "$[1:]")?.value(read_document(alloc, b"[1, 2, 3]")?);
     /// let to_null = &mut |_old: Value| Some(Value::Null);
     /// held.replace_in_place(alloc, to_null)?;
     /// assert!(rt; held.select_as_str(alloc)?.as_str() == "[null,null]");
@@ -110,21 +100,18 @@ impl<P: AnyPath> HeldPair<P, Value> {
         ensures callable { F.IsAlwaysCallable fun.new }
     {
         let path = self.path.as_ref().ok_or(JsonPathError::EmptyPath)?;
-        let Some(value) = &mut self.value else {
-            return Err(JsonPathError::EmptyValue);
-        };
+        let value = self.value.as_mut().ok_or(JsonPathError::EmptyValue)?;
         path.replace_in(alloc, value, fun)
     }
 
     /// Calls the closure once for each selected location below the root that still exists, in document order, with a
     /// reference to the value that earlier updates left there: `Some` replaces the value, `None` removes it. The
     /// closure's first error ends the updates, as `Refused`; the updates before it remain. Errors before the closure is
-    /// called are `Unasked`: `EmptyPath` without a path, else `EmptyValue` without a document, else `OutOfMemory`.
+    /// called are `Unasked`: `EmptyPath` (no path), `EmptyValue` (a path, no document), `OutOfMemory`.
     ///
     /// ```text
     /// let mut held = SelectorMut::new();
-    /// held.value(read_document(alloc, b"[1, 2, 3]")?);
-    /// held.str_path(alloc, "$[1:]")?;
+    /// held.str_path(alloc, "$[1:]")?.value(read_document(alloc, b"[1, 2, 3]")?);
     /// let refuse = &mut |_old: &Value| Err::<Option<Value>, u8>(7);
     /// let tried = held.try_replace_in_place(alloc, refuse);
     /// assert!(rt; matches!(tried, Err(TryFault::Refused(7))));

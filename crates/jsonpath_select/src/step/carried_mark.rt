@@ -63,7 +63,7 @@ pub trait Carried<'a>: Mark<'a> {
             → numbers.items ≡ numbers_where (λ l. list_any (is_same l) (once_in_order ms)) 0 ls) };
 }
 
-// References: from two places and more they can't tell whether the same is reached twice.
+// References: from two places and more they can't tell which are the same, or how they stand to each other.
 impl<'a> Carried<'a> for &'a Value {
     type Stop = Halt;
 
@@ -77,7 +77,6 @@ impl<'a> Carried<'a> for &'a Value {
         Ok(*self)
     }
 
-    // The candidates from one mark or none; from more, references can't tell which places are the same.
     fn flattened_once(alloc: Global, marks: &[&'a Value]) -> Result<Vec<&'a Value>, Halt> {
         match marks {
             [] => Ok(Vec::new(alloc)),
@@ -86,7 +85,6 @@ impl<'a> Carried<'a> for &'a Value {
         }
     }
 
-    // The candidates behind `..` from one mark or none; from more, references can't tell which places are the same.
     fn candidates_below_once(alloc: Global, marks: &[&'a Value]) -> Result<Vec<&'a Value>, Halt> {
         match marks {
             [] => Ok(Vec::new(alloc)),
@@ -95,7 +93,6 @@ impl<'a> Carried<'a> for &'a Value {
         }
     }
 
-    // Always `NeedsLocations`: references can't tell which comes first.
     fn marks_in_document_order(
         _alloc: Global,
         _marks: &[&'a Value],
@@ -103,12 +100,10 @@ impl<'a> Carried<'a> for &'a Value {
         Err(Halt::NeedsLocations)
     }
 
-    // Always `NeedsLocations`: references can't tell which stands below which.
     fn topmost_marks(_alloc: Global, _marks: &[&'a Value]) -> Result<Vec<&'a Value>, Halt> {
         Err(Halt::NeedsLocations)
     }
 
-    // Always `NeedsLocations`: references can't tell which stand at one place.
     fn indexes_standing_among(
         _alloc: Global,
         _marks: &[&'a Value],
@@ -131,17 +126,14 @@ impl<'a> Carried<'a> for Spot<'a> {
         Ok(self.clone()?)
     }
 
-    // The candidates of a filter whose own `@` has a step, found from the spots, each place once.
     fn flattened_once(alloc: Global, marks: &[Spot<'a>]) -> Result<Vec<Spot<'a>>, NoMemory> {
         ValueWalker::walk_dedup_all(alloc, marks)
     }
 
-    // The candidates of a filter behind `..` whose own `@` has a step, found from the spots, each place once.
     fn candidates_below_once(alloc: Global, marks: &[Spot<'a>]) -> Result<Vec<Spot<'a>>, NoMemory> {
         ValueWalker::candidates_below(alloc, marks)
     }
 
-    // The spots in document order, each location once.
     fn marks_in_document_order(
         alloc: Global,
         marks: &[Spot<'a>],
@@ -149,12 +141,10 @@ impl<'a> Carried<'a> for Spot<'a> {
         in_document_order(alloc, marks)
     }
 
-    // The spots without those at or below the one kept before them; in document order these are the topmost.
     fn topmost_marks(alloc: Global, marks: &[Spot<'a>]) -> Result<Vec<Spot<'a>>, NoMemory> {
         topmost_spots(alloc, marks)
     }
 
-    // The indexes of the spots that stand where one of the others does.
     fn indexes_standing_among(
         alloc: Global,
         marks: &[Spot<'a>],

@@ -30,13 +30,7 @@ pub(crate) fn slice_at<'t>(text: &'t str, span: StrRange) -> &'t str
 fn has_backslash(text: &str) -> bool
     ensures { result ≡ list_any (λ c. c == backslash) (chars text.now) }
 {
-    let mut reader = StrReader::new(text);
-    while let Ok((_, c)) = reader.next_char() {
-        if c == '\\' {
-            return true;
-        }
-    }
-    false
+    text.chars().any(|c| c == '\\')
 }
 
 // The text without the backslashes that escape the character behind them. A last one that escapes nothing stays.
@@ -103,8 +97,7 @@ pub fn borrowed_name_at(text: &str, span: StrRange) -> Option<&str>
     }
 }
 
-// A copy of what a word or a quoted text means: without its quotes, and without the backslashes that escape a
-// character.
+// A copy of what a word or a quoted text means: without its quotes and the backslashes that escape.
 fn copied_name(alloc: Global, whole: &str) -> Result<String, NoMemory>
     ensures { IfOk result (λ name. string_bytes name ≡ encode_utf8_all (name_of (chars whole.now))) }
 {

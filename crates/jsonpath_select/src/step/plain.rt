@@ -13,8 +13,7 @@ use jsonpath_nodes::{Mark, NoMemory, Selection, Stride};
 use jsonpath_paths::ParseToken;
 use std::alloc::Global;
 
-// Where the plain step by a token leads from the marks, one after the other; where `leaves` is set, from them and all
-// below them.
+// Where the plain step by a token leads from the marks, one after the other; with `leaves`, also from all below.
 pub(crate) fn marks_after_plain_step<'a, M: Mark<'a>>(
     alloc: Global,
     text: &str,

@@ -1,5 +1,4 @@
-//! Conditions, decided for all candidates at once: lists of the tags, which are the candidates' numbers, at which they
-//! hold.
+//! Conditions, decided for all candidates at once: lists of the tags (the candidates' numbers) at which they hold.
 
 ghost use Rattle.std.specs.Prelude.{◌≡◌, ℕ, List, IfOk};
 ghost use Rattle.jsonpath_nodes.specs.document.Document.{Document};

@@ -129,8 +129,7 @@ pub(crate) fn candidates_of_filter<'a, M: Carried<'a>>(
     }
 }
 
-// Adds to `out` the marks to which a move leads those of one candidate. One mark and its member need no list of their
-// own.
+// Adds to `out` the marks to which a move leads those of one candidate. One mark's member needs no list.
 #[inline]
 fn add_marks_after_move<'a, M: Carried<'a>>(
     alloc: Global,

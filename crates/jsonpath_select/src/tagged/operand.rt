@@ -1,5 +1,4 @@
-//! An operand of a comparison or a connective: the nodes that a path selects, the candidates at which a condition
-//! holds, or a literal.
+//! An operand of a comparison or a connective: a path's nodes, the candidates at which a condition holds, or a literal.
 
 use crate::tagged::marks::Found;
 use jsonpath_paths::ParseToken;

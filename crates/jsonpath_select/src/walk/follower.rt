@@ -148,8 +148,7 @@ impl<'t, G: Marked> Follower<'t, G> {
         }
     }
 
-    // The indexes of the candidates at which the condition holds; in the manner of sets it is decided once for each
-    // location.
+    // The indexes of the candidates at which the condition holds; by sets it is decided once for each location.
     #[cycle(walk)]
     fn indexes_of_passing_candidates(
         &self,

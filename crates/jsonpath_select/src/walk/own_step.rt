@@ -1,5 +1,4 @@
-//! Whether a condition uses a relative query with at least one segment, which decides how its filter's candidates
-//! are found.
+//! Whether a path from a condition's own `@` has a step, which decides how its filter's candidates are found.
 
 ghost use Rattle.std.specs.Prelude.{◌≡◌};
 ghost use Rattle.jsonpath_paths.specs.tree.View.{path_of, condition_of, term_of};

@@ -1,5 +1,4 @@
-//! The walk: what a path's syntax tree selects in a document, each step applied to the nodes that the steps before it
-//! lead to.
+//! The walk: what a path's syntax tree selects in a document, each step applied to what those before it lead to.
 
 ghost use Rattle.std.specs.Prelude.{◌≡◌, IfOk};
 ghost use Rattle.serde_json.specs.View.{view};

@@ -1,5 +1,4 @@
-use Rattle.std.proofs.Common.{ℕ, List, [], ◌∷◌, inl, inr, sym}
-use Rattle.std.specs.Prelude.{Contains}
+use Rattle.std.proofs.Common.{ℕ, List, [], ◌∷◌, inl, inr, sym, Contains}
 use Rattle.std.proofs.lemmas.List.Elements.{Contains-append_left, Contains-append_right, Contains-append_cases}
 use Rattle.jsonpath_nodes.specs.document.OfData.{value_document}
 use Rattle.jsonpath_lib.specs.update.UpdateLaws.{AreSamePaths}

@@ -1,5 +1,4 @@
-use Rattle.std.proofs.Common.{◌≡◌, [], ◌∷◌, Option, Some, None, codes, true, option_map, refl, ap, ◌∙◌, rules}
-use Rattle.std.specs.Prelude.{IsSome}
+use Rattle.std.proofs.Common.{◌≡◌, [], ◌∷◌, Option, Some, None, codes, true, option_map, refl, ap, ◌∙◌, rules, IsSome}
 use Rattle.std.proofs.lemmas.Result.{IfOk-weaker}
 use Rattle.jsonpath_nodes.specs.document.Document.{Document, boolean}
 use Rattle.serde_json.specs.declared.value.Value.{Bool as truth, the_lemmas}

@@ -19,8 +19,6 @@ returns-then-branch-clause-found c =
         subst (λ text. Selects text (value_document c.args.message.now) told.0) rule told.1,
         λ none.
             let size : length told.0 ≡ 0 = ap length none in
-            let any = told.2 in
-            let branch = c.if-branch.true in
             grind (arith, common_steps),
       ),
     )

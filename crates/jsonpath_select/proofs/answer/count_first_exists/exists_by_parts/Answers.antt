@@ -1,5 +1,4 @@
-use Rattle.std.proofs.Common.{◌==◌, length, refl, ap, ◌∙◌}
-use Rattle.std.specs.Prelude.{not}
+use Rattle.std.proofs.Common.{◌==◌, length, refl, ap, ◌∙◌, not}
 use Rattle.jsonpath_nodes.specs.document.OfData.{value_document}
 use Rattle.jsonpath_nodes.specs.place.SpotPlace.{location_of}
 use Rattle.jsonpath_select.specs.Meaning.{answer, sel}
@@ -21,5 +20,5 @@ returns-then-is_better_by_sets-clause-ok c =
 
 pub returns-clause-ok : goal.returns-clause-ok
 returns-clause-ok c =
-    let told = c.in_ok-first.ensures in
+    let told = c.in_ok-first.ensures.ok in
     (told.0, told.1, c.is_some.ensures ∙ some_answered (λ v. value_document v.now) c.in_ok-first.first told.0 told.2)

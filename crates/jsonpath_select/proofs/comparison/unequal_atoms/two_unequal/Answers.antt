@@ -1,8 +1,7 @@
 use Rattle.std.proofs.Common.{◌<◌, ◌-◌, ◌++◌, [], ◌∷◌, List, length, map, take, drop, get_or, ap, sym, ◌∙◌, drop-cons, arith}
 use Rattle.std.proofs.lemmas.List.{take_rest}
 use Rattle.jsonpath_paths.specs.declared.token.tokens.FilterToken.TheVariants.{NotEqual}
-use Rattle.jsonpath_nodes.specs.compare.Atoms.{seen_by}
-use Rattle.jsonpath_nodes.specs.compare.Atoms.{DecimalAtom}
+use Rattle.jsonpath_nodes.specs.compare.Atoms.{seen_by, DecimalAtom}
 use Rattle.jsonpath_nodes.specs.declared.compare.atom.Atom.TheVariants.{Null}
 use Rattle.jsonpath_select.specs.plan.Deciders.{some_right}
 use Rattle.jsonpath_select.proofs.comparison.TwoValueLemmas.{first_decides, two_decide}

@@ -1,5 +1,4 @@
-use Rattle.std.proofs.Common.{sym, subst, ap, ◌∙◌}
-use Rattle.std.specs.Str.{chars}
+use Rattle.std.proofs.Common.{sym, subst, ap, ◌∙◌, chars}
 use Rattle.jsonpath_paths.specs.token.Kinds.{HasNone, is_name}
 use Rattle.jsonpath_paths.specs.text.TextPlace.{Place, ahead}
 use Rattle.jsonpath_paths.specs.token.Tokens.{TakesToken}

@@ -1,5 +1,4 @@
-use Rattle.std.proofs.Common.{◌≡◌, ℕ, true, sym, ap, ◌∙◌, ◌++◌, ◌⊎◌, inl, inr, List, refl}
-use Rattle.std.specs.Char.{encode_utf8}
+use Rattle.std.proofs.Common.{◌≡◌, ℕ, true, sym, ap, ◌∙◌, ◌++◌, ◌⊎◌, inl, inr, List, refl, encode_utf8}
 use Rattle.jsonpath_paths.specs.text.Characters.{is_quote}
 use Rattle.jsonpath_select.proofs.step.QuotedLemmas.{name_of-quoted}
 use Rattle.jsonpath_select.proofs.step.names.inside_quotes.Goals as goal

@@ -1,5 +1,4 @@
-use Rattle.std.proofs.Common.{◌++◌, ap, ap₂, ◌∙◌, List, ℕ}
-use Rattle.std.specs.Str.{encode_utf8_all}
+use Rattle.std.proofs.Common.{◌++◌, ap, ap₂, ◌∙◌, List, ℕ, encode_utf8_all}
 use Rattle.jsonpath_paths.specs.text.TextPlace.{ahead, Place}
 use Rattle.jsonpath_paths.specs.text.Characters.{unescaped}
 use Rattle.jsonpath_select.proofs.step.QuotedLemmas.{ahead-start}

@@ -1,5 +1,4 @@
-use Rattle.std.proofs.Common.{◌≡◌, ◌++◌, string_bytes, length}
-use Rattle.std.specs.Str.{chars, encode_utf8_all}
+use Rattle.std.proofs.Common.{◌≡◌, ◌++◌, string_bytes, length, chars, encode_utf8_all}
 use Rattle.jsonpath_paths.specs.text.TextPlace.{ahead}
 use Rattle.jsonpath_paths.specs.text.Characters.{unescaped}
 use Rattle.jsonpath_select.proofs.step.QuotedLemmas.{held}

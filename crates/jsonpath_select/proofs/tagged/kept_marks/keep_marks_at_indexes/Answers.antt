@@ -6,9 +6,8 @@ pub loop-number-init : goal.loop-number-init
 loop-number-init g c =
     let gives = c.into_iter-number-iterator.ensures.into_iter_gives in
     let count = c.enumerate-number-items.ensures.count in
-    let source = c.enumerate-number-items.ensures.source in
     record {
-      left = rw (gives, count, source) c.into_iter.ensures.rest;
+      left = rw (gives, count, c.enumerate-number-items.ensures.source) c.into_iter.ensures.rest;
       within = omega arith;
       same = ap length c.in_ok-tags.ensures.items ∙ sym (ap length c.in_ok-marks.ensures.items);
       kept = λ doc ps are. rw (gives, count) (keep_begins g.M.Mark.located g.M.Mark.stand g.M.Mark.content doc c.args.numbers.now ps c.in_ok-tags.tags.items c.in_ok-marks.marks.items c.in_ok-tags.ensures.items c.in_ok-marks.ensures.items);

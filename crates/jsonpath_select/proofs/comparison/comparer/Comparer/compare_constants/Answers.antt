@@ -1,6 +1,5 @@
 use Rattle.std.proofs.Common.{List, ap₂, ap, map, ◌∙◌}
-use Rattle.jsonpath_nodes.specs.compare.Atoms.{seen_by}
-use Rattle.jsonpath_nodes.specs.compare.Atoms.{DecimalAtom}
+use Rattle.jsonpath_nodes.specs.compare.Atoms.{seen_by, DecimalAtom}
 use Rattle.jsonpath_select.specs.plan.Machine.{all_tags_or_none}
 use Rattle.jsonpath_select.specs.Parts.{has_pair}
 use Rattle.jsonpath_select.proofs.comparison.SideLemmas.{compared_once}

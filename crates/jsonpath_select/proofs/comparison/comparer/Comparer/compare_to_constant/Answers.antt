@@ -1,7 +1,6 @@
 use Rattle.std.proofs.Common.{◌++◌, ap₂, arith, ◌≡◌, ◌≤◌, ◌-◌, ◌+◌, ◌==◌, ℕ, List, take, drop, ap, map, ◌∙◌, subst, length}
 use Rattle.std.specs.List.{list_any, prefix_len}
-use Rattle.jsonpath_nodes.specs.compare.Atoms.{seen_by}
-use Rattle.jsonpath_nodes.specs.compare.Atoms.{DecimalAtom}
+use Rattle.jsonpath_nodes.specs.compare.Atoms.{seen_by, DecimalAtom}
 use Rattle.jsonpath_select.specs.plan.Deciders.{some_right}
 use Rattle.jsonpath_select.specs.plan.Machine.{Operand, compared}
 use Rattle.jsonpath_select.specs.Parts.{has_pair}

@@ -1,7 +1,6 @@
 use Rattle.std.proofs.Common.{ap, sym, ◌∙◌, ◌||◌}
-use Rattle.jsonpath_nodes.specs.compare.Atoms.{seen_by}
+use Rattle.jsonpath_nodes.specs.compare.Atoms.{seen_by, DecimalAtom}
 use Rattle.jsonpath_nodes.specs.compare.Comparisons.{pair, equal}
-use Rattle.jsonpath_nodes.specs.compare.Atoms.{DecimalAtom}
 use Rattle.jsonpath_select.specs.plan.Deciders.{is_among_known}
 use Rattle.jsonpath_select.proofs.comparison.FarthestLemmas.{number_known, text_known}
 use Rattle.jsonpath_select.proofs.comparison.value_set.ValueSet.add_atom.Goals as goal

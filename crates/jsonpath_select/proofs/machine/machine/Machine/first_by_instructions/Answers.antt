@@ -1,5 +1,4 @@
 use Rattle.std.proofs.Common.{List, [], ◌∷◌, Some, None, take, refl, sym, subst}
-use Rattle.std.proofs.lemmas.List.{take_rest}
 use Rattle.std.proofs.lemmas.Result.{IfOk-weaker}
 use Rattle.jsonpath_nodes.specs.document.OfData.{value_document}
 use Rattle.jsonpath_nodes.specs.place.Location.{Location}
@@ -9,7 +8,7 @@ use Rattle.jsonpath_select.specs.plan.Machine.{gathered}
 use Rattle.jsonpath_select.specs.plan.NextFilter.{CodesSteps}
 use Rattle.jsonpath_select.specs.plan.Standing.{along}
 use Rattle.jsonpath_select.specs.declared.machine.instruction.Instruction.{Instruction}
-use Rattle.jsonpath_select.proofs.filters.NextFilterLemmas.{ends_condition, next_of, plain_split}
+use Rattle.jsonpath_select.proofs.filters.NextFilterLemmas.{ends_condition, next_of, plain_split, sliced_on}
 use Rattle.jsonpath_select.proofs.machine.machine.Machine.first_by_instructions.Goals as goal
 
 pub first_in_slices-requires : goal.first_in_slices-requires
@@ -28,7 +27,7 @@ first_in_slices-requires g c = λ k.
       (
         (Some n.0, parts.0),
         (
-          (n.1, subst (λ (is : List Instruction). CodesSteps is n.1) (sym (take_rest behind end)) parts.1),
+          (n.1, sliced_on end behind n.1 parts.1),
           (gathered doc way.leaves way.deep ks, subst (λ ms. MarksStandAt g.M.Mark.located g.M.Mark.stand g.M.Mark.content doc (gathered doc way.leaves way.deep ks) ms) (sym c.as_slice-starts.ensures.value) there.0, there.1),
         ),
       ),
@@ -49,7 +48,7 @@ first_in_slices-requires-in-None g c = λ k.
       (
         (None, tt),
         (
-          (split.0, subst (λ (is : List Instruction). CodesSteps is split.0) (sym (take_rest left last)) split.1),
+          (split.0, sliced_on last left split.0 split.1),
           (ks, subst (λ ms. MarksStandAt g.M.Mark.located g.M.Mark.stand g.M.Mark.content doc ks ms) (sym c.as_slice-starts-in-None.ensures.value) ((c.in_ok-led-in-None.ensures ([] ∷ []) c.in_ok-root.ensures).0), tt),
         ),
       ),
@@ -70,7 +69,7 @@ returns-in_ok-candidates-in-Some g c =
     let n = next_of text doc way.steps.now way.leaves way.deep behind ss cut.1 (subst (λ (is : List Instruction). CodesSteps is ss) cut.0 are) in
     let parts = ends_condition behind end n.0 n.1 n.2 c.condition_end-end.ensures.behind in
     subst (λ (ls : List Location). BeginAs g.M.Mark.located g.M.Mark.stand g.M.Mark.content doc ls found.items) (sym (n.3 ([] ∷ [])))
-    (begin (Some n.0) n.1 (gathered doc way.leaves way.deep ks) parts.0 (subst (λ (is : List Instruction). CodesSteps is n.1) (sym (take_rest behind end)) parts.1)
+    (begin (Some n.0) n.1 (gathered doc way.leaves way.deep ks) parts.0 (sliced_on end behind n.1 parts.1)
     (subst (λ ms. MarksStandAt g.M.Mark.located g.M.Mark.stand g.M.Mark.content doc (gathered doc way.leaves way.deep ks) ms) (sym c.as_slice-starts.ensures.value) there.0) there.1))
     c.first_in_slices.ensures
 
@@ -85,6 +84,6 @@ returns-in_ok-led-in-None g c =
     (λ found begin ss are.
     let split = plain_split text doc last left ss are c.in-None.ensures.none in
     subst (λ (ls : List Location). BeginAs g.M.Mark.located g.M.Mark.stand g.M.Mark.content doc ls found.items) (sym (split.2 ([] ∷ [])))
-    (begin None split.0 ks tt (subst (λ (is : List Instruction). CodesSteps is split.0) (sym (take_rest left last)) split.1)
+    (begin None split.0 ks tt (sliced_on last left split.0 split.1)
     (subst (λ ms. MarksStandAt g.M.Mark.located g.M.Mark.stand g.M.Mark.content doc ks ms) (sym c.as_slice-starts-in-None.ensures.value) ((c.in_ok-led-in-None.ensures ([] ∷ []) c.in_ok-root.ensures).0)) tt))
     c.first_in_slices-in-None.ensures

@@ -10,9 +10,8 @@ returns-then-not-asks_standing g c = λ ls from. (c.in_ok-marks.ensures (value_d
 
 pub returns : goal.returns
 returns g c = λ ls from.
-    let text = c.args.self.now.text.now in
     let doc = value_document c.args.self.now.root.now in
-    let led = stepped text doc c.args.leaves c.args.token.now ls in
+    let led = stepped c.args.self.now.text.now doc c.args.leaves c.args.token.now ls in
     let stood : MarksStandAt g.M.Mark.located g.M.Mark.stand g.M.Mark.content doc ls c.as_slice-before.result.now = ap (map (shown g.M.Mark.stand g.M.Mark.content)) c.as_slice-before.ensures.value ∙ from.0 in
     let there : MarksStandAt g.M.Mark.located g.M.Mark.stand g.M.Mark.content doc led c.in_ok-marks.marks.items = c.in_ok-marks.ensures doc ls stood in
     let so_many : length led ≡ length c.as_slice-count.result.now = sym (ap length c.as_slice-count.ensures.value ∙ length-marks g.M.Mark.located g.M.Mark.stand g.M.Mark.content doc led c.in_ok-marks.marks.items there) in

@@ -1,16 +1,16 @@
 use Rattle.std.proofs.Common.{refl, ap₂, ◌∙◌}
 use Rattle.jsonpath_select.specs.plan.Code as code
 use Rattle.jsonpath_select.specs.plan.Machine.{joined_tags}
-use Rattle.jsonpath_select.proofs.machine.StepLemmas.{inside_frames, joins_first, joins_second, joins_conditions, join_done}
+use Rattle.jsonpath_select.proofs.machine.StepLemmas.{inside_frames, joins_two, two_first, two_second, joins_conditions, join_done}
 use Rattle.jsonpath_select.proofs.machine.machine.Machine.join_two_conditions.Goals as goal
 
 pub pop_top-right-requires : goal.pop_top-right-requires
-pop_top-right-requires g c = let h = c.requires in joins_first g.M.Mark.located g.M.Mark.stand g.M.Mark.content c.args.self.now.text.now h.0 c.args.op h.1.frames h.1.operands h.2 c.args.stacks.now.operands.items h.3.1 h.4
+pop_top-right-requires g c = let h = c.requires in two_first g.M.Mark.located g.M.Mark.stand g.M.Mark.content c.args.self.now.text.now h.0 c.args.stacks.now.operands.items (joins_two g.M.Mark.located g.M.Mark.stand g.M.Mark.content c.args.self.now.text.now h.0 c.args.op h.1.frames h.1.operands h.2 c.args.stacks.now.operands.items h.3.1 h.4)
 
 pub pop_top-left-requires : goal.pop_top-left-requires
 pop_top-left-requires g c =
     let h = c.requires in
-    joins_second g.M.Mark.located g.M.Mark.stand g.M.Mark.content c.args.self.now.text.now h.0 c.args.op h.1.frames h.1.operands h.2 c.args.stacks.now.operands.items c.pop_top-right.new.stack.items c.pop_top-right.result h.3.1 h.4 c.pop_top-right.ensures
+    two_second g.M.Mark.located g.M.Mark.stand g.M.Mark.content c.args.self.now.text.now h.0 c.args.stacks.now.operands.items c.pop_top-right.new.stack.items c.pop_top-right.result (joins_two g.M.Mark.located g.M.Mark.stand g.M.Mark.content c.args.self.now.text.now h.0 c.args.op h.1.frames h.1.operands h.2 c.args.stacks.now.operands.items h.3.1 h.4) c.pop_top-right.ensures
 
 pub candidate_count-count-requires : goal.candidate_count-count-requires
 candidate_count-count-requires g c = let h = c.requires in inside_frames g.M.Mark.located g.M.Mark.stand g.M.Mark.content c.args.self.now.text.now h.0 (code.joins c.args.op) h.1.frames h.1.operands h.2 c.args.stacks.now.frames.items h.3.0 h.4

@@ -1,6 +1,5 @@
-use Rattle.std.proofs.Common.{true, List, map, refl, ap, ◌∙◌}
+use Rattle.std.proofs.Common.{true, List, map, refl, ap, ◌∙◌, filter}
 use Rattle.std.proofs.lemmas.Result.{IfOk-weaker}
-use Rattle.std.specs.Prelude.{filter}
 use Rattle.jsonpath_nodes.specs.document.OfData.{value_document}
 use Rattle.jsonpath_nodes.specs.place.Order.{once_in_order}
 use Rattle.jsonpath_select.specs.Meaning.{holds}

@@ -1,5 +1,4 @@
-use Rattle.std.proofs.Common.{List, refl, subst}
-use Rattle.std.specs.Prelude.{filter}
+use Rattle.std.proofs.Common.{List, refl, subst, filter}
 use Rattle.jsonpath_nodes.specs.document.OfData.{value_document}
 use Rattle.jsonpath_nodes.specs.place.Location.{Location}
 use Rattle.jsonpath_nodes.specs.place.Mark.{MarksStandAt}

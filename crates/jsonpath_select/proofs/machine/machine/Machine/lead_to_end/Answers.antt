@@ -1,5 +1,4 @@
-use Rattle.std.proofs.Common.{◌≡◌, ◌+◌, List, ◌∷◌, length, refl, sym, ap, ◌∙◌, subst, length-append, arith}
-use Rattle.std.specs.Prelude.{filter}
+use Rattle.std.proofs.Common.{◌≡◌, ◌+◌, List, ◌∷◌, length, refl, sym, ap, ◌∙◌, subst, length-append, arith, filter}
 use Rattle.jsonpath_nodes.specs.document.OfData.{value_document}
 use Rattle.jsonpath_nodes.specs.place.Location.{Location}
 use Rattle.jsonpath_nodes.specs.place.Mark.{MarksStandAt}
@@ -54,8 +53,7 @@ loop-way-preserved g c = λ ss ls are there.
 
 pub returns : goal.returns
 returns g c =
-    let text = c.args.self.now.text.now in
     let doc = value_document c.args.self.now.root.now in
     λ ss ls are there.
     let h = c.loop-way.invariant ss ls are there in
-    subst (λ (ks : List Location). MarksStandAt g.M.Mark.located g.M.Mark.stand g.M.Mark.content doc ks c.in_ok-led.led.marks.items) (sym (h.4 ∙ plain_followed text doc c.loop-way.rest.now h.0 h.1 h.2 c.in_default.ensures.none)) (c.in_ok-led.ensures h.1 h.3).0
+    subst (λ (ks : List Location). MarksStandAt g.M.Mark.located g.M.Mark.stand g.M.Mark.content doc ks c.in_ok-led.led.marks.items) (sym (h.4 ∙ plain_followed c.args.self.now.text.now doc c.loop-way.rest.now h.0 h.1 h.2 c.in_default.ensures.none)) (c.in_ok-led.ensures h.1 h.3).0

@@ -13,11 +13,10 @@ lead_to_end-requires g c = λ k.
 
 pub returns : goal.returns
 returns g c =
-    let text = c.args.self.now.text.now in
     let doc = value_document c.args.self.now.root.now in
     IfOk-weaker c.lead_to_end.result _ _
     (λ found leads p codes.
-    let b = begins text doc p c.args.code.now codes in
+    let b = begins c.args.self.now.text.now doc p c.args.code.now codes in
     subst (λ (ls : List Location). MarksStandAt g.M.Mark.located g.M.Mark.stand g.M.Mark.content doc ls found.items) b.2 (leads b.0 ([] ∷ []) b.1 c.in_ok-root.ensures))
     c.lead_to_end.ensures
 
@@ -28,10 +27,9 @@ lead_on_to_end-requires g c = λ k.
 
 pub returns-then-keeps_what_leads_on : goal.returns-then-keeps_what_leads_on
 returns-then-keeps_what_leads_on g c =
-    let text = c.args.self.now.text.now in
     let doc = value_document c.args.self.now.root.now in
     IfOk-weaker c.lead_on_to_end.result _ _
     (λ found leads p codes.
-    let b = begins text doc p c.args.code.now codes in
+    let b = begins c.args.self.now.text.now doc p c.args.code.now codes in
     subst (λ (ls : List Location). MarksStandAt g.M.Mark.located g.M.Mark.stand g.M.Mark.content doc ls found.items) b.2 (leads b.0 ([] ∷ []) b.1 c.in_ok-root.ensures))
     c.lead_on_to_end.ensures

@@ -1,6 +1,5 @@
-use Rattle.std.proofs.Common.{◌≡◌, List, length, refl, sym, ap, ap₂, subst, ◌∙◌, arith}
+use Rattle.std.proofs.Common.{◌≡◌, List, length, refl, sym, ap, ap₂, subst, ◌∙◌, arith, filter}
 use Rattle.std.proofs.lemmas.Result.{IfOk-weaker}
-use Rattle.std.specs.Prelude.{filter}
 use Rattle.jsonpath_paths.specs.tree.Tree as tree
 use Rattle.jsonpath_paths.specs.tree.View.{path_of, inner_of, condition_of, term_of}
 use Rattle.jsonpath_paths.specs.declared.tree.parser_node.Condition.{Condition}
@@ -21,15 +20,12 @@ use Rattle.jsonpath_select.proofs.walk.follower.Follower.+walk.Goals as goal
 
 pub indexes_where_condition_holds-returns-in_ok-tags_where_marks_found-in-Lone : goal.indexes_where_condition_holds-returns-in_ok-tags_where_marks_found-in-Lone
 indexes_where_condition_holds-returns-in_ok-tags_where_marks_found-in-Lone g t c = λ ps shows.
-    let located = g.G.Marked.located in
-    let stand = g.G.Marked.stand in
-    let content = g.G.Marked.content in
     let sets = c.args.self.now.sets in
     let text = c.args.self.now.text.now in
     let doc = g.G.Marked.whole c.args.self.now.document in
     let p = path_of c.in-Lone.path in
     let found = c.in_ok-found-in-Lone.ensures ps shows in
-    let count : length c.as_slice-count.result.now ≡ length (places ps) = ap length c.as_slice-count.ensures.value ∙ counted located stand content doc ps c.args.candidates.now shows in
+    let count : length c.as_slice-count.result.now ≡ length (places ps) = ap length c.as_slice-count.ensures.value ∙ counted g.G.Marked.located g.G.Marked.stand g.G.Marked.content doc ps c.args.candidates.now shows in
     c.in_ok-tags_where_marks_found-in-Lone.ensures (found_in sets text doc p (places ps)).pairs found.1.0
     ∙ ap₂ (λ b n. found_tags b n (found_in sets text doc p (places ps)).pairs) found.0 count
     ∙ tags_in sets text doc p (places ps)
@@ -37,30 +33,24 @@ indexes_where_condition_holds-returns-in_ok-tags_where_marks_found-in-Lone g t c
 
 pub indexes_where_condition_holds-returns-in_ok-tags_where_comparison_holds-in-Compare : goal.indexes_where_condition_holds-returns-in_ok-tags_where_comparison_holds-in-Compare
 indexes_where_condition_holds-returns-in_ok-tags_where_comparison_holds-in-Compare g t c = λ ps shows.
-    let located = g.G.Marked.located in
-    let stand = g.G.Marked.stand in
-    let content = g.G.Marked.content in
     let sets = c.args.self.now.sets in
     let text = c.args.self.now.text.now in
     let doc = g.G.Marked.whole c.args.self.now.document in
     let a = term_of c.in-Compare.left in
     let b = term_of c.in-Compare.right in
-    let count : length c.as_slice-count.result.now ≡ length (places ps) = ap length c.as_slice-count.ensures.value ∙ counted located stand content doc ps c.args.candidates.now shows in
+    let count : length c.as_slice-count.result.now ≡ length (places ps) = ap length c.as_slice-count.ensures.value ∙ counted g.G.Marked.located g.G.Marked.stand g.G.Marked.content doc ps c.args.candidates.now shows in
     c.in_ok-tags_where_comparison_holds-in-Compare.ensures doc (term_in sets text doc a (places ps)) (term_in sets text doc b (places ps)) (c.in_ok-lefts-in-Compare.ensures.ok ps shows) (c.in_ok-rights-in-Compare.ensures.ok ps shows)
     ∙ compared_in sets text doc c.in-Compare.op a b (length c.as_slice-count.result.now) (places ps) count
     ∙ ap (λ (x : Condition). numbers_where (holds_in sets text doc (condition_of x)) 0 (places ps)) (sym c.in-Compare.is)
 
 pub indexes_where_condition_holds-returns-in_ok-join_tags-in-Join : goal.indexes_where_condition_holds-returns-in_ok-join_tags-in-Join
 indexes_where_condition_holds-returns-in_ok-join_tags-in-Join g t c = λ ps shows.
-    let located = g.G.Marked.located in
-    let stand = g.G.Marked.stand in
-    let content = g.G.Marked.content in
     let sets = c.args.self.now.sets in
     let text = c.args.self.now.text.now in
     let doc = g.G.Marked.whole c.args.self.now.document in
     let one = holds_in sets text doc (condition_of c.deref.result.now) in
     let two = holds_in sets text doc (condition_of c.deref-in-Join.result.now) in
-    let count : length c.as_slice-count.result.now ≡ length (places ps) = ap length c.as_slice-count.ensures.value ∙ counted located stand content doc ps c.args.candidates.now shows in
+    let count : length c.as_slice-count.result.now ≡ length (places ps) = ap length c.as_slice-count.ensures.value ∙ counted g.G.Marked.located g.G.Marked.stand g.G.Marked.content doc ps c.args.candidates.now shows in
     c.in_ok-join_tags-in-Join.ensures
     ∙ ap₂ (joined_tags c.in-Join.op 0 (length c.as_slice-count.result.now)) (c.as_slice.ensures.value ∙ c.in_ok-lefts-in-Join.ensures ps shows) (c.as_slice-in-Join.ensures.value ∙ c.in_ok-rights-in-Join.ensures ps shows)
     ∙ ap (λ n. joined_tags c.in-Join.op 0 n (numbers_where one 0 (places ps)) (numbers_where two 0 (places ps))) count
@@ -75,10 +65,8 @@ indexes_of_passing_candidates-returns g t c =
     let located = g.G.Marked.located in
     let stand = g.G.Marked.stand in
     let content = g.G.Marked.content in
-    let sets = c.args.self.now.sets in
-    let text = c.args.self.now.text.now in
     let doc = g.G.Marked.whole c.args.self.now.document in
-    let test = holds_in sets text doc (condition_of c.args.condition.now) in
+    let test = holds_in c.args.self.now.sets c.args.self.now.text.now doc (condition_of c.args.condition.now) in
     let ls = places ps in
     let order = c.in_ok-distinct.ensures doc ps shows in
     let numbers : c.as_slice-3.result.now ≡ numbers_where test 0 (places (tagged 0 (once_in_order ls))) = c.as_slice-3.ensures.value ∙ c.in_ok-numbers.ensures (tagged 0 (once_in_order ls)) order in
@@ -97,11 +85,10 @@ lists_after_inner-returns-in-Token g t c =
     let located = g.G.Marked.located in
     let stand = g.G.Marked.stand in
     let content = g.G.Marked.content in
-    let sets = c.args.self.now.sets in
     let text = c.args.self.now.text.now in
     let doc = g.G.Marked.whole c.args.self.now.document in
     let there = turned located stand content doc (stepped text doc c.args.leaves c.in-Token.token) f ls c.args.lists found n (leads doc (spread f 0 ls) shows) in
-    subst (λ (i : Inner). Shows located stand content doc (spread (λ c'. led_in sets text doc (inner_of i) c.args.leaves (f c')) 0 ls) found) (sym c.in-Token.is) there)
+    subst (λ (i : Inner). Shows located stand content doc (spread (λ c'. led_in c.args.self.now.sets text doc (inner_of i) c.args.leaves (f c')) 0 ls) found) (sym c.in-Token.is) there)
     c.lead.ensures
 
 pub lists_after_inner-returns-in_ok-keep_at_indexes-in-Filter : goal.lists_after_inner-returns-in_ok-keep_at_indexes-in-Filter
@@ -124,21 +111,13 @@ lists_after_inner-returns-in_ok-keep_at_indexes-in-Filter g t c = λ f ls n show
 
 pub lists_after_path-loop-step-init : goal.lists_after_path-loop-step-init
 lists_after_path-loop-step-init g t c = λ ps shows.
-    let located = g.G.Marked.located in
-    let stand = g.G.Marked.stand in
-    let content = g.G.Marked.content in
-    let sets = c.args.self.now.sets in
-    let text = c.args.self.now.text.now in
     let doc = g.G.Marked.whole c.args.self.now.document in
     let absolute = (out-ParserNode c.args.path.now).absolute in
-    let count : length c.as_slice.result.now ≡ length (places ps) = ap length c.as_slice.ensures.value ∙ counted located stand content doc ps c.args.candidates.now shows in
+    let count : length c.as_slice.result.now ≡ length (places ps) = ap length c.as_slice.ensures.value ∙ counted g.G.Marked.located g.G.Marked.stand g.G.Marked.content doc ps c.args.candidates.now shows in
     (itself, c.list_count_for_candidates-lists.ensures ∙ ap (λ n. list_count_for_candidates absolute n) count ∙ list_count_for_candidates-starts absolute (places ps), (c.in_ok-pairs.ensures ps shows).1, λ l. refl)
 
 pub lists_after_path-loop-step-preserved : goal.lists_after_path-loop-step-preserved
 lists_after_path-loop-step-preserved g t c = λ ps shows.
-    let located = g.G.Marked.located in
-    let stand = g.G.Marked.stand in
-    let content = g.G.Marked.content in
     let sets = c.args.self.now.sets in
     let text = c.args.self.now.text.now in
     let doc = g.G.Marked.whole c.args.self.now.document in
@@ -153,66 +132,45 @@ lists_after_path-loop-step-preserved g t c = λ ps shows.
 
 pub lists_after_path-returns : goal.lists_after_path-returns
 lists_after_path-returns g t c = λ ps shows.
-    let located = g.G.Marked.located in
-    let stand = g.G.Marked.stand in
-    let content = g.G.Marked.content in
     let sets = c.args.self.now.sets in
     let text = c.args.self.now.text.now in
     let doc = g.G.Marked.whole c.args.self.now.document in
     let inv = c.loop-step.invariant ps shows in
-    (shared_is sets text doc c.args.path.now (places ps), path_done located stand content sets text doc c.args.path.now c.loop-step.step-index c.deref-step-items.result.now ps inv.0 c.loop-step.pairs c.deref-step-items.ensures.value c.loop-step-test.false inv.2 inv.3)
+    (shared_is sets text doc c.args.path.now (places ps), path_done g.G.Marked.located g.G.Marked.stand g.G.Marked.content sets text doc c.args.path.now c.loop-step.step-index c.deref-step-items.result.now ps inv.0 c.loop-step.pairs c.deref-step-items.ensures.value c.loop-step-test.false inv.2 inv.3)
 
 pub sets_after_step-returns : goal.sets_after_step-returns
 sets_after_step-returns g t c =
     IfOk-weaker c.lead.result _ _
     (λ led leads f ls n shows.
-    let located = g.G.Marked.located in
-    let stand = g.G.Marked.stand in
-    let content = g.G.Marked.content in
-    let sets = c.args.self.now.sets in
-    let text = c.args.self.now.text.now in
     let doc = g.G.Marked.whole c.args.self.now.document in
     let top = c.in_ok-top.ensures doc f ls n shows in
-    turned located stand content doc once_in_order _ ls c.args.lists led n (leads doc _ (c.in_ok-found.ensures _ ls n top)))
+    turned g.G.Marked.located g.G.Marked.stand g.G.Marked.content doc once_in_order _ ls c.args.lists led n (leads doc _ (c.in_ok-found.ensures _ ls n top)))
     c.lead.ensures
 
 pub lists_after_step-returns-then-is_empty : goal.lists_after_step-returns-then-is_empty
 lists_after_step-returns-then-is_empty g t c = λ f ls n shows.
-    let located = g.G.Marked.located in
-    let stand = g.G.Marked.stand in
-    let content = g.G.Marked.content in
     let sets = c.args.self.now.sets in
     let text = c.args.self.now.text.now in
     let doc = g.G.Marked.whole c.args.self.now.document in
     let inner = inner_of c.args.step.now.inner in
     let leaves = c.args.step.now.leaves in
     let none : length (spread f 0 ls) ≡ 0 = empty_tags (spread f 0 ls) c.as_slice.result.now (c.as_slice.ensures.value ∙ shows.0) (sym c.is_empty.ensures ∙ c.if-is_empty.true) in
-    subst (λ (ps : List Tagged). Shows located stand content doc ps c.args.pairs) (empty_spread f (step_in sets text doc inner leaves) 0 ls none (none_after sets text doc inner leaves)) shows
+    subst (λ (ps : List Tagged). Shows g.G.Marked.located g.G.Marked.stand g.G.Marked.content doc ps c.args.pairs) (empty_spread f (step_in sets text doc inner leaves) 0 ls none (none_after sets text doc inner leaves)) shows
 
 pub lists_after_step-returns-then-self : goal.lists_after_step-returns-then-self
 lists_after_step-returns-then-self g t c =
     IfOk-weaker c.sets_after_step.result _ _
     (λ found leads f ls n shows.
-    let located = g.G.Marked.located in
-    let stand = g.G.Marked.stand in
-    let content = g.G.Marked.content in
-    let sets = c.args.self.now.sets in
-    let text = c.args.self.now.text.now in
     let doc = g.G.Marked.whole c.args.self.now.document in
     let s = c.args.step.now in
-    subst (λ (ps : List Tagged). Shows located stand content doc ps found) (λ i. spread (λ l. step_by_sets sets text doc (inner_of s.inner) s.leaves (f l) c.if-self.true i) 0 ls) (leads f ls n shows))
+    subst (λ (ps : List Tagged). Shows g.G.Marked.located g.G.Marked.stand g.G.Marked.content doc ps found) (λ i. spread (λ l. step_by_sets c.args.self.now.sets c.args.self.now.text.now doc (inner_of s.inner) s.leaves (f l) c.if-self.true i) 0 ls) (leads f ls n shows))
     c.sets_after_step.ensures
 
 pub lists_after_step-returns-else-self : goal.lists_after_step-returns-else-self
 lists_after_step-returns-else-self g t c =
     IfOk-weaker c.lists_after_inner.result _ _
     (λ found leads f ls n shows.
-    let located = g.G.Marked.located in
-    let stand = g.G.Marked.stand in
-    let content = g.G.Marked.content in
-    let sets = c.args.self.now.sets in
-    let text = c.args.self.now.text.now in
     let doc = g.G.Marked.whole c.args.self.now.document in
     let s = c.args.step.now in
-    subst (λ (ps : List Tagged). Shows located stand content doc ps found) (λ i. spread (λ l. step_by_lists sets text doc (inner_of s.inner) s.leaves (f l) c.if-self.false i) 0 ls) (leads f ls n shows))
+    subst (λ (ps : List Tagged). Shows g.G.Marked.located g.G.Marked.stand g.G.Marked.content doc ps found) (λ i. spread (λ l. step_by_lists c.args.self.now.sets c.args.self.now.text.now doc (inner_of s.inner) s.leaves (f l) c.if-self.false i) 0 ls) (leads f ls n shows))
     c.lists_after_inner.ensures

@@ -30,8 +30,7 @@ loop-step-preserved g c = λ ordered ps shows.
 
 pub returns : goal.returns
 returns g c = λ ordered ps shows.
-    let text = c.args.self.now.text.now in
     let doc = g.G.Marked.whole c.args.self.now.document in
     let inv = c.loop-step.invariant ordered ps shows in
     let none : drop c.loop-step.step-index c.args.steps.now ≡ [] = drop_of_length-le c.args.steps.now {i = c.loop-step.step-index} c.loop-step-test.false in
-    (spread (λ place. inv.0) 0 ([] ∷ []), inv.1, places_alone 0 inv.0 ∙ ap (λ (rest : List ParserStep). follow text doc (steps_of_list rest) inv.0) (sym none) ∙ inv.2)
+    (spread (λ place. inv.0) 0 ([] ∷ []), inv.1, places_alone 0 inv.0 ∙ ap (λ (rest : List ParserStep). follow c.args.self.now.text.now doc (steps_of_list rest) inv.0) (sym none) ∙ inv.2)

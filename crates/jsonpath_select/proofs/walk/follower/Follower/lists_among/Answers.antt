@@ -1,5 +1,4 @@
-use Rattle.std.proofs.Common.{◌≡◌, suc, List, [], ◌∷◌, drop, refl, sym, ap, subst, ◌∙◌, add-one, arith, drop_of_length-le}
-use Rattle.std.specs.Prelude.{filter}
+use Rattle.std.proofs.Common.{◌≡◌, suc, List, [], ◌∷◌, drop, refl, sym, ap, subst, ◌∙◌, add-one, arith, drop_of_length-le, filter}
 use Rattle.jsonpath_nodes.specs.place.Location.{Location}
 use Rattle.jsonpath_paths.specs.tree.View.{inner_of, steps_of_list}
 use Rattle.jsonpath_paths.specs.declared.tree.parser_node.ParserStep.{ParserStep}
@@ -41,13 +40,8 @@ loop-number-preserved g c = λ ordered ps shows left.
 
 pub returns : goal.returns
 returns g c = λ ordered ps shows left.
-    let located = g.G.Marked.located in
-    let stand = g.G.Marked.stand in
-    let content = g.G.Marked.content in
-    let sets = c.args.self.now.sets in
-    let text = c.args.self.now.text.now in
     let doc = g.G.Marked.whole c.args.self.now.document in
     let ss = c.args.steps.now in
     let inv = c.loop-number.invariant ordered ps shows left in
     let none : drop c.loop-number.number ss ≡ [] = drop_of_length-le ss {i = c.loop-number.number} (omega arith) in
-    (spread (λ place. inv.0) 0 ([] ∷ []), inv.1, places_alone 0 inv.0 ∙ ap (λ (rest : List ParserStep). follow text doc (steps_of_list rest) inv.0) (sym none) ∙ inv.3)
+    (spread (λ place. inv.0) 0 ([] ∷ []), inv.1, places_alone 0 inv.0 ∙ ap (λ (rest : List ParserStep). follow c.args.self.now.text.now doc (steps_of_list rest) inv.0) (sym none) ∙ inv.3)

@@ -22,9 +22,8 @@ returns g c =
 
 pub returns-then-not-keeps_what_leads_on : goal.returns-then-not-keeps_what_leads_on
 returns-then-not-keeps_what_leads_on g c =
-    let text = c.args.self.now.text.now in
     let doc = g.G.Marked.whole c.args.self.now.document in
     IfOk-weaker c.lists_after_steps.result _ _
     (λ found leads ordered ps shows.
-    subst (λ (ls : List Location). AreAt g.G.Marked.located g.G.Marked.stand g.G.Marked.content doc ls found) (all_steps text doc c.args.path.now c.as_slice-steps.result.now c.as_slice-steps.ensures.value) (leads ordered ps shows))
+    subst (λ (ls : List Location). AreAt g.G.Marked.located g.G.Marked.stand g.G.Marked.content doc ls found) (all_steps c.args.self.now.text.now doc c.args.path.now c.as_slice-steps.result.now c.as_slice-steps.ensures.value) (leads ordered ps shows))
     c.lists_after_steps.ensures

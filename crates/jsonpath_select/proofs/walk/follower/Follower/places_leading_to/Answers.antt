@@ -1,5 +1,4 @@
-use Rattle.std.proofs.Common.{◌≡◌, List, length, sym, ap, subst, ◌∙◌}
-use Rattle.std.specs.Prelude.{filter}
+use Rattle.std.proofs.Common.{◌≡◌, List, length, sym, ap, subst, ◌∙◌, filter}
 use Rattle.jsonpath_nodes.specs.place.Location.{Location}
 use Rattle.jsonpath_nodes.specs.place.NumbersWhere.{numbers_where}
 use Rattle.jsonpath_paths.specs.tree.View.{inner_of}
@@ -18,14 +17,12 @@ returns g c = λ ls ms here ahead.
     let located = g.G.Marked.located in
     let stand = g.G.Marked.stand in
     let content = g.G.Marked.content in
-    let sets = c.args.self.now.sets in
-    let text = c.args.self.now.text.now in
     let doc = g.G.Marked.whole c.args.self.now.document in
     let s = c.args.step.now in
     let qs = here.0 in
     let cs = places qs in
     let count : length c.as_slice-count.result.now ≡ length cs = ap length c.as_slice-count.ensures.value ∙ counted located stand content doc qs c.args.here.now here.1 in
-    let led : Location → List Location = λ l. led_in sets text doc (inner_of s.inner) s.leaves (itself l) in
+    let led : Location → List Location = λ l. led_in c.args.self.now.sets c.args.self.now.text.now doc (inner_of s.inner) s.leaves (itself l) in
     let test : Location → _ = λ l. is_some_location (filter (is_among ms) (led l)) in
     let next = c.in_ok-next.ensures itself cs count (c.in_ok-starts.ensures qs here.1).1 in
     let found = c.in_ok-found.ensures (spread led 0 cs) ms next ahead in
