@@ -50,8 +50,7 @@ fn rows_of_lines(alloc: Global, text: &str) -> Result<Vec<Row>> {
     Ok(rows)
 }
 
-// Replays each row through `run`, and prints each that doesn't hold, and the counts. Answers whether
-// all hold.
+// Replays each row through `run`, prints each that doesn't hold, and the counts. Answers whether all hold.
 fn replay_run(rt: &HostRuntime, file: &str, rows: &[Row]) -> Result<bool> {
     let alloc = rt.alloc();
     let mut holding = 0usize;
@@ -67,8 +66,7 @@ fn replay_run(rt: &HostRuntime, file: &str, rows: &[Row]) -> Result<bool> {
     Ok(holding == rows.len())
 }
 
-// Answers each row that selects by a way, and prints each that doesn't hold, and the counts. Answers
-// whether all hold.
+// Answers each row that selects by a way, prints each that doesn't hold, and the counts. Answers whether all hold.
 fn replay_selecting(rt: &HostRuntime, file: &str, rows: &[Row], way: Method) -> Result<bool> {
     let alloc = rt.alloc();
     let name = way.name();

@@ -1,5 +1,4 @@
-//! The filters of a path, one after the other, and so what a whole path selects: as a list (`select_list`), or the
-//! first node alone (`first_place`).
+//! The filters of a path, one after the other: what the path selects (`select_list`), or its first (`first_place`).
 
 pub(crate) mod first_place;
 pub(crate) mod leading_on;

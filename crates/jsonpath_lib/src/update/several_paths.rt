@@ -1,5 +1,4 @@
-//! Several paths: the error of an update by them, how they are compiled beside the document that they are to change,
-//! and what they select together.
+//! Several paths: the error of an update by them, their compilation beside the document, and what they select together.
 ghost use Rattle.std.specs.Prelude.{◌≡◌, Some, List, map, IfErr, IfOk};
 ghost use Rattle.std.specs.List.Sorted.{IsStrictlySortedBy};
 ghost use Rattle.serde_json.specs.View.{view};
@@ -70,8 +69,7 @@ impl From<MaskFault> for JsonPathError {
     }
 }
 
-// Compiles the path texts, and answers them beside the value that they are to change. Where one is refused, the fault
-// gives the value back.
+// Compiles the path texts, and answers them beside the value; the fault of one that is refused gives the value back.
 pub(crate) fn compile_or_give_back<'a>(
     alloc: Global,
     value: Value,

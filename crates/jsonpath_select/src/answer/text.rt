@@ -77,8 +77,7 @@ fn push_list_value(
     }
 }
 
-// Adds the compact JSON text of a value to the text. The shorter of the two is copied into the longer one, so that a
-// large text never stands twice.
+// Adds a value's compact JSON text. The shorter text is copied into the longer one, so that no large one stands twice.
 fn push_compact_text(alloc: Global, text: &mut String, value: &Value) -> Result<(), AllocError>
     requires { has_float (view value.now) ≡ false }
     ensures { OnOk result (string_bytes text.new ≡ string_bytes text.old ++ compact_text (view value.now)) }

@@ -51,8 +51,7 @@ impl<'s, 't> Decider<'s, 't> {
         }
     }
 
-    // Whether one of these on the left and some right value satisfy the comparison `op`, for which the decider was
-    // made. Mostly there is one of each.
+    // Whether one of these on the left and some right value satisfy `op`. Mostly there is one of each.
     #[inline]
     pub(crate) fn has_pair(&self, op: FilterToken, lefts: &[Atom<'t>]) -> bool
         ensures { result ≡ list_any (decided op self.now) (map seen_by lefts.now) }

@@ -4,8 +4,7 @@ ghost use Rattle.std.specs.Prelude.{◌≡◌, false, length};
 
 use jsonpath_nodes::Atom;
 
-// What a comparison sees of a term: atoms with the candidates' numbers, or, of a literal and of a path from the
-// root, atoms for all of them.
+// What a comparison sees of a term: atoms with candidates' numbers or, of a literal or a path from `$`, atoms for all.
 #[derive(Drop)]
 pub struct Side<'t> {
     pub(crate) is_constant: bool,

@@ -48,8 +48,7 @@ impl<'a, 't> Machine<'a, 't> {
         self.select_list(manner, code.as_slice())
     }
 
-    // Marks at what the path with this token list selects, where their order and repeats don't matter: by sets, where
-    // the path is better evaluated so.
+    // Marks at what the path with this token list selects, as a set: by sets, where the path is better evaluated so.
     pub(crate) fn select_set_by_tokens<M: Carried<'a>>(
         &self,
         tokens: &[ParseToken],

@@ -94,8 +94,7 @@ impl<'a, 't> Machine<'a, 't> {
         Ok(())
     }
 
-    // Leads the path on top of the operands one plain step on. The name of a step by one name that no `..` stands before
-    // is read once for all candidates.
+    // Leads the path on top of the operands one plain step on. One name, with no `..` before it, is read once for all.
     fn take_plain_step<M: Carried<'a>>(
         &self,
         leaves: bool,

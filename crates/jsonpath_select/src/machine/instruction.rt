@@ -16,8 +16,7 @@ pub enum Instruction<'t> {
     Start { absolute: bool },
     // A plain step; `leaves` says that `..` stands before it, so that it is also taken from all below.
     Step { leaves: bool, token: &'t ParseToken },
-    // A filter begins. `leaves` says that `..` stands before it, `deep` that its own `@`, not one of a filter inside,
-    // has a step, as in `[?(@.a)]`.
+    // A filter begins: `leaves` if `..` stands before it, `deep` if its own `@` has a step, as in `[?(@.a)]`.
     Enter { leaves: bool, deep: bool },
     // The filter ends.
     Leave,

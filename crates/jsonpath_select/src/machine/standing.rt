@@ -224,8 +224,7 @@ impl<'a, 't> Machine<'a, 't> {
     }
 }
 
-// Goes over the marks when the program runs, for the proof alone: it then knows that the names of each object among
-// them ascend.
+// Goes over the marks for the proof alone: it then knows that the names of each object among them ascend.
 pub(crate) fn prove_names_ascend_at_marks<'a, M: Mark<'a>>(marks: &[M])
     ensures { (doc : Document) (ls : List Location) → MarksStandAt M.located M.stand M.content doc ls marks.now → NamesInOrderAt doc ls }
 {

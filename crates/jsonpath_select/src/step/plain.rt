@@ -30,8 +30,7 @@ pub(crate) fn marks_after_plain_step<'a, M: Mark<'a>>(
     Ok(stride_from_each(alloc, marks, &stride)?)
 }
 
-// What the plain step by a token selects of a value, its names read from the path's text. A token that is no step
-// selects nothing.
+// What the plain step by a token selects of a value, its names read from the path's text; a token of no step: nothing.
 pub(crate) fn selection_of_token<'t>(
     alloc: Global,
     text: &'t str,

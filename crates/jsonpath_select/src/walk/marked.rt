@@ -42,8 +42,7 @@ pub trait Marked: Drop {
 
     ghost whole: { Self → Document };
 
-    // The marks with which a path begins: the root, which all candidates share, or each candidate, tagged with its
-    // number.
+    // The marks with which a path begins: the root, shared by all candidates, or each candidate, tagged by its number.
     fn start_of_path(
         &self,
         absolute: bool,

@@ -6,8 +6,7 @@ ghost use Rattle.jsonpath_select.specs.Meaning.{has_own_step as has_step, has_ow
 
 use jsonpath_paths::{Condition, ParserNode, Term};
 
-// Whether a path of the condition begins at its own `@` and has a step, as `@.a` does. Conditions of filters inside
-// don't count.
+// Whether a path of the condition begins at its own `@` and has a step, as `@.a`; filters inside don't count.
 pub(crate) fn condition_has_own_step(condition: &Condition) -> bool
     ensures { result ≡ has_step (condition_of condition.now) }
 {
