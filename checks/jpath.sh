@@ -150,6 +150,24 @@ wants("jpath --seq -a '$[0]'", 0, '\x1e["x"]\n', "", three)
 for words in ["-j -0", "-j --seq", "-0 --seq", "-j -c", "-0 -q", "--seq -r", "--seq -H", "--seq -l", "-0 --rows '$' -e '$' --csv", "-j --null '$.a'"]:
     wants(f"jpath {words} '$' a.json", 2, "", "jpath: *")
 
+# layouts, and members in the order of their names
+mixed = b'{"b":[1,{"d":"x","c":{}}],"a":[],"\xc3\xa9":null,"b":2,"Z":true}'
+wants("jpath --indent 1 '$'", 0, '{\n "b": 2,\n "a": [],\n "é": null,\n "Z": true\n}\n', given=mixed)
+wants("jpath --tab '$.b'", 0, '[\n\t1,\n\t{\n\t\t"d": "x",\n\t\t"c": {}\n\t}\n]\n', given=mixed.replace(b',"b":2', b""))
+wants("jpath -p --indent=8 '$.b'", 0, '[\n        1,\n        {\n                "d": "x",\n                "c": {}\n        }\n]\n', given=mixed.replace(b',"b":2', b""))
+wants("jpath -S '$'", 0, '{"Z":true,"a":[],"b":2,"é":null}\n', given=mixed)
+wants("jpath -S '$.b'", 0, '[1,{"c":{},"d":"x"}]\n', given=mixed.replace(b',"b":2', b""))
+wants("jpath -S -a '$' ", 0, '[{"Z":true,"a":[],"b":2,"é":null}]\n', given=mixed)
+wants("jpath -S -a --tab -e '$.b[1]' -e '$.a'", 0, '[\n\t{\n\t\t"c": {},\n\t\t"d": "x"\n\t},\n\t[]\n]\n', given=mixed.replace(b',"b":2', b""))
+wants("jpath -S -L '$.b[1]'", 0, "$['b'][1]\t{\"c\":{},\"d\":\"x\"}\n", given=mixed.replace(b',"b":2', b""))
+wants("jpath -C always -S '$.b[1].c'", 0, "{}\n", given=mixed.replace(b',"b":2', b""))
+wants("jpath -S -p --null '$.b'", 0, '{\n  "Z": true,\n  "a": [],\n  "b": null,\n  "é": null\n}\n', given=mixed)
+wants("jpath --tab --remove '$.*'", 0, "{}\n", given=mixed)
+for words in ["--indent 2 --tab '$'", "-S --null '$.a'", "-S -c '$'", "--tab -l '$'", "--indent 3 -q '$'", "-S --rows '$' -e '$' --csv"]:
+    wants(f"jpath {words} a.json", 2, "", "jpath: *")
+for words in ["--indent 0 '$'", "--indent 9 '$'", "--indent x '$'"]:
+    wants(f"jpath {words} a.json", 2, "", "error: *possible values: 1, 2, 3, 4, 5, 6, 7, 8*")
+
 # exact numbers
 many = b'[{"n":0.1},{"n":1e-400},{"n":0},{"n":-0},{"n":1e999},{"n":12345678901234567890123},{"n":12345678901234567890124},{"n":100e-3},{"n":-2.5e3}]'
 wants("jpath '$[?(@.n == 0.1)].n'", 0, "0.1\n100e-3\n", "", many)

@@ -56,13 +56,13 @@ fault_of_jpath_words() {
         fi
         case $word in
             --) has_path=yes && break ;;
-            --raw | --pretty | --array | --locations | --with-locations | --count | --quiet | --with-filename | --keep-going | --join | --nul | --seq) ;;
+            --raw | --pretty | --tab | --sort-keys | --array | --locations | --with-locations | --count | --quiet | --with-filename | --keep-going | --join | --nul | --seq) ;;
             --csv | --tsv | --header | --in-place | --copy | --check) ;;
             --help | --version) has_path=yes ;;
             --completions) has_path=yes wants=1 ;;
             --completions=*) has_path=yes ;;
-            --color) wants=1 ;;
-            --color=*) ;;
+            --color | --indent) wants=1 ;;
+            --color=* | --indent=*) ;;
             --arg | --argjson) wants=2 ;;
             --arg=* | --argjson=*) wants=1 ;;
             --path | --rows | --null | --remove) has_path=yes wants=1 ;;
@@ -74,7 +74,7 @@ fault_of_jpath_words() {
             -e) has_path=yes wants=1 ;;
             -C* | -) ;;
             -e* | -[hV]) has_path=yes ;;
-            -*[!rpalLcqHkij0]*) printf "jpath has no option '%s'" "$word" && return ;;
+            -*[!rpSalLcqHkij0]*) printf "jpath has no option '%s'" "$word" && return ;;
             -*) ;;
             *) has_path=yes ;;
         esac

@@ -1,5 +1,5 @@
 -- Paths that are answered on the exact tree itself, with no image made: where values stand in it, and what conditions see there.
-use Rattle.std.specs.Prelude.{◌≡◌, ℕ, ◌+◌, Bool, true, false, ◌&&◌, ◌||◌, not, List, [], ◌∷◌, ◌++◌, map, flat_map, filter, length, is_some, if◌then◌else◌, Option, Some, None, option_map, option_and_then, option_to_list}
+use Rattle.std.specs.Prelude.{◌≡◌, ℕ, ◌+◌, Bool, true, false, ◌&&◌, ◌||◌, List, [], ◌∷◌, ◌++◌, map, flat_map, filter, length, is_some, if◌then◌else◌, Option, Some, None, option_map, option_and_then, option_to_list}
 use Rattle.std.specs.Borrow.{Bor}
 use Rattle.json.specs.Json.{Json, null, boolean, number, string, array, object, Items, no_items, item}
 use Rattle.json.specs.Find.{get}
@@ -162,13 +162,9 @@ rest_from spelled rest (Some kept) x = kept_from spelled rest (condition_of kept
 
 -- ---- what is written of that
 
-abbrev pub is_plain_line : Option (Bor Line) → Bool
-is_plain_line None = true
-is_plain_line (Some line) = not line.now.look.is_colored
-
 -- the line of a value, without its place
 abbrev pub value_line : Line → Json → List ℕ
-value_line line j = record_start line.is_record ++ (named line.name ++ (shown line.look.is_raw line.look.is_pretty j ++ line_end line.end))
+value_line line j = record_start line.is_record ++ (named line.name ++ (shown line.look j ++ line_end line.end))
 
 abbrev pub value_lines : Option (Bor Line) → List Json → List ℕ
 value_lines None js = []

@@ -21,7 +21,7 @@ content PlacesAndValues place text = place ++ (9 ∷ [] ++ text)
 
 -- the line of a value at a place
 abbrev pub line_text : Line → Location → Json → List ℕ
-line_text line l j = record_start line.is_record ++ (named line.name ++ (content line.shown (location_text l) (shown line.look.is_raw line.look.is_pretty j) ++ line_end line.end))
+line_text line l j = record_start line.is_record ++ (named line.name ++ (content line.shown (location_text l) (shown line.look j) ++ line_end line.end))
 
 abbrev pub line_text_if : Line → Location → Option Json → List ℕ
 line_text_if line l None = []

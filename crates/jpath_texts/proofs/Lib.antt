@@ -1,3 +1,4 @@
+pub mod ArrangedLemmas
 pub mod LineLemmas
 pub mod MemberSearchLemmas
 pub mod OnceLemmas

@@ -1,5 +1,5 @@
 -- Trees whose members stand in order, member by member.
-use Rattle.std.proofs.Common.{◌≡◌, ℕ, zero, suc, ◌<◌, ◌≤◌, List, [], ◌∷◌, ◌++◌, length, get_or, Bool, true, false, ◌&&◌, Option, Some, None, Iter, Ordering, Less, Equal, Greater, nat_cmp, refl, sym, ap, ap₂, ◌∙◌, arith}
+use Rattle.std.proofs.Common.{◌≡◌, ℕ, zero, suc, ◌<◌, ◌≤◌, List, [], ◌∷◌, ◌++◌, length, map, get_or, Bool, true, false, ◌&&◌, Option, Some, None, Iter, Ordering, Less, Equal, Greater, nat_cmp, refl, sym, ap, ap₂, ◌∙◌, arith}
 use Rattle.std.proofs.lemmas.Cmp.{nat_list_cmp_total}
 use Rattle.std.specs.Borrow.{Bor}
 use Rattle.std.specs.BTreeMap.{insert_entry}
@@ -9,13 +9,14 @@ use Rattle.std.specs.List.Sorted.{IsStrictlySortedBy}
 use Rattle.std.specs.Slice.Iter.{iter_rest, iter_steps}
 use Rattle.std.specs.Ordering.{is_lt, match_ordering, ordering_reverse}
 use Rattle.json.specs.Json as json
-use Rattle.json.specs.Value.{value_view, items_view, members_view}
+use Rattle.json.specs.Tree.{HasNumbers, ItemsHaveNumbers, MembersHaveNumbers}
+use Rattle.json.specs.Value.{value_view, items_of, items_view, members_view}
 use Rattle.json.specs.declared.value.Value.{Value}
-use Rattle.jsonpath_nodes.specs.document.Document.{Document, array, object, Items, no_items, item, Members, no_members, member}
+use Rattle.jsonpath_nodes.specs.document.Document.{Items, Members}
 use Rattle.jsonpath_nodes.specs.document.Find.{items_len, get_item}
 use Rattle.jsonpath_nodes.specs.place.Location.{name, names, step_cmp}
 use Rattle.jsonpath_nodes.specs.place.Order.{NamesAscend}
-use Rattle.jpath_texts.specs.OrderedTree.{is_before, is_ordered, are_items_ordered, are_members_ordered, document_of_tree, items_of_tree, members_of_tree, put, exact_document, exact_items, exact_members}
+use Rattle.jpath_texts.specs.OrderedTree.{is_before, is_ordered, are_items_ordered, are_members_ordered, document_of_tree, items_of_tree, members_of_tree, put_in_order, in_order, items_in_order, members_in_order}
 
 pub and_left : (a b : Bool) → (a && b) ≡ true → a ≡ true
 and_left true b h = refl
@@ -63,16 +64,14 @@ Entry A = Bor (List ℕ) × Value A
 abbrev pub by_text : Bor (List ℕ) → Bor (List ℕ) → Ordering
 by_text a b = slice_cmp nat_cmp a.now b.now
 
-members_of_choice : {A : Type 0} (o : Ordering) (a b c : List (Entry A))
-    → members_of_tree (members_view (match_ordering o a b c)) ≡ match_ordering o (members_of_tree (members_view a)) (members_of_tree (members_view b)) (members_of_tree (members_view c))
-members_of_choice Less a b c = refl
-members_of_choice Equal a b c = refl
-members_of_choice Greater a b c = refl
+view_of_choice : {A : Type 0} (o : Ordering) (a b c : List (Entry A)) → members_view (match_ordering o a b c) ≡ match_ordering o (members_view a) (members_view b) (members_view c)
+view_of_choice Less a b c = refl
+view_of_choice Equal a b c = refl
+view_of_choice Greater a b c = refl
 
-pub insert_puts : {A : Type 0} (es : List (Entry A)) (k : Bor (List ℕ)) (v : Value A)
-    → members_of_tree (members_view (insert_entry by_text es k v)) ≡ put k.now (document_of_tree (value_view v)) (members_of_tree (members_view es))
+pub insert_puts : {A : Type 0} (es : List (Entry A)) (k : Bor (List ℕ)) (v : Value A) → members_view (insert_entry by_text es k v) ≡ put_in_order k.now (value_view v) (members_view es)
 insert_puts [] k v = refl
-insert_puts (e ∷ es) k v = members_of_choice (by_text k e.0) _ _ _ ∙ rw (insert_puts es k v)
+insert_puts (e ∷ es) k v = view_of_choice (by_text k e.0) _ _ _ ∙ rw (insert_puts es k v)
 
 -- ---- the walk that tells whether members stand in order
 
@@ -152,21 +151,9 @@ insert_ordered (e ∷ es) k v h o = by (by_text k e.0) refl (insert_ordered es k
 
 -- ---- items made one after another
 
-pub items_more : {A : Type 0} (made : List (Value A)) (v : Value A) (xs : List (Value A)) (x : Value A) → items_of_tree (items_view made) ≡ exact_items (items_view xs) → document_of_tree (value_view v) ≡ exact_document (value_view x)
-    → items_of_tree (items_view (made ++ v ∷ [])) ≡ exact_items (items_view (xs ++ x ∷ []))
-items_more {A = A} made v xs x h e = last made ∙ ap₂ joined h (ap (λ d. item d no_items) e) ∙ sym (last_exact xs)
-  where
-    joined : Items → Items → Items
-    joined no_items more = more
-    joined (item d ds) more = item d (joined ds more)
-
-    last : (ys : List (Value A)) → items_of_tree (items_view (ys ++ v ∷ [])) ≡ joined (items_of_tree (items_view ys)) (item (document_of_tree (value_view v)) no_items)
-    last [] = refl
-    last (y ∷ ys) = ap (item (document_of_tree (value_view y))) (last ys)
-
-    last_exact : (ys : List (Value A)) → exact_items (items_view (ys ++ x ∷ [])) ≡ joined (exact_items (items_view ys)) (item (exact_document (value_view x)) no_items)
-    last_exact [] = refl
-    last_exact (y ∷ ys) = ap (item (exact_document (value_view y))) (last_exact ys)
+pub items_made : {A : Type 0} (xs : List (Value A)) → items_of (map (λ x. in_order (value_view x)) xs) ≡ items_in_order (items_view xs)
+items_made [] = refl
+items_made (x ∷ xs) = ap (json.item (in_order (value_view x))) (items_made xs)
 
 pub items_ordered_more : {A : Type 0} (made : List (Value A)) (v : Value A) → are_items_ordered (items_view made) ≡ true → is_ordered (value_view v) ≡ true → are_items_ordered (items_view (made ++ v ∷ [])) ≡ true
 items_ordered_more [] v o h = rw h refl
@@ -176,65 +163,92 @@ items_ordered_more (x ∷ made) v o h =
 
 -- ---- ordered members stand as they are
 
-abbrev behind : Members → Members → Members
-behind no_members more = more
-behind (member k d ms) more = member k d (behind ms more)
+abbrev behind : json.Members → json.Members → json.Members
+behind json.no_members more = more
+behind (json.member k j ms) more = json.member k j (behind ms more)
 
-behind_more : (a : Members) (k : List ℕ) (d : Document) (more : Members) → behind (behind a (member k d no_members)) more ≡ behind a (member k d more)
-behind_more no_members k d more = refl
-behind_more (member l e a) k d more = ap (member l e) (behind_more a k d more)
+behind_more : (a : json.Members) (k : List ℕ) (j : json.Json) (more : json.Members) → behind (behind a (json.member k j json.no_members)) more ≡ behind a (json.member k j more)
+behind_more json.no_members k j more = refl
+behind_more (json.member l i a) k j more = ap (json.member l i) (behind_more a k j more)
 
-behind_none : (a : Members) → behind a no_members ≡ a
-behind_none no_members = refl
-behind_none (member k d a) = ap (member k d) (behind_none a)
+behind_none : (a : json.Members) → behind a json.no_members ≡ a
+behind_none json.no_members = refl
+behind_none (json.member k j a) = ap (json.member k j) (behind_none a)
 
 -- the names of these members are below the name
-abbrev AreBelow : Members → List ℕ → Type 0
-AreBelow no_members k = Unit {0}
-AreBelow (member l e ms) k = (slice_cmp nat_cmp l k ≡ Less) × AreBelow ms k
+abbrev AreBelow : json.Members → List ℕ → Type 0
+AreBelow json.no_members k = Unit {0}
+AreBelow (json.member l j ms) k = (slice_cmp nat_cmp l k ≡ Less) × AreBelow ms k
 
-abbrev AreBelowNext : Members → json.Members → Type 0
+abbrev AreBelowNext : json.Members → json.Members → Type 0
 AreBelowNext found json.no_members = Unit {0}
 AreBelowNext found (json.member k j ms) = AreBelow found k
 
-put_last : (k : List ℕ) (d : Document) (found : Members) → AreBelow found k → put k d found ≡ behind found (member k d no_members)
-put_last k d no_members h = refl
-put_last k d (member l e found) h =
+put_last : (k : List ℕ) (j : json.Json) (found : json.Members) → AreBelow found k → put_in_order k j found ≡ behind found (json.member k j json.no_members)
+put_last k j json.no_members h = refl
+put_last k j (json.member l i found) h =
     let above : slice_cmp nat_cmp k l ≡ Greater = nat_list_cmp_total.antisymm k l ∙ ap ordering_reverse h.0 in
-    rw above (ap (member l e) (put_last k d found h.1))
+    rw above (ap (json.member l i) (put_last k j found h.1))
 
-below_next : (found : Members) (k : List ℕ) (d : Document) (ms : json.Members) → AreBelow found k → is_before k ms ≡ true → AreBelowNext (behind found (member k d no_members)) ms
-below_next found k d json.no_members h b = tt
-below_next found k d (json.member l j ms) h b = all found h
+below_next : (found : json.Members) (k : List ℕ) (j : json.Json) (ms : json.Members) → AreBelow found k → is_before k ms ≡ true → AreBelowNext (behind found (json.member k j json.no_members)) ms
+below_next found k j json.no_members h b = tt
+below_next found k j (json.member l i ms) h b = all found h
   where
     here : slice_cmp nat_cmp k l ≡ Less
     here = less (slice_cmp nat_cmp k l) b
 
-    all : (fs : Members) → AreBelow fs k → AreBelow (behind fs (member k d no_members)) l
-    all no_members h = (here, tt)
-    all (member m e fs) h = (nat_list_cmp_total.trans m k l h.0 here, all fs h.1)
+    all : (fs : json.Members) → AreBelow fs k → AreBelow (behind fs (json.member k j json.no_members)) l
+    all json.no_members h = (here, tt)
+    all (json.member m e fs) h = (nat_list_cmp_total.trans m k l h.0 here, all fs h.1)
 
-none_below : (ms : json.Members) → AreBelowNext no_members ms
+none_below : (ms : json.Members) → AreBelowNext json.no_members ms
 none_below json.no_members = tt
 none_below (json.member k j ms) = tt
 
 mutual
-  pub ordered_stands : (j : json.Json) → is_ordered j ≡ true → document_of_tree j ≡ exact_document j
+  pub ordered_stands : (j : json.Json) → is_ordered j ≡ true → j ≡ in_order j
   ordered_stands json.null o = refl
   ordered_stands (json.boolean b) o = refl
   ordered_stands (json.number s) o = refl
   ordered_stands (json.string s) o = refl
-  ordered_stands (json.array js) o = ap array (items_stand js o)
-  ordered_stands (json.object ms) o = ap object (members_stand ms no_members o (none_below ms))
+  ordered_stands (json.array js) o = ap json.array (items_stand js o)
+  ordered_stands (json.object ms) o = ap json.object (members_stand ms json.no_members o (none_below ms))
 
-  items_stand : (js : json.Items) → are_items_ordered js ≡ true → items_of_tree js ≡ exact_items js
+  items_stand : (js : json.Items) → are_items_ordered js ≡ true → js ≡ items_in_order js
   items_stand json.no_items o = refl
-  items_stand (json.item j js) o = ap₂ item (ordered_stands j (and_left (is_ordered j) (are_items_ordered js) o)) (items_stand js (and_right (is_ordered j) (are_items_ordered js) o))
+  items_stand (json.item j js) o = ap₂ json.item (ordered_stands j (and_left (is_ordered j) (are_items_ordered js) o)) (items_stand js (and_right (is_ordered j) (are_items_ordered js) o))
 
-  members_stand : (ms : json.Members) (found : Members) → are_members_ordered ms ≡ true → AreBelowNext found ms → behind found (members_of_tree ms) ≡ exact_members ms found
+  members_stand : (ms : json.Members) (found : json.Members) → are_members_ordered ms ≡ true → AreBelowNext found ms → behind found ms ≡ members_in_order ms found
   members_stand json.no_members found o b = behind_none found
   members_stand (json.member k j ms) found o b =
       let first : is_before k ms ≡ true = and_left (is_before k ms) (is_ordered j && are_members_ordered ms) o in
-      sym (behind_more found k (document_of_tree j) (members_of_tree ms))
-      ∙ members_stand ms (behind found (member k (document_of_tree j) no_members)) (rest_ordered k j ms o) (below_next found k (document_of_tree j) ms b first)
-      ∙ ap (exact_members ms) (sym (put_last k (document_of_tree j) found b) ∙ ap (λ d. put k d found) (ordered_stands j (first_ordered k j ms o)))
+      sym (behind_more found k j ms) ∙ members_stand ms (behind found (json.member k j json.no_members)) (rest_ordered k j ms o) (below_next found k j ms b first)
+      ∙ ap (members_in_order ms) (sym (put_last k j found b) ∙ ap (λ i. put_in_order k i found) (ordered_stands j (first_ordered k j ms o)))
+
+-- ---- numbers can be written as before
+
+numbers_of_choice : (o : Ordering) (a b c : json.Members) → MembersHaveNumbers a → MembersHaveNumbers b → MembersHaveNumbers c → MembersHaveNumbers (match_ordering o a b c)
+numbers_of_choice Less a b c h i j = h
+numbers_of_choice Equal a b c h i j = i
+numbers_of_choice Greater a b c h i j = j
+
+numbers_put : (k : List ℕ) (j : json.Json) (ms : json.Members) → HasNumbers j → MembersHaveNumbers ms → MembersHaveNumbers (put_in_order k j ms)
+numbers_put k j json.no_members h hs = (h, tt)
+numbers_put k j (json.member l i ms) h hs = numbers_of_choice (slice_cmp nat_cmp k l) _ _ _ (h, hs) (h, hs.1) (hs.0, numbers_put k j ms h hs.1)
+
+mutual
+  pub numbers_in_order : (j : json.Json) → HasNumbers j → HasNumbers (in_order j)
+  numbers_in_order json.null h = h
+  numbers_in_order (json.boolean b) h = h
+  numbers_in_order (json.number n) h = h
+  numbers_in_order (json.string s) h = h
+  numbers_in_order (json.array js) h = numbers_of_items js h
+  numbers_in_order (json.object ms) h = numbers_of_members ms json.no_members h tt
+
+  numbers_of_items : (js : json.Items) → ItemsHaveNumbers js → ItemsHaveNumbers (items_in_order js)
+  numbers_of_items json.no_items h = h
+  numbers_of_items (json.item j js) h = (numbers_in_order j h.0, numbers_of_items js h.1)
+
+  numbers_of_members : (ms found : json.Members) → MembersHaveNumbers ms → MembersHaveNumbers found → MembersHaveNumbers (members_in_order ms found)
+  numbers_of_members json.no_members found h hs = hs
+  numbers_of_members (json.member k j ms) found h hs = numbers_of_members ms (put_in_order k (in_order j) found) h.1 (numbers_put k (in_order j) found (numbers_in_order j h.0) hs)

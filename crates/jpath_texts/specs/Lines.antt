@@ -1,16 +1,17 @@
 -- The text of a value, and why a text is refused.
-use Rattle.std.specs.Prelude.{◌≡◌, ℕ, Bool, cond, if◌then◌else◌, List, [], ◌∷◌, ◌++◌, Option, Some, None, option_and_then}
+use Rattle.std.specs.Prelude.{◌≡◌, ℕ, Bool, if◌then◌else◌, List, [], ◌∷◌, ◌++◌, Option, Some, None, option_and_then}
 use Rattle.std.specs.Borrow.{Bor}
 use Rattle.json.specs.Json.{Json, null, boolean, number, string, array, object}
-use Rattle.json.specs.Layout.{pretty}
 use Rattle.json.specs.Print.{print}
 use Rattle.json.specs.Tree.{json_tokens}
 use Rattle.serde_json.specs.Read.{of_json}
+use Rattle.jpath_texts.specs.AtDepth.{arranged, at_depth, is_compact}
 use Rattle.jpath_texts.specs.Exact.{exact_of}
-use Rattle.jpath_texts.specs.NamesOnce.{names_once}
 use Rattle.jpath_texts.specs.declared.output.match_line.LineEnd.{LineEnd}
 use Rattle.jpath_texts.specs.declared.output.match_line.LineEnd.TheVariants.{LineFeed, Nul, Nothing}
+use Rattle.jpath_texts.specs.declared.output.look.Look.{Look}
 use Rattle.jpath_texts.specs.declared.refusal.DocumentRefusal.{DocumentRefusal}
+use Rattle.jpath_texts.specs.declared.output.look.Look.{Look}
 use Rattle.jpath_texts.specs.declared.refusal.DocumentRefusal.TheVariants.{NotADocument, HugeExponent, EditNests, EditDiffers, OutOfMemory}
 
 -- the compact text of a value: its numbers' digits and its members' order as they were read
@@ -26,13 +27,17 @@ raw_or (string s) other = s
 raw_or (array js) other = other
 raw_or (object ms) other = other
 
--- a value over lines or compact
-abbrev pub laid_out : Bool → Json → List ℕ
-laid_out is_pretty j = cond is_pretty (pretty (json_tokens j)) (compact j)
+-- a value compact, or in colours or over lines
+abbrev pub laid_out : Look → Json → List ℕ
+laid_out look j = if is_compact look then compact j else at_depth look 0 j
 
--- a value raw or not, over lines or compact, with each name once
-abbrev pub shown : Bool → Bool → Json → List ℕ
-shown is_raw is_pretty j = let text = laid_out is_pretty (names_once j) in cond is_raw (raw_or j text) text
+-- the same, but for a text where it is to be raw
+abbrev pub with_members_kept : Look → Json → List ℕ
+with_members_kept look j = if look.is_raw then raw_or j (laid_out look j) else laid_out look j
+
+-- a value as a look has it
+abbrev pub shown : Look → Json → List ℕ
+shown look j = with_members_kept look (arranged look.is_sorted j)
 
 -- a name, with a colon behind it
 abbrev pub named : Option (Bor (List ℕ)) → List ℕ

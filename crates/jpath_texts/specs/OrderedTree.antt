@@ -30,7 +30,7 @@ abbrev mutual
   are_members_ordered json.no_members = true
   are_members_ordered (json.member k j ms) = is_before k ms && (is_ordered j && are_members_ordered ms)
 
--- an ordered tree's document: as it stands, each number as it is written; there it is also the exact document below
+-- an ordered tree's document: as it stands, each number as it is written
 abbrev mutual
   pub document_of_tree : json.Json → Document
   document_of_tree json.null = null
@@ -48,29 +48,29 @@ abbrev mutual
   members_of_tree json.no_members = no_members
   members_of_tree (json.member k j ms) = member k (document_of_tree j) (members_of_tree ms)
 
--- the members, with d at k
-abbrev pub put : List ℕ → Document → Members → Members
-put k d no_members = member k d no_members
-put k d (member l e ms) = match_ordering (slice_cmp nat_cmp k l) (member k d (member l e ms)) (member l d ms) (member l e (put k d ms))
+-- the members, with j at k: in the place of the one of its name, or before the first one above it
+abbrev pub put_in_order : List ℕ → json.Json → json.Members → json.Members
+put_in_order k j json.no_members = json.member k j json.no_members
+put_in_order k j (json.member l i ms) = match_ordering (slice_cmp nat_cmp k l) (json.member k j (json.member l i ms)) (json.member l j ms) (json.member l i (put_in_order k j ms))
 
--- what the tree means, whatever the order of its members: they go by their names; of a name that comes again the last
--- value stays
+-- the tree with the members of each object in the order of their names; of a name that comes again the last value stays
 abbrev mutual
-  pub exact_document : json.Json → Document
-  exact_document json.null = null
-  exact_document (json.boolean b) = boolean b
-  exact_document (json.number s) = number (written s)
-  exact_document (json.string s) = string s
-  exact_document (json.array js) = array (exact_items js)
-  exact_document (json.object ms) = object (exact_members ms no_members)
+  pub in_order : json.Json → json.Json
+  in_order json.null = json.null
+  in_order (json.boolean b) = json.boolean b
+  in_order (json.number s) = json.number s
+  in_order (json.string s) = json.string s
+  in_order (json.array js) = json.array (items_in_order js)
+  in_order (json.object ms) = json.object (members_in_order ms json.no_members)
 
-  pub exact_items : json.Items → Items
-  exact_items json.no_items = no_items
-  exact_items (json.item j js) = item (exact_document j) (exact_items js)
+  pub items_in_order : json.Items → json.Items
+  items_in_order json.no_items = json.no_items
+  items_in_order (json.item j js) = json.item (in_order j) (items_in_order js)
 
-  pub exact_members : json.Members → Members → Members
-  exact_members json.no_members found = found
-  exact_members (json.member k j ms) found = exact_members ms (put k (exact_document j) found)
+  -- members put one after another among those that are there already
+  pub members_in_order : json.Members → json.Members → json.Members
+  members_in_order json.no_members found = found
+  members_in_order (json.member k j ms) found = members_in_order ms (put_in_order k (in_order j) found)
 
 -- the number that a text writes: a whole number, and the power of ten below it
 abbrev pub text_fraction : List ℕ → ℤ × ℕ

@@ -1,5 +1,5 @@
 -- What the words ask for.
-use Rattle.std.specs.Prelude.{◌≡◌, ◌<◌, ℕ, Bool, true, false, not, ◌&&◌, ◌==◌, if◌then◌else◌, List, [], ◌∷◌, length, map, take, drop, Some, None}
+use Rattle.std.specs.Prelude.{◌≡◌, ◌<◌, ℕ, Bool, true, false, not, ◌&&◌, ◌==◌, if◌then◌else◌, List, [], ◌∷◌, length, map, take, drop, Option, Some, None}
 use Rattle.std.specs.Borrow.{Bor}
 use Rattle.json.specs.Json.{Json, null, string}
 use Rattle.jpath_words.specs.Words.{path_of}
@@ -11,6 +11,9 @@ use Rattle.jpath_words.specs.declared.command_line.EditWords.{EditWords}
 use Rattle.jpath_words.specs.declared.command_line.EditWords.TheVariants.{Set, SetText, Add, AddText, Append, Rename, Null, Remove}
 use Rattle.jpath_texts.specs.Exact.{exact_of}
 use Rattle.jpath_texts.specs.Lines.{compact}
+use Rattle.jpath_texts.specs.declared.output.look.Layout.{Layout}
+use Rattle.jpath_texts.specs.declared.output.look.Layout.TheVariants.{OneLine, Blanks, Tabs}
+use Rattle.jpath_texts.specs.declared.output.look.Look.{Look}
 use Rattle.jpath_texts.specs.declared.output.match_line.LineEnd.{LineEnd}
 use Rattle.jpath_texts.specs.declared.output.match_line.LineEnd.TheVariants.{LineFeed, Nul, Nothing}
 use Rattle.jpath_texts.specs.declared.output.match_line.Shown.{Shown}
@@ -37,6 +40,18 @@ abbrev pub colored_by : Color → Bool → Bool → Bool
 colored_by Always is_terminal has_no_color = true
 colored_by Never is_terminal has_no_color = false
 colored_by Auto is_terminal has_no_color = is_terminal && not has_no_color
+
+-- over lines or not, and how lines are indented: by blanks as many as are asked for, or two, or by a tab
+abbrev pub blanks_by : Bool → Option ℕ → Layout
+blanks_by is_pretty (Some count) = Blanks count
+blanks_by is_pretty None = if is_pretty then Blanks 2 else OneLine
+
+abbrev pub layout_by : Flags → Layout
+layout_by flags = if flags.tab then Tabs else blanks_by flags.pretty flags.indent
+
+-- how values look
+abbrev pub look_by : Flags → Bool → Look
+look_by flags is_colored = record { is_raw = flags.raw; is_sorted = flags.sort_keys; layout = layout_by flags; is_colored = is_colored }
 
 -- what follows a value
 abbrev pub end_by : Flags → LineEnd

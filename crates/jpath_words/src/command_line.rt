@@ -7,8 +7,10 @@ use crate::completions::{Described, completions};
 use clap::{Arg, ArgAction, ArgMatches, Command};
 use std::alloc::{AllocError, Global};
 
-// What may stand behind `--color`, and behind `--completions`.
+// What may stand behind `--color`, `--indent` and `--completions`.
 const COLORS: [&str; 3] = ["auto", "always", "never"];
+
+const WIDTHS: [&str; 8] = ["1", "2", "3", "4", "5", "6", "7", "8"];
 
 const SHELLS: [&str; 3] = ["bash", "zsh", "fish"];
 
@@ -51,9 +53,15 @@ const ENDS: [Flag; 3] = [
 ];
 
 // What is written of a match, and of a document.
-const FORMS: [Flag; 9] = [
+const FORMS: [Flag; 11] = [
     (Some('r'), "raw", "Texts without quotes and escapes"),
     (Some('p'), "pretty", "Indented by two blanks"),
+    (None, "tab", "Indented by a tab"),
+    (
+        Some('S'),
+        "sort-keys",
+        "Members in the order of their names, at every level",
+    ),
     (Some('a'), "array", "One array a document"),
     (
         Some('l'),
@@ -129,6 +137,8 @@ type OneValue = (
 const ANY: [&str; 0] = [];
 
 const ONE_VALUE: [&str; 1] = ["VALUE"];
+
+const INDENT: OneValue = (None, "indent", "N", &WIDTHS, "Indented by N blanks, 1 to 8");
 
 const COLOR: OneValue = (
     Some('C'),
@@ -302,11 +312,13 @@ pub enum Color {
     Never,
 }
 
-/// Which of the options that take no argument are on the command line.
+/// Which of the options about the output are on the command line.
 #[derive(Clone, Copy, Debug, Drop)]
 pub struct Flags {
     pub raw: bool,
     pub pretty: bool,
+    pub tab: bool,
+    pub sort_keys: bool,
     pub array: bool,
     pub locations: bool,
     pub with_locations: bool,
@@ -323,6 +335,8 @@ pub struct Flags {
     pub join: bool,
     pub nul: bool,
     pub seq: bool,
+    /// The number of blanks that `--indent` gives.
+    pub indent: Option<usize>,
     pub color: Color,
 }
 
@@ -401,7 +415,7 @@ fn described_options(alloc: Global) -> Result<Vec<Described>, AllocError> {
             })?;
         }
     }
-    for one in [COLOR, PATHS, ROWS, COMPLETIONS] {
+    for one in [INDENT, COLOR, PATHS, ROWS, COMPLETIONS] {
         let (letter, name, _, choices, help) = one;
         options.push(Described {
             letter,
@@ -440,6 +454,7 @@ fn clap_arguments<'a>(alloc: Global) -> Result<Vec<Arg<'a>>, AllocError> {
     let mut arguments = Vec::new(alloc);
     add_flags(alloc, FORMS.as_slice(), &mut arguments)?;
     add_flags(alloc, ENDS.as_slice(), &mut arguments)?;
+    add_argument(one_value_option(alloc, INDENT), &mut arguments)?;
     add_argument(color_option(alloc), &mut arguments)?;
     add_argument(path_option(alloc), &mut arguments)?;
     add_argument(one_value_option(alloc, ROWS), &mut arguments)?;
@@ -447,7 +462,7 @@ fn clap_arguments<'a>(alloc: Global) -> Result<Vec<Arg<'a>>, AllocError> {
     add_value_options(alloc, ARGUMENTS.as_slice(), &mut arguments)?;
     add_value_options(alloc, EDITS.as_slice(), &mut arguments)?;
     add_flags(alloc, IN_PLACE.as_slice(), &mut arguments)?;
-    add_argument(completions_option(alloc), &mut arguments)?;
+    add_argument(one_value_option(alloc, COMPLETIONS), &mut arguments)?;
     add_argument(path_and_files_argument(alloc), &mut arguments)?;
     Ok(arguments)
 }
@@ -513,14 +528,7 @@ fn as_value_option<'a>(argument: Arg<'a>, values: &'a [&'a str]) -> Arg<'a> {
 
 // The option `--color`, which says when lines are coloured.
 fn color_option<'a>(alloc: Global) -> Arg<'a> {
-    one_value_option(alloc, COLOR)
-        .value_parser(COLORS.as_slice())
-        .default_value("auto")
-}
-
-// The option `--completions`, which writes the completions of a shell.
-fn completions_option<'a>(alloc: Global) -> Arg<'a> {
-    one_value_option(alloc, COMPLETIONS).value_parser(SHELLS.as_slice())
+    one_value_option(alloc, COLOR).default_value("auto")
 }
 
 // The option `-e`, which gives a path, or with `--rows` a column.
@@ -528,14 +536,17 @@ fn path_option<'a>(alloc: Global) -> Arg<'a> {
     one_value_option(alloc, PATHS).action(ArgAction::Append)
 }
 
-// The option with one value that is described so.
+// The option with one value that is described so; another value is refused where it may be one of a few.
 fn one_value_option<'a>(alloc: Global, described: OneValue) -> Arg<'a> {
-    let (letter, name, value, _, help) = described;
-    let argument = named_option(alloc, name, help).value_name(value);
-    match letter {
-        Some(letter) => argument.short(letter),
-        None => argument,
+    let (letter, name, value, choices, help) = described;
+    let mut argument = named_option(alloc, name, help).value_name(value);
+    if let Some(letter) = letter {
+        argument = argument.short(letter);
     }
+    if !choices.is_empty() {
+        argument = argument.value_parser(choices);
+    }
+    argument
 }
 
 // The words that belong to no option: the path, where no option gives one, and the files.
@@ -561,16 +572,22 @@ fn words_of_clap_matches<'a>(
     })
 }
 
-// Which flags `clap` found, and when lines are coloured.
+// Which flags `clap` found, how lines are indented, and when they are coloured.
 fn read_flags(matches: &ArgMatches<'_>) -> Flags {
     let color = match matches.get_str("color") {
         Some("always") => Color::Always,
         Some("never") => Color::Never,
         _ => Color::Auto,
     };
+    let indent = match matches.get_str("indent") {
+        Some(width) => width.parse::<usize>().ok(),
+        None => None,
+    };
     Flags {
         raw: matches.get_flag("raw"),
         pretty: matches.get_flag("pretty"),
+        tab: matches.get_flag("tab"),
+        sort_keys: matches.get_flag("sort-keys"),
         array: matches.get_flag("array"),
         locations: matches.get_flag("locations"),
         with_locations: matches.get_flag("with-locations"),
@@ -587,6 +604,7 @@ fn read_flags(matches: &ArgMatches<'_>) -> Flags {
         join: matches.get_flag("join"),
         nul: matches.get_flag("nul"),
         seq: matches.get_flag("seq"),
+        indent,
         color,
     }
 }

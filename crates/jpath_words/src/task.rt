@@ -5,9 +5,10 @@ ghost use Rattle.std.specs.Prelude.{◌≡◌, ◌<◌, ◌&&◌, not, false, tr
 ghost use Rattle.json.specs.Json.{Json};
 ghost use Rattle.json.specs.Tree.{HasNumbers};
 ghost use Rattle.json.specs.Value.{value_view};
+ghost use Rattle.jpath_texts.specs.AtDepth.{is_over_lines};
 ghost use Rattle.jpath_texts.specs.Exact.{exact_of};
 ghost use Rattle.jpath_texts.specs.Lines.{compact};
-ghost use Rattle.jpath_words.specs.Asked.{is_edit, colored_by, end_by, paths_of, files_of, shown_by, queries_of, AreOf, AreEditsOf, Covers, IsAsked, IsEditOf, IsOfMatches, IsValueText};
+ghost use Rattle.jpath_words.specs.Asked.{is_edit, colored_by, end_by, layout_by, look_by, paths_of, files_of, shown_by, queries_of, AreOf, AreEditsOf, Covers, IsAsked, IsEditOf, IsOfMatches, IsValueText};
 
 use crate::command_line::{Color, EditWords, Flags, Words};
 use crate::hints::warn_of_mixed_connectives;
@@ -15,7 +16,7 @@ use crate::plain_path::{NamedMember, last_name_of_path, member_of_plain_path};
 use crate::refused_path::tell_refused_path;
 use crate::word_faults::words_fault;
 use jpath_texts::{
-    Compared, DocumentRefusal, LineEnd, Look, Query, Separated, Shown, add_compact_value,
+    Compared, DocumentRefusal, Layout, LineEnd, Look, Query, Separated, Shown, add_compact_value,
     read_exact_tree,
 };
 use json::{Scratch, Value as Exact};
@@ -85,11 +86,11 @@ pub struct Wanted<'a> {
 
 impl<'a> Wanted<'a> {
     /// Whether blanks between documents, and a byte order mark before the first, are written as they are. True exactly
-    /// if there are edits and no `--pretty`, which lays the edited documents out over lines.
+    /// if there are edits and the edited documents are not laid out over lines anew.
     pub fn keeps_blanks_between_documents(&self) -> bool
-        ensures { result ≡ is_edit self.now.task && not self.now.look.is_pretty }
+        ensures { result ≡ is_edit self.now.task && not (is_over_lines self.now.look.layout) }
     {
-        matches!(self.task, Task::Edits(_)) && !self.look.is_pretty
+        matches!(self.task, Task::Edits(_)) && !self.look.layout.is_over_lines()
     }
 }
 
@@ -136,7 +137,7 @@ pub fn wanted_of_words<'a>(
     words: &Words<'a>,
     is_colored: bool,
 ) -> Result<Wanted<'a>, Refused>
-    ensures look { IfOk result (λ wanted. wanted.look ≡ record { is_raw = words.now.flags.raw; is_pretty = words.now.flags.pretty; is_colored = is_colored }) }
+    ensures look { IfOk result (λ wanted. wanted.look ≡ look_by words.now.flags is_colored) }
     ensures names { IfOk result (λ wanted. wanted.has_names ≡ words.now.flags.with_filename) }
     ensures sequence { IfOk result (λ wanted. wanted.is_sequence ≡ words.now.flags.seq) }
     ensures ends { IfOk result (λ wanted. wanted.line_end ≡ end_by words.now.flags) }
@@ -170,7 +171,7 @@ fn wanted_with_task<'a>(
     files: Vec<&'a str>,
     is_colored: bool,
 ) -> Result<Wanted<'a>, Refused>
-    ensures look { IfOk result (λ wanted. wanted.look ≡ record { is_raw = flags.now.raw; is_pretty = flags.now.pretty; is_colored = is_colored }) }
+    ensures look { IfOk result (λ wanted. wanted.look ≡ look_by flags.now is_colored) }
     ensures names { IfOk result (λ wanted. wanted.has_names ≡ flags.now.with_filename) }
     ensures sequence { IfOk result (λ wanted. wanted.is_sequence ≡ flags.now.seq) }
     ensures ends { IfOk result (λ wanted. wanted.line_end ≡ end_by flags.now) }
@@ -185,11 +186,7 @@ fn wanted_with_task<'a>(
     Ok(Wanted {
         task,
         compared,
-        look: Look {
-            is_raw: flags.raw,
-            is_pretty: flags.pretty,
-            is_colored,
-        },
+        look: look_by_flags(flags, is_colored),
         files,
         has_names: flags.with_filename,
         is_sequence: flags.seq,
@@ -198,6 +195,33 @@ fn wanted_with_task<'a>(
         is_in_place: flags.in_place,
         is_copied: flags.copy,
     })
+}
+
+// How values look, by the flags.
+fn look_by_flags(flags: &Flags, is_colored: bool) -> Look
+    ensures { result ≡ look_by flags.now is_colored }
+{
+    Look {
+        is_raw: flags.raw,
+        is_sorted: flags.sort_keys,
+        layout: layout_by_flags(flags),
+        is_colored,
+    }
+}
+
+// On how many lines values are written, and how these are indented, by the flags.
+fn layout_by_flags(flags: &Flags) -> Layout
+    ensures { result ≡ layout_by flags.now }
+{
+    if flags.tab {
+        Layout::Tabs
+    } else if let Some(count) = flags.indent {
+        Layout::Blanks(count)
+    } else if flags.pretty {
+        Layout::Blanks(2)
+    } else {
+        Layout::OneLine
+    }
 }
 
 // What follows a value, by the flags.

@@ -8,8 +8,10 @@ use crate::command_line::Words;
 pub(crate) fn words_fault(words: &Words<'_>) -> Option<&'static str> {
     let flags = words.flags;
     let has_edits = !words.edits.is_empty();
+    let has_lines = flags.pretty || flags.tab || flags.indent.is_some();
     let has_form = flags.raw
-        || flags.pretty
+        || has_lines
+        || flags.sort_keys
         || flags.array
         || flags.locations
         || flags.with_locations
@@ -31,6 +33,9 @@ pub(crate) fn words_fault(words: &Words<'_>) -> Option<&'static str> {
             "with edits the document is written: of -r -p -a -l -L -c -q -H only -p goes with them",
         );
     }
+    if has_edits && flags.sort_keys && !has_lines {
+        return Some("an edit keeps the order of members: -S goes with it beside -p alone");
+    }
     if flags.quiet && has_form {
         return Some("-q writes nothing: leave it or the other form of output out");
     }
@@ -43,9 +48,23 @@ pub(crate) fn words_fault(words: &Words<'_>) -> Option<&'static str> {
     if flags.array && flags.count {
         return Some("-a writes arrays and -c numbers: leave one of them out");
     }
-    ends_fault(words)
+    layout_fault(words)
+        .or(ends_fault(words))
         .or(table_fault(words, has_form))
         .or(in_place_fault(words))
+}
+
+// The sentence for `--indent`, `--tab` and `-S` where they do not go with the other words, or `None`.
+fn layout_fault(words: &Words<'_>) -> Option<&'static str> {
+    let flags = words.flags;
+    let has_indent = flags.indent.is_some();
+    if has_indent && flags.tab {
+        return Some("--indent and --tab say how lines are indented: leave one of them out");
+    }
+    if (has_indent || flags.tab || flags.sort_keys) && (flags.count || flags.locations) {
+        return Some("--indent, --tab and -S are about values: leave them, or -c and -l, out");
+    }
+    None
 }
 
 // The sentence for `-j`, `-0` and `--seq` where they do not go with the other words, or `None`.
@@ -91,7 +110,7 @@ fn table_fault(words: &Words<'_>, has_form: bool) -> Option<&'static str> {
         return Some("--rows wants --csv or --tsv, one of them");
     }
     if has_form || flags.quiet {
-        return Some("--rows writes a table: leave -r -p -a -l -L -c -q -H out");
+        return Some("--rows writes a table: leave -r -p --indent --tab -S -a -l -L -c -q -H out");
     }
     None
 }

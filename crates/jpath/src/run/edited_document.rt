@@ -44,9 +44,9 @@ impl Kept {
 }
 
 /// Appends to `out` the text of the document after all edits, which are made one after another: in its own layout or,
-/// if `look` is pretty, indented anew. Returns a total over the edits: for each, how many locations below the root its
-/// path selects or, if it adds or renames members or items, how many of them. If an edit would replace or remove the
-/// root, or a new name is in use already, a message on standard error says so.
+/// if `look` has it over lines, laid out anew. Returns a total over the edits: for each, how many locations below the
+/// root its path selects or, if it adds or renames members or items, how many of them. If an edit would replace or
+/// remove the root, or a new name is in use already, a message on standard error says so.
 pub fn add_edited_document(
     rt: &(impl Eprint + Alloc<A = Global>),
     edits: &[Edit<'_>],
@@ -56,7 +56,7 @@ pub fn add_edited_document(
     out: &mut Vec<u8>,
 ) -> Result<usize, DocumentRefusal> {
     let (bytes, count) = apply_edits(rt, edits, text, kept)?;
-    if look.is_pretty {
+    if look.layout.is_over_lines() {
         add_pretty_document(rt.alloc(), bytes.as_slice(), look, &mut kept.scratch, out)?;
     } else {
         out.extend_from_slice(bytes.as_slice())?;

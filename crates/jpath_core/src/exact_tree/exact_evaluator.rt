@@ -11,7 +11,7 @@ ghost use Rattle.jsonpath_paths.specs.tree.Tree.{Path, plain, filter as with_fil
 ghost use Rattle.jsonpath_paths.specs.tree.View.{condition_of, steps_of_list};
 ghost use Rattle.jsonpath_paths.specs.declared.token.tokens.ParseToken.TheVariants as token;
 ghost use Rattle.jpath_texts.specs.Exact.{IsImageOf};
-ghost use Rattle.jpath_core.specs.AlongExactTree.{after, is_plain_line, list_of, next, rest_from, walk, walk_all, written, AddsStraight};
+ghost use Rattle.jpath_core.specs.AlongExactTree.{after, list_of, next, rest_from, walk, walk_all, written, AddsStraight};
 
 use crate::exact_tree::exact_conditions::{holds_at_value, is_on_members_alone};
 use crate::output::matches::add_value_line;
@@ -64,7 +64,7 @@ pub fn add_lines_by_exact_tree(
     out: &mut Vec<u8>,
 ) -> Result<Option<ExactOutcome>, AllocError>
     requires { HasNumbers (value_view exact.now) }
-    ensures { is_plain_line line.entry ≡ true → IfOk result (λ o. IfSome o (λ found. found.has_fraction ≡ false → (d : Data) (p : Path) → IsImageOf (value_view exact.now) d → Spells query.now.path p
+    ensures { IfOk result (λ o. IfSome o (λ found. found.has_fraction ≡ false → (d : Data) (p : Path) → IsImageOf (value_view exact.now) d → Spells query.now.path p
         → AddsStraight query.now.path line.entry (value_view exact.now) d out.old.items out.new.items found.count p)) }
 {
     one_tree_per_text();
@@ -124,7 +124,7 @@ impl<'w> ExactEvaluator<'w> {
     ) -> Result<bool, AllocError>
         requires { HasNumbers (value_view value.now) }
         ensures stays { OnOk result (lines.new.has_fraction ≡ false → lines.old.has_fraction ≡ false) }
-        ensures adds { is_plain_line self.now.line ≡ true → IfOk result (λ goes. goes ≡ true → lines.new.has_fraction ≡ false
+        ensures adds { IfOk result (λ goes. goes ≡ true → lines.new.has_fraction ≡ false
             → Some (written lines.new) ≡ after self.now.line lines.old (walk self.now.text.now (steps_of_list steps.now) (value_view value.now))) }
     {
         match steps.split_first() {
@@ -152,7 +152,7 @@ impl<'w> ExactEvaluator<'w> {
     fn add_line_and_count(&self, value: &Exact<'_>, lines: &mut Lines) -> Result<bool, AllocError>
         requires { HasNumbers (value_view value.now) }
         ensures stays { OnOk result (lines.new.has_fraction ≡ false → lines.old.has_fraction ≡ false) }
-        ensures adds { is_plain_line self.now.line ≡ true → IfOk result (λ goes. goes ≡ true
+        ensures adds { IfOk result (λ goes. goes ≡ true
             → Some (written lines.new) ≡ after self.now.line lines.old (Some (value_view value.now ∷ []))) }
     {
         if let Some(line) = self.line {
@@ -179,7 +179,7 @@ impl<'w> ExactEvaluator<'w> {
     ) -> Result<bool, AllocError>
         requires { HasNumbers (value_view value.now) }
         ensures stays { OnOk result (lines.new.has_fraction ≡ false → lines.old.has_fraction ≡ false) }
-        ensures adds { is_plain_line self.now.line ≡ true → IfOk result (λ goes. goes ≡ true → lines.new.has_fraction ≡ false
+        ensures adds { IfOk result (λ goes. goes ≡ true → lines.new.has_fraction ≡ false
             → Some (written lines.new) ≡ after self.now.line lines.old (next self.now.text.now (steps_of_list rest.now) (plain (token.Key name)) (value_view value.now))) }
     {
         match borrowed_name_at(self.text, name) {
@@ -202,7 +202,7 @@ impl<'w> ExactEvaluator<'w> {
     ) -> Result<bool, AllocError>
         requires { HasNumbers (value_view value.now) }
         ensures stays { OnOk result (lines.new.has_fraction ≡ false → lines.old.has_fraction ≡ false) }
-        ensures adds { is_plain_line self.now.line ≡ true → IfOk result (λ goes. goes ≡ true → lines.new.has_fraction ≡ false
+        ensures adds { IfOk result (λ goes. goes ≡ true → lines.new.has_fraction ≡ false
             → Some (written lines.new) ≡ after self.now.line lines.old (next self.now.text.now (steps_of_list rest.now) (plain token.All) (value_view value.now))) }
     {
         match value {
@@ -224,7 +224,7 @@ impl<'w> ExactEvaluator<'w> {
     ) -> Result<bool, AllocError>
         requires { ItemsHaveNumbers (items_view items.now.items) }
         ensures stays { OnOk result (lines.new.has_fraction ≡ false → lines.old.has_fraction ≡ false) }
-        ensures adds { is_plain_line self.now.line ≡ true → IfOk result (λ goes. goes ≡ true → lines.new.has_fraction ≡ false
+        ensures adds { IfOk result (λ goes. goes ≡ true → lines.new.has_fraction ≡ false
             → Some (written lines.new) ≡ after self.now.line lines.old (walk_all (rest_from self.now.text.now (steps_of_list rest.now) kept.entry) (list_of (items_view items.now.items)))) }
     {
         for item in items {
@@ -247,7 +247,7 @@ impl<'w> ExactEvaluator<'w> {
     ) -> Result<bool, AllocError>
         requires { HasNumbers (value_view value.now) }
         ensures stays { OnOk result (lines.new.has_fraction ≡ false → lines.old.has_fraction ≡ false) }
-        ensures adds { is_plain_line self.now.line ≡ true → IfOk result (λ goes. goes ≡ true → lines.new.has_fraction ≡ false
+        ensures adds { IfOk result (λ goes. goes ≡ true → lines.new.has_fraction ≡ false
             → Some (written lines.new) ≡ after self.now.line lines.old (next self.now.text.now (steps_of_list rest.now) (with_filter (condition_of condition.now)) (value_view value.now))) }
     {
         if !is_on_members_alone(condition) {
@@ -276,7 +276,7 @@ impl<'w> ExactEvaluator<'w> {
     ) -> Result<bool, AllocError>
         requires { HasNumbers (value_view value.now) }
         ensures stays { OnOk result (lines.new.has_fraction ≡ false → lines.old.has_fraction ≡ false) }
-        ensures adds { is_plain_line self.now.line ≡ true → IfOk result (λ goes. goes ≡ true → lines.new.has_fraction ≡ false
+        ensures adds { IfOk result (λ goes. goes ≡ true → lines.new.has_fraction ≡ false
             → Some (written lines.new) ≡ after self.now.line lines.old (rest_from self.now.text.now (steps_of_list rest.now) kept.entry (value_view value.now))) }
     {
         let Some(condition) = kept else {

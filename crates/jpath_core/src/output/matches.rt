@@ -1,6 +1,6 @@
 //! What is written for the matches of one document, and how many there are.
 
-ghost use Rattle.std.specs.Prelude.{◌≡◌, ◌++◌, true, false, length, map, OnOk, IfOk, Some};
+ghost use Rattle.std.specs.Prelude.{◌≡◌, ◌++◌, true, length, map, OnOk, IfOk, Some};
 ghost use Rattle.json.specs.Tree.{HasNumbers};
 ghost use Rattle.json.specs.Value.{value_view};
 ghost use Rattle.serde_json.specs.View.{view};
@@ -18,7 +18,7 @@ use crate::exact_at_steps::printable_value_at_steps;
 use crate::selection::select_in_document;
 use jpath_texts::{
     Document, DocumentRefusal, Line, Look, Query, Shown, add_array_end, add_array_item,
-    add_file_name, add_line_end, add_record_start, add_value_in_look, write_with_names_once,
+    add_file_name, add_line_end, add_record_start, add_value_in_look, write_arranged,
 };
 use json::{Value as Exact, Writer};
 use jsonpath_nodes::{Location, Spot};
@@ -36,7 +36,7 @@ pub fn add_lines_for_path(
     out: &mut Vec<u8>,
 ) -> Result<usize, DocumentRefusal>
     requires { HasNumbers (value_view document.now.exact) }
-    ensures { is_as_read document.now.numbers ≡ true → line.now.look.is_colored ≡ false → IfOk result (λ count. (p : Path) → Spells query.now.path p
+    ensures { is_as_read document.now.numbers ≡ true → IfOk result (λ count. (p : Path) → Spells query.now.path p
         → AddsMatches query.now.path line.now (value_view document.now.exact) (view document.now.image) out.old.items out.new.items count p) }
 {
     one_tree_per_text();
@@ -83,13 +83,14 @@ pub fn add_array(
 {
     add_record_start(out, line.is_record)?;
     add_file_name(out, line.name)?;
-    let count = if line.look.is_pretty || line.look.is_colored {
-        add_pretty_or_colored_array(alloc, document, queries, line.look, out)?
-    } else {
+    let count = if line.look.is_compact() {
         let mut writer = Writer::new(mem::replace(out, Vec::new(alloc)));
-        let written = write_compact_array(alloc, document, queries, &mut writer);
+        let is_sorted = line.look.is_sorted;
+        let written = write_compact_array(alloc, document, queries, is_sorted, &mut writer);
         *out = writer.into_inner();
         written?
+    } else {
+        add_pretty_or_colored_array(alloc, document, queries, line.look, out)?
     };
     add_line_end(out, line.end)?;
     Ok(count)
@@ -100,6 +101,7 @@ fn write_compact_array(
     alloc: Global,
     document: &Document<'_>,
     queries: &[Query<'_>],
+    is_sorted: bool,
     writer: &mut Writer,
 ) -> Result<usize, DocumentRefusal>
     requires { HasNumbers (value_view document.now.exact) }
@@ -108,25 +110,26 @@ fn write_compact_array(
     writer.begin_array()?;
     for query in queries {
         let spots = select_in_document(alloc, document, query)?;
-        write_compact_items(alloc, &document.exact, spots.as_slice(), writer)?;
+        write_compact_items(alloc, &document.exact, spots.as_slice(), is_sorted, writer)?;
         count = count.saturating_add(spots.len());
     }
     writer.end_array()?;
     Ok(count)
 }
 
-// Writes the values at the spots as items of an array. A name that comes again in an object is written once.
+// Writes the values at the spots as items of an array, each name of an object once.
 fn write_compact_items(
     alloc: Global,
     exact: &Exact<'_>,
     spots: &[Spot<'_>],
+    is_sorted: bool,
     writer: &mut Writer,
 ) -> Result<(), AllocError>
     requires { HasNumbers (value_view exact.now) }
 {
     for spot in spots {
         if let Some(value) = printable_value_at_steps(exact, spot.steps()) {
-            write_with_names_once(alloc, value, writer)?;
+            write_arranged(alloc, value, is_sorted, writer)?;
         }
     }
     Ok(())
@@ -191,7 +194,7 @@ fn add_lines_of_spots(
     out: &mut Vec<u8>,
 ) -> Result<(), AllocError>
     requires { HasNumbers (value_view exact.now) }
-    ensures { line.now.look.is_colored ≡ false → OnOk result (out.new.items ≡ out.old.items ++ lines_text line.now (value_view exact.now) (map location_of spots.now)) }
+    ensures { OnOk result (out.new.items ≡ out.old.items ++ lines_text line.now (value_view exact.now) (map location_of spots.now)) }
 {
     for spot in spots {
         if let Some(value) = printable_value_at_steps(exact, spot.steps()) {
@@ -210,7 +213,7 @@ fn add_line(
     out: &mut Vec<u8>,
 ) -> Result<(), AllocError>
     requires { HasNumbers (value_view value.now) }
-    ensures { line.now.look.is_colored ≡ false → OnOk result (out.new.items ≡ out.old.items ++ line_text line.now (location_of spot.now) (value_view value.now)) }
+    ensures { OnOk result (out.new.items ≡ out.old.items ++ line_text line.now (location_of spot.now) (value_view value.now)) }
 {
     add_record_start(out, line.is_record)?;
     add_file_name(out, line.name)?;
@@ -253,7 +256,7 @@ pub(crate) fn add_value_line(
     out: &mut Vec<u8>,
 ) -> Result<(), AllocError>
     requires { HasNumbers (value_view value.now) }
-    ensures { line.now.look.is_colored ≡ false → OnOk result (out.new.items ≡ out.old.items ++ value_line line.now (value_view value.now)) }
+    ensures { OnOk result (out.new.items ≡ out.old.items ++ value_line line.now (value_view value.now)) }
 {
     add_record_start(out, line.is_record)?;
     add_file_name(out, line.name)?;

@@ -5,7 +5,9 @@ ghost use Rattle.json.specs.Value.{value_view};
 
 use crate::exact_at_steps::printable_value_at_steps;
 use crate::selection::{select_in_document, select_in_image};
-use jpath_texts::{Document, DocumentRefusal, Look, Query, Separated, add_row, add_value_in_look};
+use jpath_texts::{
+    Document, DocumentRefusal, Layout, Look, Query, Separated, add_row, add_value_in_look,
+};
 use json::Value as Exact;
 use serde_json::Value;
 use std::alloc::Global;
@@ -66,7 +68,8 @@ fn field_of_column(
     let mut field = Vec::new(alloc);
     let look = Look {
         is_raw: true,
-        is_pretty: false,
+        is_sorted: false,
+        layout: Layout::OneLine,
         is_colored: false,
     };
     let spots = select_in_image(alloc, image, &document.numbers, column)?;

@@ -2,8 +2,8 @@
 
 ghost use Rattle.std.specs.Prelude.{◌≡◌, true, IfOk};
 ghost use Rattle.json.specs.Value.{value_view, items_view, members_view};
-ghost use Rattle.jsonpath_nodes.specs.document.Document.{no_members};
-ghost use Rattle.jpath_texts.specs.OrderedTree.{is_ordered, are_items_ordered, are_members_ordered, document_of_tree, items_of_tree, members_of_tree, exact_document, exact_items, exact_members};
+ghost use Rattle.json.specs.Json.{no_members};
+ghost use Rattle.jpath_texts.specs.OrderedTree.{is_ordered, are_items_ordered, are_members_ordered, in_order, items_in_order, members_in_order};
 
 use json::Value as Exact;
 use std::alloc::{AllocError, Global};
@@ -58,7 +58,7 @@ fn are_named_trees_ordered(members: &Vec<(&str, Exact<'_>)>) -> bool
 /// last value alone is kept. The only error is out of memory.
 pub fn put_in_order<'a>(alloc: Global, value: Exact<'a>) -> Result<Exact<'a>, AllocError>
     ensures ordered { IfOk result (λ made. is_ordered (value_view made) ≡ true) }
-    ensures document { IfOk result (λ made. document_of_tree (value_view made) ≡ exact_document (value_view value.entry)) }
+    ensures tree { IfOk result (λ made. value_view made ≡ in_order (value_view value.entry)) }
 {
     if is_tree_ordered(&value) {
         return Ok(value);
@@ -68,9 +68,9 @@ pub fn put_in_order<'a>(alloc: Global, value: Exact<'a>) -> Result<Exact<'a>, Al
 
 // A copy of the tree with the members of each object in the order of their names.
 #[cycle(copy)]
-fn copy_in_order<'a>(alloc: Global, value: &Exact<'a>) -> Result<Exact<'a>, AllocError>
+pub(crate) fn copy_in_order<'a>(alloc: Global, value: &Exact<'a>) -> Result<Exact<'a>, AllocError>
     ensures ordered { IfOk result (λ made. is_ordered (value_view made) ≡ true) }
-    ensures document { IfOk result (λ made. document_of_tree (value_view made) ≡ exact_document (value_view value.now)) }
+    ensures tree { IfOk result (λ made. value_view made ≡ in_order (value_view value.now)) }
 {
     match value {
         Exact::Null => Ok(Exact::Null),
@@ -89,7 +89,7 @@ fn copy_items_in_order<'a>(
     items: &Vec<Exact<'a>>,
 ) -> Result<Vec<Exact<'a>>, AllocError>
     ensures ordered { IfOk result (λ made. are_items_ordered (items_view made.items) ≡ true) }
-    ensures document { IfOk result (λ made. items_of_tree (items_view made.items) ≡ exact_items (items_view items.now.items)) }
+    ensures tree { IfOk result (λ made. items_view made.items ≡ items_in_order (items_view items.now.items)) }
 {
     let mut made = Vec::with_capacity(alloc, items.len())?;
     for item in items {
@@ -105,7 +105,7 @@ fn copy_members_in_order<'a>(
     members: &Vec<(&'a str, Exact<'a>)>,
 ) -> Result<Vec<(&'a str, Exact<'a>)>, AllocError>
     ensures ordered { IfOk result (λ made. are_members_ordered (members_view made.items) ≡ true) }
-    ensures document { IfOk result (λ made. members_of_tree (members_view made.items) ≡ exact_members (members_view members.now.items) no_members) }
+    ensures tree { IfOk result (λ made. members_view made.items ≡ members_in_order (members_view members.now.items) no_members) }
 {
     let mut named = BTreeMap::new(alloc);
     for member in members {

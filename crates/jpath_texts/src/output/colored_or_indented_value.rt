@@ -1,14 +1,15 @@
-//! Values in colours, for a terminal, and values at a depth of indentation, as the items of an array. A whole value
-//! on several lines without colours is written in `value_text.rt`.
+//! Values in colours, for a terminal, and values over lines, at a depth of indentation. A value on one line without
+//! colours is written in `value_text.rt`.
 
-ghost use Rattle.std.specs.Prelude.{◌≡◌, ◌∷◌, ◌++◌, true, false, OnOk};
-ghost use Rattle.json.specs.Layout.{line};
+ghost use Rattle.std.specs.Prelude.{◌≡◌, ◌∷◌, ◌++◌, replicate, false, OnOk};
+ghost use Rattle.json.specs.Print.{quoted};
 ghost use Rattle.json.specs.Value.{value_view, items_view, members_view};
-ghost use Rattle.jpath_texts.specs.AtDepth.{at_depth, rest_of_array, rest_of_object, comma_and_indent, closed_by, colon, inner, in_color, lines_from, quoted};
+ghost use Rattle.jpath_texts.specs.AtDepth.{at_depth, rest_of_array, rest_of_object, comma_and_indent, indent, closed_by, colon, inner, in_color};
 
-use json::{Token, Value as Exact, Writer};
+use crate::output::look::{Layout, Look};
+use crate::output::quoted_text::add_quoted;
+use json::Value as Exact;
 use std::alloc::{AllocError, Global};
-use std::mem;
 
 const NAME: &[u8] = b"\x1b[34;1m";
 
@@ -20,151 +21,161 @@ const WORD: &[u8] = b"\x1b[35m";
 
 const PLAIN: &[u8] = b"\x1b[0m";
 
-// Writes a value in colours behind what is there, over lines if `is_pretty` is set. Names have one colour, texts
-// another, numbers a third, truths and null a fourth. Repeated names are kept. A refusal may leave a part of it.
-pub(crate) fn add_colored_value(
-    alloc: Global,
-    out: &mut Vec<u8>,
-    value: &Exact<'_>,
-    is_pretty: bool,
-) -> Result<(), AllocError>
-    ensures { OnOk result (out.new.items ≡ out.old.items ++ at_depth (lines_from is_pretty) true (value_view value.now)) }
-{
-    let depth = if is_pretty { Some(0) } else { None };
-    add_value_at_depth(alloc, out, value, depth, true)
-}
-
-// Writes a value, in colours or not. With a depth, items and members stand on lines of their own, indented.
-// Repeated names are kept.
+// Writes a value behind what is there, at a depth of indentation, in colours or not, over lines or not, as the look
+// says. Names have one colour, texts another, numbers a third, truths and null a fourth. Members are written as they
+// stand. A refusal may leave a part of it.
 #[cycle(at_depth)]
 pub(crate) fn add_value_at_depth(
     alloc: Global,
     out: &mut Vec<u8>,
     value: &Exact<'_>,
-    depth: Option<usize>,
-    is_colored: bool,
+    look: Look,
+    depth: usize,
 ) -> Result<(), AllocError>
-    ensures { OnOk result (out.new.items ≡ out.old.items ++ at_depth depth is_colored (value_view value.now)) }
+    ensures { OnOk result (out.new.items ≡ out.old.items ++ at_depth look depth (value_view value.now)) }
 {
     match value {
-        Exact::Null => add_in_color(out, is_colored, WORD, b"null"),
-        Exact::Bool(true) => add_in_color(out, is_colored, WORD, b"true"),
-        Exact::Bool(false) => add_in_color(out, is_colored, WORD, b"false"),
-        Exact::Number(digits) => add_in_color(out, is_colored, NUMBER, digits.as_bytes()),
-        Exact::String(text) => add_quoted(alloc, out, is_colored, TEXT, *text),
-        Exact::Array(items) => add_array_at_depth(alloc, out, items, depth, is_colored),
-        Exact::Object(members) => add_object_at_depth(alloc, out, members, depth, is_colored),
+        Exact::Null => add_in_color(out, look.is_colored, WORD, b"null"),
+        Exact::Bool(true) => add_in_color(out, look.is_colored, WORD, b"true"),
+        Exact::Bool(false) => add_in_color(out, look.is_colored, WORD, b"false"),
+        Exact::Number(digits) => add_in_color(out, look.is_colored, NUMBER, digits.as_bytes()),
+        Exact::String(text) => add_quoted_in_color(alloc, out, look.is_colored, TEXT, *text),
+        Exact::Array(items) => add_array_at_depth(alloc, out, items, look, depth),
+        Exact::Object(members) => add_object_at_depth(alloc, out, members, look, depth),
     }
 }
 
-// Writes an array with its brackets, in colours or not. With a depth, its items stand on lines of their own, indented.
+// Writes an array with its brackets at a depth of indentation.
 #[cycle(at_depth)]
 fn add_array_at_depth(
     alloc: Global,
     out: &mut Vec<u8>,
     items: &Vec<Exact<'_>>,
-    depth: Option<usize>,
-    is_colored: bool,
+    look: Look,
+    depth: usize,
 ) -> Result<(), AllocError>
-    ensures { OnOk result (out.new.items ≡ out.old.items ++ 91 ∷ rest_of_array false depth is_colored (items_view items.now.items)) }
+    ensures { OnOk result (out.new.items ≡ out.old.items ++ 91 ∷ rest_of_array false look depth (items_view items.now.items)) }
 {
     let inside = inner_depth(depth);
     let mut has_items = false;
     out.push(b'[')?;
     for item in items {
-        add_comma_and_indent(out, has_items, inside)?;
-        add_value_at_depth(alloc, out, item, inside, is_colored)?;
+        add_comma_and_indent(out, has_items, look.layout, inside)?;
+        add_value_at_depth(alloc, out, item, look, inside)?;
         has_items = true;
     }
-    add_closing(out, b']', has_items, depth)
+    add_closing(out, b']', has_items, look.layout, depth)
 }
 
-// Writes an object with its braces, in colours or not. With a depth, its members stand on lines of their own, indented.
+// Writes an object with its braces at a depth of indentation.
 #[cycle(at_depth)]
 fn add_object_at_depth(
     alloc: Global,
     out: &mut Vec<u8>,
     members: &Vec<(&str, Exact<'_>)>,
-    depth: Option<usize>,
-    is_colored: bool,
+    look: Look,
+    depth: usize,
 ) -> Result<(), AllocError>
-    ensures { OnOk result (out.new.items ≡ out.old.items ++ 123 ∷ rest_of_object false depth is_colored (members_view members.now.items)) }
+    ensures { OnOk result (out.new.items ≡ out.old.items ++ 123 ∷ rest_of_object false look depth (members_view members.now.items)) }
 {
     let inside = inner_depth(depth);
     let mut has_members = false;
     out.push(b'{')?;
     for member in members {
-        add_comma_and_indent(out, has_members, inside)?;
-        add_quoted(alloc, out, is_colored, NAME, member.0)?;
-        add_colon(out, depth)?;
-        add_value_at_depth(alloc, out, &member.1, inside, is_colored)?;
+        add_comma_and_indent(out, has_members, look.layout, inside)?;
+        add_quoted_in_color(alloc, out, look.is_colored, NAME, member.0)?;
+        add_colon(out, look.layout)?;
+        add_value_at_depth(alloc, out, &member.1, look, inside)?;
         has_members = true;
     }
-    add_closing(out, b'}', has_members, depth)
+    add_closing(out, b'}', has_members, look.layout, depth)
 }
 
-// Writes the bracket or brace that closes, with a depth on a line of its own if something stands before it.
+// Writes the bracket or brace that closes, over lines on a line of its own if something stands before it.
 pub(crate) fn add_closing(
     out: &mut Vec<u8>,
     bracket: u8,
     has_items: bool,
-    depth: Option<usize>,
+    layout: Layout,
+    depth: usize,
 ) -> Result<(), AllocError>
-    ensures { OnOk result (out.new.items ≡ out.old.items ++ closed_by bracket has_items depth) }
+    ensures { OnOk result (out.new.items ≡ out.old.items ++ closed_by bracket has_items layout depth) }
 {
     if has_items {
-        add_comma_and_indent(out, false, depth)?;
+        add_line_end_and_indent(out, layout, depth)?;
     }
     Ok(out.push(bracket)?)
 }
 
-// Writes the colon behind a name, and with a depth a blank.
-fn add_colon(out: &mut Vec<u8>, depth: Option<usize>) -> Result<(), AllocError>
-    ensures { OnOk result (out.new.items ≡ out.old.items ++ colon depth) }
+// Writes the colon behind a name, and over lines a blank.
+fn add_colon(out: &mut Vec<u8>, layout: Layout) -> Result<(), AllocError>
+    ensures { OnOk result (out.new.items ≡ out.old.items ++ colon layout) }
 {
-    match depth {
-        Some(_) => out.extend_from_slice(b": "),
-        None => out.extend_from_slice(b":"),
+    if layout.is_over_lines() {
+        out.extend_from_slice(b": ")
+    } else {
+        out.extend_from_slice(b":")
     }
 }
 
-// The depth of what stands in an array or object at this depth: one more, or None where nothing stands on lines.
-fn inner_depth(depth: Option<usize>) -> Option<usize>
+// The depth of what stands in an array or object at this depth: one more.
+fn inner_depth(depth: usize) -> usize
     ensures { result ≡ inner depth }
 {
-    depth.map(|n| n.saturating_add(1))
+    depth.saturating_add(1)
 }
 
-// Writes a comma, if there is one, and with a depth the line end and the indentation of the next line.
+// Writes a comma, if there is one, and over lines the line end and the indentation of the next line.
 pub(crate) fn add_comma_and_indent(
     out: &mut Vec<u8>,
     has_comma: bool,
-    depth: Option<usize>,
+    layout: Layout,
+    depth: usize,
 ) -> Result<(), AllocError>
-    ensures { OnOk result (out.new.items ≡ out.old.items ++ comma_and_indent has_comma depth) }
+    ensures { OnOk result (out.new.items ≡ out.old.items ++ comma_and_indent has_comma layout depth) }
 {
     if has_comma {
         out.push(b',')?;
     }
-    match depth {
-        Some(depth) => add_line_end_and_blanks(out, depth),
-        None => Ok(()),
+    add_line_end_and_indent(out, layout, depth)
+}
+
+// Writes a line end and the indentation of the next line; nothing where a value is on one line.
+fn add_line_end_and_indent(
+    out: &mut Vec<u8>,
+    layout: Layout,
+    depth: usize,
+) -> Result<(), AllocError>
+    ensures { OnOk result (out.new.items ≡ out.old.items ++ indent layout depth) }
+{
+    match layout {
+        Layout::OneLine => Ok(()),
+        Layout::Blanks(count) => {
+            out.push(b'\n')?;
+            for _ in 0..depth {
+                add_repeated(out, b' ', count)?;
+            }
+            Ok(())
+        }
+        Layout::Tabs => {
+            out.push(b'\n')?;
+            add_repeated(out, b'\t', depth)
+        }
     }
 }
 
-// Writes a line end and the indentation of the next line: two blanks for each level of depth.
-fn add_line_end_and_blanks(out: &mut Vec<u8>, depth: usize) -> Result<(), AllocError>
-    ensures { OnOk result (out.new.items ≡ out.old.items ++ line depth) }
+// Writes a byte so many times.
+fn add_repeated(out: &mut Vec<u8>, byte: u8, count: usize) -> Result<(), AllocError>
+    ensures { OnOk result (out.new.items ≡ out.old.items ++ replicate count byte) }
 {
-    out.push(b'\n')?;
-    for _ in 0..depth {
-        out.extend_from_slice(b"  ")?;
+    for _ in 0..count {
+        out.push(byte)?;
     }
     Ok(())
 }
 
 // Writes a text as JSON has it, in quotes, and in this colour if there are colours.
-fn add_quoted(
+fn add_quoted_in_color(
     alloc: Global,
     out: &mut Vec<u8>,
     is_colored: bool,
@@ -173,17 +184,12 @@ fn add_quoted(
 ) -> Result<(), AllocError>
     ensures { OnOk result (out.new.items ≡ out.old.items ++ in_color is_colored color.now (quoted text.now)) }
 {
-    if is_colored {
-        out.extend_from_slice(color)?;
+    if !is_colored {
+        return add_quoted(alloc, out, text);
     }
-    let mut writer = Writer::new(mem::replace(out, Vec::new(alloc)));
-    let written = writer.token(Token::String(text));
-    *out = writer.into_inner();
-    written?;
-    if is_colored {
-        out.extend_from_slice(PLAIN)?;
-    }
-    Ok(())
+    out.extend_from_slice(color)?;
+    add_quoted(alloc, out, text)?;
+    out.extend_from_slice(PLAIN)
 }
 
 // Writes bytes as they are, in this colour if there are colours.

@@ -4,7 +4,7 @@
 ghost use Rattle.std.specs.Prelude.{◌≡◌, ◌++◌, OnOk};
 ghost use Rattle.jpath_texts.specs.Lines.{named, record_start, line_end};
 
-use crate::output::value_text::Look;
+use crate::output::look::Look;
 use std::alloc::AllocError;
 
 /// What `jpath` prints for a value that a path selects: the value, its location, or both.
@@ -33,8 +33,8 @@ pub enum LineEnd {
 /// both, in which layout.
 #[derive(Clone, Copy, Debug, Drop)]
 pub struct Line<'n> {
-    /// How the selected value is written: a string with or without its quotes and escapes, indented over several lines
-    /// or not, in colours or not.
+    /// How the selected value is written: a string with or without its quotes and escapes, members in the order of
+    /// their names or not, indented over several lines or not, in colours or not.
     pub look: Look,
     /// Whether the line shows the selected value, its location, or both.
     pub shown: Shown,

@@ -1,37 +1,19 @@
 //! Values with each name once in their objects.
 
-ghost use Rattle.std.specs.Prelude.{◌≡◌, [], ◌++◌, nat_eq, false, IfOk, OnOk, OnErr};
+ghost use Rattle.std.specs.Prelude.{◌≡◌, [], nat_eq, false, IfOk};
 ghost use Rattle.std.specs.Cmp.Lexicographic.{pointwise};
 ghost use Rattle.std.specs.List.{list_any};
 ghost use Rattle.std.specs.Str.{bytes_eq};
 ghost use Rattle.indexmap.specs.IndexMap.{insert_all};
-ghost use Rattle.json.specs.Tree.{HasNumbers, json_tokens};
 ghost use Rattle.json.specs.Value.{value_view, items_view, members_view};
 ghost use Rattle.jpath_texts.specs.NamesOnce.{names_once, items_once, members_once, each_name_once};
 
 use indexmap::IndexMap;
-use json::{Value as Exact, Writer};
+use json::Value as Exact;
 use std::alloc::{AllocError, Global};
 
 // So many names of an object are compared with each other; an object that has more is made anew.
 const FEW: usize = 16;
-
-/// Writes a JSON value to `writer`, with each name of an object once: where it occurs first, with its last value.
-pub fn write_with_names_once(
-    alloc: Global,
-    value: &Exact<'_>,
-    writer: &mut Writer,
-) -> Result<(), AllocError>
-    requires { HasNumbers (value_view value.now) }
-    ensures ok { OnOk result (writer.new.tokens ≡ writer.old.tokens ++ json_tokens (names_once (value_view value.now))) }
-    ensures err { OnErr result (writer.new.tokens ≡ writer.old.tokens) }
-{
-    if may_repeat_names(value) {
-        let once = with_names_once(alloc, value)?;
-        return writer.value(&once);
-    }
-    writer.value(value)
-}
 
 // A copy of the value with each name once in its objects: at its first place, with its last value.
 #[cycle(once)]

@@ -13,7 +13,7 @@ use Rattle.jpath_core.proofs.ExactTreeLemmas.{steps_stand, stand_length}
 use Rattle.jpath_core.proofs.exact_tree.exact_evaluator.add_lines_by_exact_tree.Goals as goal
 
 pub returns : goal.returns
-returns c = λ plain exactly d p image spelled.
+returns c = λ exactly d p image spelled.
     let text = c.args.query.now.path in
     let line = c.args.line in
     let exact = value_view c.args.exact.now in
@@ -21,7 +21,7 @@ returns c = λ plain exactly d p image spelled.
     let lines = c.add_lines_from_value-added.new.lines in
     let steps = steps_of_list c.as_slice.result.now in
     let start : List ℕ × ℕ = (c.replace.result.items, 0) in
-    let added = c.in_ok-added.ensures.adds plain c.if-not-branch.false exactly in
+    let added = c.in_ok-added.ensures.adds c.if-not-branch.false exactly in
     let found = mapped_some (and_more line start) (walk c.text.result.now steps exact) (written lines) (sym added) in
     let all : walk_all (walk c.text.result.now steps) (exact ∷ []) ≡ Some found.0 = both_nil (walk c.text.result.now steps exact) ∙ found.1 in
     let stand = steps_stand c.text.result.now exact d image c.steps_keep_locations_apart.ensures.named c.steps_keep_locations_apart.ensures.range c.steps_keep_locations_apart.ensures.kept c.apart_locations_meet_candidates_once.ensures.candidates c.apart_locations_meet_candidates_once.ensures.no_repeat c.apart_locations_meet_candidates_once.ensures.once

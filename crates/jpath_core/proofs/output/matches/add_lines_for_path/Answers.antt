@@ -10,7 +10,7 @@ use Rattle.jpath_core.proofs.LineLemmas.{locations_of}
 use Rattle.jpath_core.proofs.output.matches.add_lines_for_path.Goals as goal
 
 pub returns : goal.returns
-returns c = λ as_read plain p spelled.
+returns c = λ as_read p spelled.
     let text = c.args.query.now.path in
     let exact = value_view c.args.document.now.exact in
     let image = document_of (view c.args.document.now.image) in
@@ -21,6 +21,6 @@ returns c = λ as_read plain p spelled.
     let lent : map location_of c.as_slice.result.now ≡ map location_of spots = ap (map location_of) c.as_slice.ensures.value in
     let counted : c.len.result ≡ length spots = grind arith in
     record {
-      written = c.in_ok-add_lines_of_spots.ensures plain ∙ ap (λ ls. c.args.out.now.items ++ lines_text c.args.line.now exact ls) (lent ∙ stand);
+      written = c.in_ok-add_lines_of_spots.ensures ∙ ap (λ ls. c.args.out.now.items ++ lines_text c.args.line.now exact ls) (lent ∙ stand);
       counted = counted ∙ sym (length-map spots location_of) ∙ ap length stand;
     }

@@ -5,10 +5,8 @@ use Rattle.jpath_texts.proofs.output.colored_or_indented_value.+at_depth.Given a
 
 abbrev pub invariant-add_array_at_depth-loop-item : goal.invariant-add_array_at_depth-loop-item
 invariant-add_array_at_depth-loop-item l =
-    l.out.items ++ rest_of_array l.has_items l.depth l.is_colored (items_view (drop l.item-index l.item-items)) ≡ l.initial.out.items ++ rest_of_array false l.depth l.is_colored (items_view l.item-items)
+    l.out.items ++ rest_of_array l.has_items l.look l.depth (items_view (drop l.item-index l.item-items)) ≡ l.initial.out.items ++ rest_of_array false l.look l.depth (items_view l.item-items)
 
-abbrev pub invariant-add_object_at_depth-loop-member :
-    goal.invariant-add_object_at_depth-loop-member
+abbrev pub invariant-add_object_at_depth-loop-member : goal.invariant-add_object_at_depth-loop-member
 invariant-add_object_at_depth-loop-member l =
-    l.out.items ++ rest_of_object l.has_members l.depth l.is_colored (members_view (drop l.member-index l.member-items))
-    ≡ l.initial.out.items ++ rest_of_object false l.depth l.is_colored (members_view l.member-items)
+    l.out.items ++ rest_of_object l.has_members l.look l.depth (members_view (drop l.member-index l.member-items)) ≡ l.initial.out.items ++ rest_of_object false l.look l.depth (members_view l.member-items)

@@ -32,13 +32,13 @@ add_lines_from_each_kept-loop-item-preserved t c =
     let line = c.args.self.now.line in
     let done = c.in_ok-add_lines_if_kept.ensures in (
       λ h. l.invariant.0 (done.stays h),
-      λ plain h. after_more line l.lines c.add_lines_if_kept.new.lines (from (value_view x)) (walk_all from (list_of (items_view (drop (l.item-index + 1) xs)))) (done.adds plain c.if-not-branch.false h)
-          ∙ ap (λ ys. after line l.lines (walk_all from (list_of (items_view ys)))) (sym here) ∙ l.invariant.1 plain (done.stays h),
+      λ h. after_more line l.lines c.add_lines_if_kept.new.lines (from (value_view x)) (walk_all from (list_of (items_view (drop (l.item-index + 1) xs)))) (done.adds c.if-not-branch.false h)
+          ∙ ap (λ ys. after line l.lines (walk_all from (list_of (items_view ys)))) (sym here) ∙ l.invariant.1 (done.stays h),
       (subst (λ ys. ItemsHaveNumbers (items_view ys)) here l.invariant.2).1,
     )
 
 pub add_lines_from_candidates-returns-in-Array-clause-adds : goal.add_lines_from_candidates-returns-in-Array-clause-adds
-add_lines_from_candidates-returns-in-Array-clause-adds t c = λ plain.
+add_lines_from_candidates-returns-in-Array-clause-adds t c =
     let text = c.args.self.now.text.now in
     let rest = steps_of_list c.args.rest.now in
     let condition = condition_of c.args.condition.now in
@@ -46,4 +46,4 @@ add_lines_from_candidates-returns-in-Array-clause-adds t c = λ plain.
     let simple : is_simple condition ≡ true = sym c.is_on_members_alone.ensures ∙ c.if-not-is_on_members_alone.false in
     let seen : value_view c.args.value.now ≡ json.array items = ap value_view c.in-Array.is ∙ view-Array c.in-Array.items in
     subst (λ (r : Option (List Json)). IfOk c.add_lines_from_each_kept.result (λ goes. goes ≡ true → c.add_lines_from_each_kept.new.lines.has_fraction ≡ false → Some (written c.add_lines_from_each_kept.new.lines) ≡ after c.args.self.now.line c.args.lines.now r))
-    (kept_all text rest condition items simple ∙ ap (next text rest (tree.filter condition)) (sym seen)) (c.add_lines_from_each_kept.ensures.adds plain)
+    (kept_all text rest condition items simple ∙ ap (next text rest (tree.filter condition)) (sym seen)) c.add_lines_from_each_kept.ensures.adds

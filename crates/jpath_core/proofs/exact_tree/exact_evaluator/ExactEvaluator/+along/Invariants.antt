@@ -1,8 +1,8 @@
-use Rattle.std.proofs.Common.{◌≡◌, true, false, ◌+◌, ◌*◌, drop, length}
+use Rattle.std.proofs.Common.{◌≡◌, false, ◌+◌, ◌*◌, drop, length}
 use Rattle.json.specs.Tree.{ItemsHaveNumbers}
 use Rattle.json.specs.Value.{items_view}
 use Rattle.jsonpath_paths.specs.tree.View.{steps_of_list}
-use Rattle.jpath_core.specs.AlongExactTree.{after, is_plain_line, list_of, rest_from, walk_all}
+use Rattle.jpath_core.specs.AlongExactTree.{after, list_of, rest_from, walk_all}
 use Rattle.jpath_core.proofs.exact_tree.exact_evaluator.ExactEvaluator.+along.Given as goal
 
 abbrev pub decreases-add_lines_from_value : goal.decreases-add_lines_from_value
@@ -29,6 +29,6 @@ invariant-add_lines_from_each_kept-loop-item l =
     let rest = items_view (drop l.item-index l.item-items) in
     let from = rest_from l.self.text.now (steps_of_list l.rest) l.kept in
     (l.lines.has_fraction ≡ false → l.initial.lines.has_fraction ≡ false)
-    × (is_plain_line l.self.line ≡ true → l.lines.has_fraction ≡ false
+    × (l.lines.has_fraction ≡ false
     → after l.self.line l.lines (walk_all from (list_of rest)) ≡ after l.self.line l.initial.lines (walk_all from (list_of (items_view l.item-items))))
     × ItemsHaveNumbers rest

@@ -1,0 +1,50 @@
+//! A value as its members are to be written: each name once, where it occurs first or in the order of the names.
+
+ghost use Rattle.std.specs.Prelude.{◌≡◌, ◌++◌, None, IfOk, IfSome, OnOk, OnErr};
+ghost use Rattle.json.specs.Tree.{HasNumbers, json_tokens};
+ghost use Rattle.json.specs.Value.{value_view};
+ghost use Rattle.jpath_texts.specs.AtDepth.{arranged};
+
+use crate::ordered_tree::in_order::{copy_in_order, is_tree_ordered};
+use crate::output::names_once::{may_repeat_names, with_names_once};
+use json::{Value as Exact, Writer};
+use std::alloc::{AllocError, Global};
+
+// A copy of the value with its members as they are to be written; `None` where they stand so already.
+pub(crate) fn rearranged<'t>(
+    alloc: Global,
+    value: &Exact<'t>,
+    is_sorted: bool,
+) -> Result<Option<Exact<'t>>, AllocError>
+    ensures made { IfOk result (λ copy. IfSome copy (λ made. value_view made ≡ arranged is_sorted (value_view value.now))) }
+    ensures stands { IfOk result (λ copy. copy ≡ None → value_view value.now ≡ arranged is_sorted (value_view value.now)) }
+{
+    if is_sorted {
+        if is_tree_ordered(value) {
+            return Ok(None);
+        }
+        return Ok(Some(copy_in_order(alloc, value)?));
+    }
+    if may_repeat_names(value) {
+        return Ok(Some(with_names_once(alloc, value)?));
+    }
+    Ok(None)
+}
+
+/// Writes a JSON value to `writer`, with each name of an object once and with its last value: where it occurs first or,
+/// if `is_sorted`, in the order of the names' bytes.
+pub fn write_arranged(
+    alloc: Global,
+    value: &Exact<'_>,
+    is_sorted: bool,
+    writer: &mut Writer,
+) -> Result<(), AllocError>
+    requires { HasNumbers (value_view value.now) }
+    ensures ok { OnOk result (writer.new.tokens ≡ writer.old.tokens ++ json_tokens (arranged is_sorted (value_view value.now))) }
+    ensures err { OnErr result (writer.new.tokens ≡ writer.old.tokens) }
+{
+    match rearranged(alloc, value, is_sorted)? {
+        Some(made) => writer.value(&made),
+        None => writer.value(value),
+    }
+}
