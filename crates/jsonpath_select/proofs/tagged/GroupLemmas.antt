@@ -1,5 +1,5 @@
 -- The runs of one tag in a list of pairs, as places of two lists.
-use Rattle.std.proofs.Common.{Option, ◌≡◌, ℕ, suc, ◌+◌, ◌-◌, ◌==◌, ◌<◌, ◌≤◌, Bool, List, [], ◌∷◌, ◌++◌, map, length, replicate, take, drop, get_or, refl, sym, ap, ap₂, ◌∙◌, append_assoc, append-nil, drop_of_length-le, arith, length-append}
+use Rattle.std.proofs.Common.{Option, ◌≡◌, ℕ, suc, ◌+◌, ◌-◌, ◌==◌, ◌<◌, ◌≤◌, Bool, true, false, List, [], ◌∷◌, ◌++◌, map, length, replicate, take, drop, get_or, cond, refl, sym, ap, ap₂, ◌∙◌, append_assoc, append-nil, drop_of_length-le, arith, length-append}
 use Rattle.std.specs.List.{prefix_len}
 use Rattle.std.proofs.lemmas.List.{map-append, drop-map, take-map, drop-drop, length-map, length-replicate}
 use Rattle.jsonpath_nodes.specs.document.Document.{Document}
