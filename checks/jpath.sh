@@ -163,6 +163,8 @@ wants("jpath -S -L '$.b[1]'", 0, "$['b'][1]\t{\"c\":{},\"d\":\"x\"}\n", given=mi
 wants("jpath -C always -S '$.b[1].c'", 0, "{}\n", given=mixed.replace(b',"b":2', b""))
 wants("jpath -S -p --null '$.b'", 0, '{\n  "Z": true,\n  "a": [],\n  "b": null,\n  "é": null\n}\n', given=mixed)
 wants("jpath --tab --remove '$.*'", 0, "{}\n", given=mixed)
+wants("jpath -S --null '$.a' a.json", 2, "", "jpath: *beside -p, --indent or --tab*")
+wants("jpath --help | grep -cF '(@.name == {x})]'", 0, "1\n")
 for words in ["--indent 2 --tab '$'", "-S --null '$.a'", "-S -c '$'", "--tab -l '$'", "--indent 3 -q '$'", "-S --rows '$' -e '$' --csv"]:
     wants(f"jpath {words} a.json", 2, "", "jpath: *")
 for words in ["--indent 0 '$'", "--indent 9 '$'", "--indent x '$'"]:

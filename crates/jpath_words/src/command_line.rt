@@ -18,7 +18,7 @@ const SHELLS: [&str; 3] = ["bash", "zsh", "fish"];
 const EXAMPLES: &str = "Examples:
   jpath '$.store.book[*].title' books.json         each title, a line each
   jpath -r '$[?(@.level == \"error\")].msg' log.json     messages without quotes
-  jpath --arg n \"$NAME\" '$.users[?(@.name == {n})]' users.json
+  jpath --arg x \"$NAME\" '$.users[?(@.name == {x})]' users.json
   jpath --rows '$.store.book[*]' -e '$.title' -e '$.price' --csv books.json
   jpath -i --set '$.rate' 0.5 config.json          changes one value of a file
 

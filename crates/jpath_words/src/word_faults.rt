@@ -34,7 +34,9 @@ pub(crate) fn words_fault(words: &Words<'_>) -> Option<&'static str> {
         );
     }
     if has_edits && flags.sort_keys && !has_lines {
-        return Some("an edit keeps the order of members: -S goes with it beside -p alone");
+        return Some(
+            "an edit keeps the order of members: -S goes with it beside -p, --indent or --tab",
+        );
     }
     if flags.quiet && has_form {
         return Some("-q writes nothing: leave it or the other form of output out");
