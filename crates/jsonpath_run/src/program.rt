@@ -39,7 +39,6 @@ use std::mem::forget;
 /// drop(writer);
 /// assert!(rt; output.as_slice() == "[1]\n".as_bytes());
 /// ```
-#[tactic(auto, using(crate::proofs::RefusalLemmas::none_outside))]
 pub fn run<R: Input, W: Output>(
     alloc: Global,
     words: &[&str],
