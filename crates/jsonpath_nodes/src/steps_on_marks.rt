@@ -192,8 +192,8 @@ pub fn flattened_from_mark<'a, M: Mark<'a>>(alloc: Global, mark: &M) -> Result<V
 }
 
 /// The values that a filter after `..` tests when it is applied to one node, if it has a relative query with at least
-/// one segment, such as `@.a`: the node's descendants that are not arrays, each once, at its first occurrence in the
-/// list that `..*` selects, after each array in that list is replaced by its items, with nested arrays flattened.
+/// one segment, such as `@.a`: what `..*` selects from the node, with each array replaced by its items (nested arrays
+/// flattened), and each value once, where it comes first.
 ///
 /// ```text
 /// let found = steps_on_marks::candidates_below_mark(alloc, &&document)?;
