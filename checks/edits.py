@@ -6,6 +6,8 @@ file) and 'new:'. A copy of the crate with the edit is checked over the librarie
 calls. The others of these have to be proved, so that what is refused is the edited one. `rt ci` proves the crate without
 the edit; where GATE_LOG names its log, an edit is tried once that says so.
 
+Edits of different functions of a crate stand in one copy: who calls a function goes by its clauses, whatever its body.
+
 What is read off a run is first tried on runs that are made up here.
 """
 import concurrent.futures
@@ -40,22 +42,39 @@ class Edit:
                 it.write(text.replace(old, new))
 
 
-def check(edit, uses):
-    """What the prover says of the edited function, and of what it calls."""
-    libraries = above.below(edit.crate, uses)
+def batched(edits):
+    """The edits in batches, each of one crate, and of different functions and goals."""
+    batches = []
+    for edit in edits:
+        for batch in batches:
+            if batch[0].crate == edit.crate and all(it.function != edit.function and it.goal != edit.goal for it in batch):
+                batch.append(edit)
+                break
+        else:
+            batches.append([edit])
+    return batches
+
+
+def check(batch, uses):
+    """What the prover says of the edited functions, and of what they call."""
+    crate = batch[0].crate
+    libraries = above.below(crate, uses)
     with tempfile.TemporaryDirectory() as room:
         for part in ("src", "specs", "proofs"):
-            if os.path.isdir(f"crates/{edit.crate}/{part}"):
-                shutil.copytree(f"crates/{edit.crate}/{part}", f"{room}/{part}")
-        edit.apply(room)
+            if os.path.isdir(f"crates/{crate}/{part}"):
+                shutil.copytree(f"crates/{crate}/{part}", f"{room}/{part}")
+        for edit in batch:
+            edit.apply(room)
         own = [it for it in libraries if it in uses]
-        return above.check(room, edit.crate, libraries, own, ["--only", edit.function])
+        return above.check(room, crate, libraries, own, [it for edit in batch for it in ("--only", edit.function)])
 
 
-def faults(edit, said):
-    """Why a run doesn't say that the edited function alone is refused, at its goal."""
+def faults(edit, said, beside=()):
+    """Why a run doesn't say that the edited function is refused at its goal, and no other but those of the edits beside it."""
     function = f"{edit.crate}::{edit.function}"
     verdicts = dict(re.findall(r"^fn (\S+): (.*)$", said, re.MULTILINE))
+    for other in beside:
+        verdicts.pop(f"{other.crate}::{other.function}", None)
     told = re.findall(r"^(?:note: )?(?:\./)?(\S+?):\d+:\d+: (.*)$", said, re.MULTILINE)
     goals = [f"{file} {goal}" for file, text in told for goal in re.findall(r"\(`([^`]+)`\)|error: `([^`]+)`", text) for goal in goal if goal]
     found = []
@@ -81,25 +100,38 @@ MADE_UP = [
 ]
 
 
+def made_up_edit(crate, function, goal):
+    edit = Edit.__new__(Edit)
+    edit.crate, edit.name, edit.function, edit.goal = crate, "made_up", function, goal
+    return edit
+
+
 def tries():
     """How many of the runs that are made up are told apart rightly, and how many not."""
-    edit = Edit.__new__(Edit)
-    edit.crate, edit.name, edit.function, edit.goal = "a", "made_up", "b::f", "src/b.rt returns"
+    edit, other = made_up_edit("a", "b::f", "src/b.rt returns"), made_up_edit("a", "g", "src/b.rt other")
     wrong = [said for said, passes in MADE_UP if (not faults(edit, said)) != passes]
+    both = REFUSED.replace("g: proved", "g: not proved") + OPEN
+    if faults(edit, both, [other]) or not faults(other, both, [edit]):
+        wrong.append(both)
     for said in wrong:
         print(f"edits: the made-up run {said!r} is not told apart")
-    return len(MADE_UP) - len(wrong), len(wrong)
+    same, same_goal, elsewhere = made_up_edit("a", "b::f", "x"), made_up_edit("a", "h", "src/b.rt other"), made_up_edit("b", "b::f", "y")
+    parts = [[edit, other], [same, same_goal], [elsewhere]]
+    if batched([edit, other, same, same_goal, elsewhere]) != parts:
+        wrong.append("batches")
+        print("edits: the made-up edits are not put in batches rightly")
+    return len(MADE_UP) + 2 - len(wrong), len(wrong)
 
 
-def tried(edit, uses):
-    """Why an edit is not refused as it must be, and what the run said."""
-    if not is_proved(edit.crate):
-        return ["the crate is not proved"], ""
+def tried(batch, uses):
+    """Why each edit of a batch is not refused as it must be, and what the run said."""
+    if not is_proved(batch[0].crate):
+        return [["the crate is not proved"]] * len(batch), ""
     try:
-        said = check(edit, uses)
+        said = check(batch, uses)
     except (OSError, ValueError) as why:
-        return [str(why)], ""
-    return faults(edit, said), said
+        return [[str(why)]] * len(batch), ""
+    return [faults(it, said, [other for other in batch if other is not it]) for it in batch], said
 
 
 def main():
@@ -107,12 +139,15 @@ def main():
     files = above.mutants(sys.argv[1:], of_one_function=True)
     passed, failed = tries()
     made_up = passed
-    edits = [Edit(it) for it in files]
+    batches = batched([Edit(it) for it in files])
     with concurrent.futures.ThreadPoolExecutor(side_by_side()) as pool:
-        for edit, (why, said) in zip(edits, pool.map(lambda it: tried(it, uses), edits)):
-            passed, failed = passed + (not why), failed + bool(why)
-            if why:
-                print(said[-3000:] + "\n" + "\n".join(f"edits: {edit.crate}/{edit.name}: {it}" for it in why))
+        for batch, (whys, said) in zip(batches, pool.map(lambda it: tried(it, uses), batches)):
+            passed, failed = passed + whys.count([]), failed + len(whys) - whys.count([])
+            if any(whys):
+                print(said[-6000:])
+            for edit, why in zip(batch, whys):
+                for it in why:
+                    print(f"edits: {edit.crate}/{edit.name}: {it}")
     if not files:
         print("edits: there are no edits of one function")
         failed += 1
