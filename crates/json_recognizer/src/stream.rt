@@ -217,8 +217,8 @@ fn take_byte(state: &mut State, byte: u8) -> Found
     found_behind(state)
 }
 
-/// Searches the next bytes of a stream, `piece`, for the end of the document that is being read, or for its first wrong
-/// byte; if neither is found, returns `GoesOn`. `state` is the recognizer's state before these bytes; it is updated.
+/// Searches the next bytes of a stream, `piece`, for the end of the document being read, or for its first wrong byte;
+/// `GoesOn` if neither is found. `state`, which is updated, must be that of a document that is not over yet.
 pub fn find_end(state: &mut State, piece: &[u8]) -> Found
     requires depth { state.old.depth ≤ max_depth }
     requires open { is_over state.old ≡ false }

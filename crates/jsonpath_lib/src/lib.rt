@@ -35,7 +35,7 @@
 //! let changed = replace_with(alloc, document, "$..on", on)?;
 //! ```
 //!
-//! A test asserts what an answer has, borrowed from the document:
+//! A test asserts what a path selects; the selected values are borrowed from the document:
 //!
 //! ```text
 //! let cheap = select(alloc, &document, "$..book[?(@.price < 1000)].price")?;

@@ -1,7 +1,7 @@
 //! The steps of a path on `Mark`s: references to values, or `Spot`s.
 //!
-//! A call on a list returns what its step selects from each of its nodes, in their order, with duplicates; some
-//! calls take one node. The only error is `NoMemory`, and then nothing is added.
+//! A call on a list returns what the step selects from each node of the list, in the list's order, with duplicates;
+//! some calls take one node. The only error is `NoMemory`, and then `add_named_member` has appended nothing.
 
 ghost use Rattle.std.specs.Prelude.{[], ◌∷◌, IfOk, OnOk};
 ghost use Rattle.jsonpath_nodes.specs.place.Location.{flat};
@@ -156,9 +156,9 @@ pub fn stride_from_each<'a, M: Mark<'a>>(
     }
 }
 
-/// The non-array values left after flattening the nested arrays of each node, node by node; a value that is found from
-/// two nodes is listed twice. A filter that uses `@` with a segment, such as `[?(@.a)]`, has exactly this list as its
-/// candidates (the values that it tests), provided that no value is in the list twice.
+/// From each node, in order: the node itself if it is no array, else the non-array values left after flattening it; a
+/// value that is found from two nodes is listed twice. A filter that uses `@` with a segment, such as `[?(@.a)]`, has
+/// exactly this list as its candidates (the values that it tests), provided that no value is in the list twice.
 ///
 /// ```text
 /// let found = steps_on_marks::flattened_from_each(alloc, &[&document])?;

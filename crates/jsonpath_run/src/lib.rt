@@ -1,4 +1,4 @@
-//! The program as a function: from its words and the bytes that it reads to the bytes that it writes.
+//! The program as a function: from its arguments and the bytes that it reads to the bytes that it writes.
 #![tactic(auto)]
 
 pub mod faults;

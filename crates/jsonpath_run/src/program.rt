@@ -1,4 +1,4 @@
-//! The program as a function: what its words ask for is done with the bytes read, and the answer is written.
+//! The program as a function: it does with the bytes read what its arguments ask for, and writes the answer.
 ghost use Rattle.std.specs.Prelude.{◌≡◌, ◌⊎◌, ◌↔◌, ◌≢◌, ℕ, List, [], ◌∷◌, ◌++◌, map, length, true, false, string_bytes, codes, Err, Some, IfOk, IfErr, OnOk};
 ghost use Rattle.serde_json.specs.View.{view};
 ghost use Rattle.jsonpath_nodes.specs.document.OfData.{document_of};

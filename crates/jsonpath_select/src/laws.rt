@@ -92,8 +92,8 @@ pub fn dotted_names_select_one_location()
     longest_front();
 }
 
-/// Lemma: for a document and a location, if the path selects in the document this location alone or, where there is no
-/// such location, nothing, then it selects the value at the location alone, or nothing.
+/// Lemma: if a path text selects just one given location in a document, it selects just the value there; if the
+/// document doesn't have this location and the text selects no location, it selects no value.
 ///
 /// ```text
 /// laws::one_location_answers_one_value();

@@ -12,7 +12,7 @@ pub enum Kind {
     Blanks,
 }
 
-/// A position in a stream: its line and its column, both from 1; the column counts bytes.
+/// A position in a stream: line and column, from 1 (but `place_of_refusal` can return column 0), the column in bytes.
 #[derive(Clone, Copy, Debug, Drop, PartialEq, Eq)]
 pub struct LineColumn {
     pub line: usize,

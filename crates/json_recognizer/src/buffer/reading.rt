@@ -33,7 +33,7 @@ impl From<AllocError> for ReadFailure {
 
 impl StreamBuffer {
     /// Reads the stream until its next piece is found, and returns what that is: a document, wrong bytes in place of
-    /// one, or blanks at the stream's end. An error if a read fails or memory runs out.
+    /// one, or blanks at the stream's end. An error if a read fails (all bytes read so far stay) or memory runs out.
     pub fn read_next_piece<R: Input>(&mut self, reader: &mut R) -> Result<Kind, ReadFailure>
         requires { IsReady self.old }
         ensures sound { IsSound self.new }
@@ -56,7 +56,7 @@ impl StreamBuffer {
     }
 
     /// Reads more bytes of the stream into the buffer, or records that the stream has ended. An error if the read fails
-    /// or memory runs out.
+    /// or memory runs out; the buffer's bytes then stay, but out of memory may lose the bytes just read.
     pub fn read_more<R: Input>(&mut self, reader: &mut R) -> Result<(), ReadFailure>
         requires ready { IsReady self.old }
         requires open { self.old.is_whole ≡ false }

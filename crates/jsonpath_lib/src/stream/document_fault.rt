@@ -28,11 +28,11 @@ pub enum FaultKind {
     /// The stream ends inside a document. The error's position is that of the stream's last byte; if this is a line
     /// end, it is column 0 of the next line.
     CutShort,
-    /// `serde_json` rejects the document, for example if a number is too large. The error's position is `serde_json`'s.
+    /// `serde_json` rejects the document, say for too large a number. The position is where, in the whole stream.
     Unread,
     /// A read of the input failed. The error's position is just after the last byte that was read.
     ReadFailed,
-    /// Memory ran out.
+    /// Memory ran out. The position is just after the last byte read or, when a document is parsed, `serde_json`'s.
     OutOfMemory,
     /// The stream has more bytes than 64 bits can count. The position is just after the last returned document.
     TooLong,

@@ -13,9 +13,9 @@ use std::alloc::Global;
 /// Iterator over the JSON documents of a text or stream, separated by line ends or blanks (none needed after a closing
 /// bracket, a quote or a word such as `true`). It reads one at a time, so reading a log takes the memory of one record.
 ///
-/// A number ends before a blank, a bracket or a quote; any other document is returned as soon as its last byte is read.
-/// The first error is the last item of the iterator. A syntax error is at the first byte with which no document can
-/// continue.
+/// A number ends before a blank, `[`, `{` or `"`, or at the stream's end; any other document is returned as soon as its
+/// last byte is read. The first error is the last item of the iterator. A syntax error is at the first byte with which
+/// no document can continue.
 ///
 /// ```text
 /// let log = b"{\"ms\": 7}\n{\"ms\": 900}\n[1][2]";

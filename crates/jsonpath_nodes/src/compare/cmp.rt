@@ -187,9 +187,9 @@ fn is_satisfied_by_order(op: FilterToken, order: Ordering) -> bool
     }
 }
 
-/// Whether `left op right` holds. Each side is an `Atom`, the part of a JSON value of the tree `T` that a comparison
-/// uses. The rules are those of `holds_atoms`, except that numbers have the type `T::Number` and are compared by `T`.
-/// `op` must be one of the six comparisons, so neither `And` nor `Or`.
+/// Whether `left op right` holds. Each side is an `Atom`, the part of a JSON value (here one of type `T`) that a
+/// comparison uses. The rules are those of `holds_atoms`, except that numbers have the type `T::Number` and are
+/// compared by `T::compare_numbers`. `op` must be one of the six comparisons, so neither `And` nor `Or`.
 ///
 /// ```text
 /// let (seven, eight) = (Atom::Number(Decimal::of_u64(7)), Atom::Number(Decimal::of_u64(8)));

@@ -22,9 +22,9 @@ use std::alloc::Global;
 /// A selected node: either `&Value` (no location) or `Spot` (value with location). Evaluation code is generic over
 /// both.
 ///
-/// The same contracts hold for both types. They say that a list of `Mark`s is at a list of locations: both lists have
-/// the same length, and each `Mark` has the value at the location with the same index; a `Spot` has this location, too.
-/// The only error of each call is `NoMemory`.
+/// In contracts, a list of `Mark`s is at a list of locations if both have the same length and each `Mark` has the value
+/// at the location with the same index; a `Spot` has this location, too. The only error of the calls that append is
+/// `NoMemory`; a part may have been appended then.
 ///
 /// ```text
 /// let mut found = Vec::new(alloc);

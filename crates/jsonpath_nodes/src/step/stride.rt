@@ -29,9 +29,9 @@ pub enum Selection<'t> {
     Named(CowStr<'t, Global>),
     /// The members with these names, in an object, in the list's order.
     Listed(Vec<CowStr<'t, Global>>),
-    /// The item of an array at this index; a negative index counts from the end.
+    /// The item of an array at this index; a negative index counts from the end, at most back to the first item.
     Nth(i64),
-    /// The items of an array at these indexes, in the list's order; a negative index counts from the end.
+    /// The items of an array at these indexes, in the list's order; each index selects what `Nth` does.
     Union(&'t [i64]),
     /// A slice of an array: its start, end and step, each of which may be missing.
     Range(Option<i64>, Option<i64>, Option<u64>),

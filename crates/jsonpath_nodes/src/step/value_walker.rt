@@ -96,7 +96,7 @@ impl ValueWalker {
         plain_step_from_each(alloc, spots, &PlainStep::Nth(n))
     }
 
-    /// A list of indexes: from each node that is an array, the items at these indexes, in the list's order.
+    /// From each node that is an array, the items at these indexes, in their order, each as `next_with_num` finds it.
     ///
     /// ```text
     /// let found = ValueWalker::next_with_nums(alloc, items.as_slice(), &[2, 0])?;
@@ -161,8 +161,8 @@ impl ValueWalker {
         plain_step_from_all_below(alloc, spots, &PlainStep::Named(name))
     }
 
-    /// `..[num]`: goes through each node and all its descendants, in preorder, and returns the item at that index of
-    /// each array that has one.
+    /// `..[num]`: goes through each node and all its descendants, in preorder, and returns from each array the item at
+    /// that index, as `next_with_num` finds it.
     ///
     /// ```text
     /// let found = ValueWalker::all_with_num(alloc, &root, 0)?;

@@ -47,7 +47,7 @@ pub enum Expected {
 pub struct ExpectedTokens {
     /// The tokens that a path could go on with, each once, in a fixed order.
     pub tokens: Vec<Expected>,
-    /// Whether the path could have ended where the error is, since the text before the error is itself a path.
+    /// Whether the path could have ended where the error is, that is, whether the text before it is itself a path.
     pub end: bool,
 }
 

@@ -53,7 +53,7 @@ pub trait NodeVisitor {
     /// For proofs: whether this receiver has failed. Once it has, its `tokens` mean nothing.
     ghost has_failed: { Self → Bool };
 
-    /// Receives the next token of a compiled path, or fails, as when memory runs out.
+    /// Receives the next token of a compiled path, or fails, as when memory runs out; `failed` then returns true.
     fn visit_token(&mut self, token: &ParseToken)
         ensures stays_failed { has_failed self.old ≡ true → has_failed self.new ≡ true }
         ensures given { has_failed self.new ≡ false → tokens self.new ≡ tokens self.old ++ token.now ∷ [] };

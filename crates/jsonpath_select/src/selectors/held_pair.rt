@@ -174,7 +174,7 @@ impl<P: AnyPath, V: HeldValue> HeldPair<P, V> {
         path.count(alloc, value.lent())
     }
 
-    /// Whether the path selects any value. Errors: `EmptyPath` (no path), `EmptyValue` (no value), `OutOfMemory`.
+    /// Whether the path selects a value. Errors: `EmptyPath` (no path), `EmptyValue` (a path, no value), `OutOfMemory`.
     ///
     /// ```text
     /// let mut held = SelectorMut::new();

@@ -35,7 +35,7 @@ pub type JsonSelector<'a> = HeldPair<Rc<PathParser<'a>>, &'a Value>;
 pub type JsonSelectorMut<'a> = HeldPair<Rc<PathParser<'a>>, Value>;
 
 impl<'p, V: HeldValue> HeldPair<Rc<PathParser<'p>>, V> {
-    /// Makes a `JsonSelector` or a `JsonSelectorMut` with this path and no value. Error: `OutOfMemory`, which drops it.
+    /// Makes a `JsonSelector` or `JsonSelectorMut` with this path, without a value. `OutOfMemory` drops the path.
     ///
     /// ```text
     /// let held = JsonSelector::new(alloc, compile_path(alloc, "$[0]")?)?;

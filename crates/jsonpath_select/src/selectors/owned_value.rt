@@ -80,7 +80,7 @@ impl<P: AnyPath> HeldPair<P, Value> {
     }
 
     /// The first selected value, in the order in which the path finds them, or `None`. Errors: `EmptyPath` (no path),
-    /// `EmptyValue` (no document), `OutOfMemory`.
+    /// `EmptyValue` (a path, no document), `OutOfMemory`.
     ///
     /// ```text
     /// let mut held = SelectorMut::new();

@@ -77,7 +77,7 @@ impl<P: AnyPath> HeldPair<P, Value> {
 
     /// Calls the closure once for each selected location, as `replace_with` does, but returns no `&mut Self`: `Some`
     /// replaces the value, `None` removes it. Errors, before the closure is called: `EmptyPath` (no path), `EmptyValue`
-    /// (no document), `OutOfMemory`.
+    /// (a path, no document), `OutOfMemory`.
     ///
     /// ```text
     /// let mut held = SelectorMut::new();
