@@ -26,8 +26,8 @@ struct Progress<'r, 'w, W> {
     has_failed: bool,
 }
 
-/// Runs the program `jpath` on all its files: writes the output that the command line asks for, document by document,
-/// flushes it, and returns the exit status.
+/// Writes the output that the command line asks for of all files, and flushes it. Exit status: 4 if a file, a write or
+/// memory failed, else 3 after a document with an error, else 0 if there was a match, else 1; 0 for a closed pipe.
 pub fn run_over_files<'r>(rt: &'r HostRuntime, wanted: &'r Wanted<'_>) -> u8 {
     let is_pipe_closed = Cell::new(false);
     let writer = Checked::new(FaultTellingWriter {

@@ -40,8 +40,8 @@ pub struct Edited {
 /// before it, its name and colon, and the comma after it (or before it, if nothing is left after it). If an object has
 /// the name several times, each of these members is removed. Every other byte of the text stays.
 ///
-/// The edited text is read again before it is returned. Errors: `EditNests` if it nests too deep to be read;
-/// `EditDiffers` if what is read is not the changed document, which would be a fault of this library; or `OutOfMemory`.
+/// The edited text is read again before it is returned. Errors: `EditNests` if it nests too deep to be read, or if the
+/// new value is no JSON; `EditDiffers` if what is read is another document, a library fault; or `OutOfMemory`.
 pub fn edit_text(
     alloc: Global,
     text: &str,

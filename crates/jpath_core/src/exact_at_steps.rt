@@ -9,8 +9,8 @@ ghost use Rattle.jpath_edits.specs.ExactAt.{exact_child, exact_at};
 use json::Value as Exact;
 use jsonpath_nodes::{PathStep, Steps};
 
-/// The value to which these steps lead in an exact tree, which is the tree of a JSON text with each number as it is
-/// written; `None` if there is no such value. The call allocates no memory.
+/// The value to which these steps lead in an exact tree, the tree of a JSON text with each number as it is written;
+/// `None` if there is none. Of a repeated name, the last value counts. The call allocates no memory.
 pub fn exact_value_at_steps<'v, 'a>(
     root: &'v Exact<'a>,
     steps: Steps<'_, '_>,

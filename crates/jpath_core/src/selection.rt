@@ -14,7 +14,7 @@ use serde_json::Value;
 use std::alloc::Global;
 
 /// The nodes that a path selects in a document, in the order in which the path's steps find them, with duplicates. They
-/// are nodes of the document's image, the copy of it on which paths are run.
+/// are nodes of the document's image, the copy of it on which paths are run. The only error is `OutOfMemory`.
 pub fn select_in_document<'v>(
     alloc: Global,
     document: &'v Document<'_>,
@@ -25,8 +25,8 @@ pub fn select_in_document<'v>(
     select_in_image(alloc, &document.image, &document.numbers, query)
 }
 
-/// Returns the nodes that `query` selects, with `image` as the path's `$`. `image` is the copy of a document on which
-/// paths are run, or a value within that copy; `numbers` says how the copy represents the numbers of the document.
+/// The nodes that `query` selects with `image` as `$`, in the order of `select_in_document`. `image` is the copy of a
+/// document, or a value in it; `numbers` says how it represents the document's numbers. The only error: `OutOfMemory`.
 pub fn select_in_image<'v>(
     alloc: Global,
     image: &'v Value,

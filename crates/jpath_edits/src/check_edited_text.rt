@@ -41,10 +41,10 @@ fn document_with_change(
     }
 }
 
-/// Whether the edited text `written`, read again, is the original document with the change made at these locations;
-/// false if it is not UTF-8. `image` is the original document as `serde_json` reads it, `None` if `serde_json` rejects
-/// a number in it. If `serde_json` rejects a number of the original document or of the value that `change` puts in, all
-/// numbers count as equal. The error `EditNests` means that the edited text can't be read because it nests too deep.
+/// Whether the edited text `written`, read again, is the original document with the change made at `places`, which are
+/// in document order, each once; false if it is not UTF-8. `image` is the original document as `serde_json` reads it,
+/// `None` if it rejects a number there. If it rejects a number of the document or of the new value, all numbers count
+/// as equal. Errors: `EditNests` if the edited text or the new value can't be read, or `OutOfMemory`.
 pub fn are_bytes_of_changed_document(
     alloc: Global,
     text: &str,

@@ -19,7 +19,7 @@ fn exact_child<'v, 'a>(value: &'v Exact<'a>, step: &LocStep) -> Option<&'v Exact
 }
 
 /// The value at a location in a document's exact tree, which keeps numbers as they are written; `None` if there is no
-/// such value.
+/// such value. If an object has a name several times, its last value counts.
 pub fn exact_value_at_location<'v, 'a>(
     root: &'v Exact<'a>,
     location: &Location,

@@ -51,9 +51,9 @@ pub struct Grown {
 /// arrays to which it is added; a value of another type stays as it is. To rename, they are the locations of the
 /// members.
 ///
-/// A new member or item has the same blanks before it as the one before it; if that one is alone and has none, one
-/// blank if the document has a blank after its first colon. If the new member or item is the first, it is laid out like
-/// the rest of the document: on an indented line of its own if the document has several lines.
+/// A new member or item has the same blanks before it as the one before it. If that is the only one and has no blanks,
+/// the new one has one blank if the document has a blank after its first colon, else none. If the new one is the first,
+/// it is laid out like the document: on an indented line of its own if the document has several lines.
 ///
 /// Returns `None` if one of the members to be renamed is in an object that has a member of the new name already.
 /// Errors: `EditNests` if the edited text nests too deep to be read; `EditDiffers` if, read again, it is not the

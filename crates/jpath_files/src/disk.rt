@@ -17,8 +17,8 @@ pub enum Call<'a> {
     SetLen(u64),
     SyncFile,
     OpenFolder,
-    /// Removes the file, if any, at the path that is chosen for the new file, beside the edited file; whether it is the
-    /// new file or another one.
+    /// Removes whatever file is at the path chosen for the new file, be it the new file or another one. An error if
+    /// there is none.
     Remove,
     /// Creates the new file beside the edited file and opens it; fails if a file already exists at its path. Its owner
     /// alone may read and write it.

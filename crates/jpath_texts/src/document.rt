@@ -35,8 +35,8 @@ pub struct Document<'a> {
 impl<'a> Document<'a> {
     /// Reads a document from its text; `compared` says whether the filters of the paths to be run on it compare
     /// numbers, and with which number literals. The tree borrows the text and `scratch`, which stores texts with their
-    /// escapes resolved. Errors: `NotADocument` if the text is no JSON document, `HugeExponent` if numbers are compared
-    /// and an exponent has more than 38 digits, or `OutOfMemory`.
+    /// escapes resolved. Errors: `NotADocument` if the text is no JSON document or nests deeper than 127 levels,
+    /// `HugeExponent` if numbers are compared and an exponent doesn't fit in 128 bits, or `OutOfMemory`.
     pub fn read(
         alloc: Global,
         text: &'a str,
@@ -57,7 +57,7 @@ impl<'a> Document<'a> {
 
     /// Makes a document from its exact tree, which was read from this text; `compared` says whether the filters of the
     /// paths to be run on it compare numbers, and with which number literals. Errors: `HugeExponent` if numbers are
-    /// compared and an exponent has more than 38 digits, or `OutOfMemory`.
+    /// compared and an exponent doesn't fit in 128 bits, or `OutOfMemory`.
     pub fn of_exact_tree(
         alloc: Global,
         text: &str,

@@ -11,7 +11,7 @@ use jsonpath_paths::{
 };
 use std::alloc::Global;
 
-/// A path that the program `jpath` has compiled, stored with its token list.
+/// A path that the program `jpath` has compiled, stored with its token list (its syntax tree written as a list).
 #[derive(Drop)]
 pub struct Query<'a> {
     path: PathParser<'a>,

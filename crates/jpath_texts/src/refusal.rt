@@ -7,7 +7,7 @@ use std::alloc::{AllocError, AllocFailed};
 pub enum DocumentRefusal {
     /// The text is no JSON document, or it nests deeper than 127 levels.
     NotADocument,
-    /// A filter compares numbers, and the document has a number whose exponent has more than 38 digits.
+    /// A filter compares numbers, and the document has a number whose exponent doesn't fit in 128 bits.
     HugeExponent,
     /// The edited document would nest too deep to be read again.
     EditNests,

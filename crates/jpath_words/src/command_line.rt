@@ -344,7 +344,7 @@ pub struct Flags {
 #[derive(Drop)]
 pub struct Words<'a> {
     pub flags: Flags,
-    /// The path texts of the options `-e`, in the order of the command line.
+    /// The texts of the options `-e`, in the order of the command line: paths, or with `--rows` also `NAME=PATH`.
     pub paths: Vec<&'a str>,
     pub rows: Option<&'a str>,
     /// The options that set a name to be replaced in paths: first each `--arg`, then each `--argjson`.
@@ -360,13 +360,13 @@ pub struct Words<'a> {
 pub enum ParseOutcome<'a> {
     /// The options and words of the command line, parsed.
     Words(Words<'a>),
-    /// The program has to exit with this status: help or the version was asked for and is printed, or an option was
-    /// wrong and the error is printed.
+    /// The program has to exit with this status: help, the version or completions were asked for and are printed, or
+    /// an option was wrong and the error is printed.
     Ended(u8),
 }
 
-/// Parses the command line, whose first word is the program's name, into options, paths and files. Help, the version,
-/// and errors are printed here; the program then has to exit with the status that is returned.
+/// Parses the command line, whose first word is the program's name, into options and other words. Help, the version,
+/// completions and errors are printed here; the program then has to exit with the status that is returned.
 pub fn parse_words<'a>(
     rt: &(impl Print + Eprint + Alloc<A = Global>),
     words: &'a [String],

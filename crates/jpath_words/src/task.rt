@@ -69,8 +69,8 @@ pub struct Edit<'a> {
 #[derive(Drop)]
 pub struct Wanted<'a> {
     pub task: Task<'a>,
-    /// What the filters of all paths on the command line compare: whether they compare numbers, and with which number
-    /// literals.
+    /// What the filters of all paths compare: whether they compare numbers, and with which number literals. Nothing
+    /// for edits, since each `Edit` has its own.
     pub compared: Compared,
     pub look: Look,
     pub files: Vec<&'a str>,
@@ -97,9 +97,9 @@ impl<'a> Wanted<'a> {
 /// Why `jpath` reads no document after its command line was parsed.
 #[derive(Drop)]
 pub enum Refused {
-    /// The options contradict each other; the sentence says what to write instead.
+    /// Options contradict each other, or an option or the path is missing; the sentence says what to write.
     Words(&'static str),
-    /// A path on the command line has a syntax error, which is printed already.
+    /// A path, the value of an edit, or an `--arg` or `--argjson` is wrong, which is printed already.
     Told,
     /// Memory ran out.
     OutOfMemory,
@@ -130,8 +130,8 @@ impl<T: Drop> From<AllocFailed<T>> for Refused {
 }
 
 /// Everything that the command line of `jpath` asks for: compiled paths, the task, the layout of lines and the files.
-/// Returned as errors: the options contradict each other; a path has a syntax error, which is printed here with its
-/// position; memory ran out; or nothing is to be read, because the option `--check` is set and all paths are right.
+/// Errors: `Words` if options contradict each other, or one or the path is missing; `Told` if a path or an edit's value
+/// is wrong, which is printed here; `Checked` if all is right and `--check` is set; or `OutOfMemory`.
 pub fn wanted_of_words<'a>(
     rt: &(impl Eprint + Alloc<A = Global>),
     words: &Words<'a>,

@@ -1,5 +1,5 @@
-//! Options that contradict each other, or beside which one is missing: a sentence that says what to write. A missing
-//! path is reported in `task.rt`.
+//! Options that contradict each other, or that need another one that is missing: a sentence that says what to write. A
+//! missing path is reported in `task.rt`.
 
 use crate::command_line::Words;
 

@@ -1,6 +1,6 @@
 //! Replays the rows of the files on its command line through `run`, those that select also through `JsonSelector`,
-//! `Selector` (its values and its nodes), `select_tokens` and `select_path_in_any_order`, and prints which of them pass. A file has a row as JSON on
-//! each line.
+//! `Selector` (its values and its nodes), `select_tokens` and `select_path_in_any_order`. Prints each row that fails
+//! and how many pass. A file has a row as JSON on each line.
 #![tactic(auto)]
 
 mod row;

@@ -55,8 +55,8 @@ impl fmt::Display for Outcome {
     }
 }
 
-/// Runs the program `jsonpath_run` on the arguments and the input of a test row, and returns what it wrote and its
-/// status.
+/// Calls the function `run` of `jsonpath_run` with the arguments and the input of a test row, and returns what it wrote
+/// and its status.
 pub fn outcome_of(alloc: Global, row: &Row) -> Result<Outcome, AllocError> {
     let words = row
         .words

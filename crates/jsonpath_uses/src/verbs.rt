@@ -1,5 +1,5 @@
-//! The methods of `AnyPath` at a `PathParser`. Their contracts name the path itself, those of the trait its `spelling`.
-//! For every other compiled path, its spelling is its own text, so the same holds of it.
+//! The methods of `AnyPath` called on a `PathParser`. Where the trait's contracts say `spelling` (a path's text), those
+//! here name the path. The spelling of every other compiled path is its own text, so the same holds of it.
 ghost use Rattle.std.specs.Prelude.{◌≡◌, Ok, map, option_map, string_bytes, vec_len, IfOk, IfErr, OnOk, OnErr};
 ghost use Rattle.serde_json.specs.View.{view};
 ghost use Rattle.jsonpath_nodes.specs.document.OfData.{document_of};
@@ -15,7 +15,7 @@ use serde_json::Value;
 use std::alloc::Global;
 use std::rc::Rc;
 
-/// The values that the path selects in the document, by a compiled path's method `select`.
+/// The values that the path selects, in the order in which it finds them, with duplicates. Error: `OutOfMemory`.
 pub fn select<'v>(
     alloc: Global,
     json: &'v Value,
@@ -27,7 +27,7 @@ pub fn select<'v>(
     path.select(alloc, json)
 }
 
-/// The nodes that the path selects in the document, each a value with its location.
+/// The nodes (values with locations) that the path selects, in its order, with duplicates. Error: `OutOfMemory`.
 pub fn select_spots<'v>(
     alloc: Global,
     json: &'v Value,
@@ -39,7 +39,7 @@ pub fn select_spots<'v>(
     path.select_spots(alloc, json)
 }
 
-/// The locations of what the path selects in the document.
+/// The locations that the path selects, in the order in which it finds them, with duplicates. Error: `OutOfMemory`.
 pub fn select_locations(
     alloc: Global,
     json: &Value,
@@ -51,7 +51,7 @@ pub fn select_locations(
     path.select_locations(alloc, json)
 }
 
-/// The values that the path selects in the document, as the text of a JSON array.
+/// The selected values as the text of a JSON array. Errors: `OutOfMemory`, or `Serde` for a number such as 1.5.
 pub fn select_as_str(
     alloc: Global,
     json: &Value,
@@ -63,7 +63,7 @@ pub fn select_as_str(
     path.select_as_str(alloc, json)
 }
 
-/// The values that the path selects in the document, each deserialized to a `T`.
+/// The selected values, each made a `T`. Errors: `OutOfMemory`, or `Serde` if one can't be or has a number such as 1.5.
 pub fn select_as<T: DeserializeOwned>(
     alloc: Global,
     json: &Value,
@@ -103,7 +103,7 @@ pub fn exists(alloc: Global, json: &Value, path: &PathParser<'_>) -> Result<bool
     path.exists(alloc, json)
 }
 
-/// Puts null in the document at what the path selects.
+/// Puts null at what the path selects below the root. The only error is `OutOfMemory`; `value` is then unchanged.
 pub fn delete_in(
     alloc: Global,
     value: &mut Value,
@@ -116,7 +116,7 @@ pub fn delete_in(
     path.delete_in(alloc, value)
 }
 
-/// Removes from the document what the path selects.
+/// Removes what the path selects below the root. The only error is `OutOfMemory`; `value` is then unchanged.
 pub fn remove_in(
     alloc: Global,
     value: &mut Value,
@@ -129,7 +129,7 @@ pub fn remove_in(
     path.remove_in(alloc, value)
 }
 
-/// Replaces each value of the document that the path selects by a copy of one value.
+/// Replaces what the path selects below the root by copies of `new`. Error: `OutOfMemory`; `value` is then unchanged.
 pub fn set_in(
     alloc: Global,
     value: &mut Value,
@@ -143,7 +143,7 @@ pub fn set_in(
     path.set_in(alloc, value, new)
 }
 
-/// Replaces each value that the path selects in the document by the closure's result for it, or removes it at `None`.
+/// Replaces what the path selects below the root by the closure's results; `None` removes. An error changes nothing.
 pub fn replace_in<F: FnMut(Value) -> Option<Value>>(
     alloc: Global,
     value: &mut Value,
@@ -160,8 +160,8 @@ pub fn replace_in<F: FnMut(Value) -> Option<Value>>(
     path.replace_in(alloc, value, fun)
 }
 
-/// Replaces each value that the path selects in the document by the closure's result for it, or removes it at `None`.
-/// The closure's first error ends the updates; the updates before it remain.
+/// Replaces each value that the path selects below the root by the closure's result, or removes it at `None`. The
+/// closure's first error ends the updates; those before it remain. `OutOfMemory` comes before the closure is called.
 pub fn try_replace_in<E, F: FnMut(&Value) -> Result<Option<Value>, E>>(
     alloc: Global,
     value: &mut Value,

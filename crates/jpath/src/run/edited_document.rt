@@ -43,9 +43,9 @@ impl Kept {
     }
 }
 
-/// Appends to `out` the text of the document after all edits, which are made one after another: in its own layout or,
-/// if `look` has it over lines, laid out anew. Returns a total over the edits: for each, how many locations below the
-/// root its path selects or, if it adds or renames members or items, how many of them. If an edit would replace or
+/// Appends to `out` the text of the document after all edits, made one after another: in its own layout or, if `look`
+/// puts it over several lines, laid out anew, with a line end. Returns the sum, over the edits, of how many locations
+/// below the root the path selects or how many members or items are added or renamed. If an edit would replace or
 /// remove the root, or a new name is in use already, a message on standard error says so.
 pub fn add_edited_document(
     rt: &(impl Eprint + Alloc<A = Global>),

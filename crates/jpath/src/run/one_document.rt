@@ -13,9 +13,9 @@ use json::Value as Exact;
 use std::alloc::Global;
 use std::str;
 
-/// Appends to `out` the output for one document, as the command line asks for it: lines, an array, a table or the
-/// edited text. Returns how many matches the document has. For edits it returns a total: for each, how many locations
-/// below the root its path selects or, if it adds or renames members or items, how many of them. `name` is the file's
+/// Appends to `out` the output for one document, as the command line asks for it: lines, an array, a table, the edited
+/// text, or nothing for `--count` and `--quiet`. Returns how many matches it has; for edits the sum of how many
+/// locations below the root each path selects, or how many members or items are added or renamed. `name` is the file's
 /// name. After an error `out` may end with a part of the output, or have lost all its content.
 pub fn add_output_for_document(
     rt: &(impl Eprint + Alloc<A = Global>),

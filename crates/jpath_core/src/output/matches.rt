@@ -27,7 +27,7 @@ use std::alloc::{AllocError, Global};
 use std::mem;
 
 /// Appends a line to `out` for each value that one path selects in a document, in the order in which the path's steps
-/// find them, and returns the number of lines. After an error `out` may end with a part of these lines.
+/// find them, and returns the number of lines. The only error is `OutOfMemory`; `out` may then end with a part of them.
 pub fn add_lines_for_path(
     alloc: Global,
     document: &Document<'_>,
@@ -45,7 +45,7 @@ pub fn add_lines_for_path(
     Ok(spots.len())
 }
 
-/// The total number of values that several paths select in a document, duplicates included.
+/// How many values several paths select in a document in total, with duplicates. The only error is `OutOfMemory`.
 pub fn count_matches(
     alloc: Global,
     document: &Document<'_>,
@@ -70,8 +70,8 @@ pub(crate) fn count_matches_of_path(
     Ok(select_in_document(alloc, document, query)?.len())
 }
 
-/// Appends to `out` one JSON array of all values that the paths select in a document, those of the first path first,
-/// and a line end. Returns how many values there are. After an error `out` may end with a part of the array.
+/// Appends to `out` one JSON array of the values that the paths select, path by path, with all that `line` puts before
+/// and after it. Returns how many values there are. The only error is `OutOfMemory`; `out` may then end with a part.
 pub fn add_array(
     alloc: Global,
     document: &Document<'_>,

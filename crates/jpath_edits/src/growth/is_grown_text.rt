@@ -1,4 +1,4 @@
-//! Whether a text, read, is a document with something made in it.
+//! Whether a text, read again, is a document with something added to it or renamed in it.
 
 ghost use Rattle.std.specs.Prelude.{◌≡◌, map, IfOk, IsTrue, Some};
 ghost use Rattle.json.specs.Value.{value_view};

@@ -1,4 +1,4 @@
-//! What was made in a tree, taken back.
+//! Undoes, in the tree of an edited text, what the edit added or renamed.
 
 ghost use Rattle.std.specs.Prelude.{◌≡◌, ◌<◌, ◌∷◌, false, length, string_bytes, IfOk, IsTrue, MatchOption};
 ghost use Rattle.std.specs.List.{list_any};

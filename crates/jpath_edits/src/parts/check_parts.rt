@@ -1,4 +1,4 @@
-//! Whether the replaced parts are what is at the targets.
+//! Whether the parts of the text that an edit replaces are what is at the locations that it changes.
 
 ghost use Rattle.std.specs.Prelude.{map, IfOk, IsTrue};
 ghost use Rattle.json.specs.Value.{value_view};

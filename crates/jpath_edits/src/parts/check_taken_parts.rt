@@ -1,4 +1,4 @@
-//! Whether the parts to be removed are the members and items at the targets.
+//! Whether the parts to be removed are the members and items at the locations that the edit changes.
 
 ghost use Rattle.std.specs.Prelude.{[], ◌∷◌, map, IfOk, IfSome, IsTrue};
 ghost use Rattle.json.specs.Value.{value_view, members_view};

@@ -89,9 +89,9 @@ impl Numbers {
         }
     }
 
-    /// The token list of a path, in which each number that a filter compares is changed in the way in which `self`
-    /// changes a document's numbers: `Scaled` multiplies each by the power of ten that it stores, `Ranked` replaces
-    /// each by the index of its `NumberKey` in the list that it stores, the other variants keep them.
+    /// The token list of a path (its syntax tree as a list), with each number that a filter compares changed as `self`
+    /// changes a document's numbers: `Scaled` multiplies it by its power of ten, `Ranked` puts the index of its
+    /// `NumberKey` in the list, the other variants keep it. The only error is `OutOfMemory`.
     pub fn tokens_with_literals_placed(
         &self,
         alloc: Global,

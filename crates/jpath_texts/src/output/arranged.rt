@@ -31,8 +31,8 @@ pub(crate) fn rearranged<'t>(
     Ok(None)
 }
 
-/// Writes a JSON value to `writer`, with each name of an object once and with its last value: where it occurs first or,
-/// if `is_sorted`, in the order of the names' bytes.
+/// Writes a JSON value to `writer`, each name of an object once, with its last value: where it occurs first or, if
+/// `is_sorted`, in the order of the names' bytes. After an error nothing of the value is written.
 pub fn write_arranged(
     alloc: Global,
     value: &Exact<'_>,

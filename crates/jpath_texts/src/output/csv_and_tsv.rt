@@ -10,7 +10,7 @@ use std::mem;
 /// How the fields of a row of a table are separated: CSV or TSV.
 #[derive(Clone, Copy, Debug, Drop)]
 pub enum Separated {
-    /// CSV: fields are separated by commas; a field with a comma, a quote or a line end is quoted.
+    /// CSV: fields are separated by commas; a field with a comma, a quote, a line end or a carriage return is quoted.
     ByCommas,
     /// TSV: fields are separated by tabs; in a field, a tab, a line end, a carriage return and a backslash are written
     /// `\t`, `\n`, `\r` and `\\`.

@@ -12,7 +12,7 @@ use std::alloc::AllocError;
 pub enum Shown {
     /// Prints the selected value.
     Values,
-    /// Prints the location of the selected value.
+    /// Prints the location of the selected value, as a normalized path such as `$['a'][0]`.
     Places,
     /// Prints the location of the selected value, a tab and the value.
     PlacesAndValues,
@@ -42,7 +42,7 @@ pub struct Line<'n> {
     pub name: Option<&'n str>,
     /// Whether the byte 30 (RS) comes first, as before each text of a JSON text sequence.
     pub is_record: bool,
-    /// What follows.
+    /// What is printed after the line.
     pub end: LineEnd,
 }
 
@@ -68,7 +68,7 @@ pub fn add_line_end(out: &mut Vec<u8>, end: LineEnd) -> Result<(), AllocError>
     Ok(())
 }
 
-/// Appends a file's name and a colon to `out`, or nothing if `name` is `None`.
+/// Appends a file's name and a colon to `out`, or nothing if `name` is `None`. An error may leave the name alone.
 pub fn add_file_name(out: &mut Vec<u8>, name: Option<&str>) -> Result<(), AllocError>
     ensures { OnOk result (out.new.items ≡ out.old.items ++ named name.entry) }
 {

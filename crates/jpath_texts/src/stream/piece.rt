@@ -5,7 +5,7 @@ use json_recognizer::{Kind, LineColumn};
 /// The next piece of a stream of documents: a document, wrong bytes in place of one, or blanks at the stream's end.
 #[derive(Clone, Copy, Debug, Drop)]
 pub struct Piece<'p> {
-    /// All bytes of the piece, including the blanks before the document or before the wrong bytes.
+    /// All bytes of the piece, with the blanks before it. A malformed document ends with its first wrong byte, if any.
     pub bytes: &'p [u8],
     /// The line and column in the stream at which the bytes of the piece begin.
     pub place: LineColumn,

@@ -12,7 +12,7 @@ use std::alloc::Global;
 /// What a visitor of documents reports after each document: how many matches the document has, and whether to stop.
 #[derive(Clone, Copy, Debug, Drop)]
 pub struct Taken {
-    /// How many matches (by default, selected values) the visited document has.
+    /// How many matches the visited document has, as the visitor counts them, such as selected values.
     pub count: usize,
     /// Whether the visits should stop, since the visitor needs no more documents of the stream.
     pub is_enough: bool,
@@ -73,11 +73,11 @@ pub struct Ended<S> {
     pub how: How<S>,
 }
 
-/// Calls the visitor for each document of a stream, in order, as soon as the document's bytes are read. Returns how
-/// many matches the documents have together, and why the visits ended: the stream ended, a read failed, or the visitor
-/// wanted no more documents or returned an error. A malformed document is visited, too, as soon as the first byte is
-/// read with which no document can continue; the next document is then looked for after the line on which the malformed
-/// one begins. A byte order mark at the beginning is skipped.
+/// Calls the visitor for each document of a stream, in order, as soon as its bytes are read, and at the stream's end
+/// for the blanks there, even if there are none. Returns how many matches the documents have together, and why the
+/// visits ended. A malformed document is visited, too, as soon as the first byte is read with which no document can
+/// continue; the next document is then looked for after the line on which the malformed one begins. A byte order mark
+/// at the beginning is skipped.
 pub fn visit_documents<R: Input, V: Visitor>(
     alloc: Global,
     reader: &mut R,

@@ -1,4 +1,4 @@
-//! An argument of the command line: the word of a path for which it is put, and what is put.
+//! The argument of an `--arg` or `--argjson`: the placeholder in paths, and the text or number that replaces it.
 
 ghost use Rattle.std.specs.Prelude.{◌≡◌, All, Contains, IfOk, IfSome, None, string_bytes};
 ghost use Rattle.jpath_words.specs.Arguments.{IsArgumentOf, Pairwise};

@@ -56,7 +56,7 @@ pub fn fill_paths<'a>(
     })
 }
 
-/// The command line with its path texts replaced by those of `filled`, and without its options `--arg` and `--argjson`.
+/// `words` with the paths of `filled`, without `--arg` and `--argjson`. Errors: no path is there, or out of memory.
 pub fn words_with_paths<'a>(
     alloc: Global,
     words: &Words<'a>,
