@@ -3,12 +3,13 @@
 Each names a public call, the file with its contract, and the goal at which the prover has to refuse the body. The call's
 head and clauses are taken from that file as they stand there, and the body is put under them in a crate above the
 libraries. Beside those of a call, under the same clauses, stands a body that only makes the call: it has to be proved, so
-that what is refused is the wrong body and not the clauses in their new place. All bodies of a crate are checked in one run.
+that what is refused is the wrong body and not the clauses in their new place. The bodies of the crates `jsonpath_..` are checked
+in one run, those of `jpath_..` in another, in which a search has half its counts: most of the time goes to what is refused.
 
 A call that has its clauses by a trait has no such lines: there the file of the body says the head and the clause, and the
 body beside it shows that the call meets them.
 
-Where GATE_LOG names the log of an `rt ci` that goes on, a crate's bodies are tried once the log says that it is proved.
+Where GATE_LOG names the log of an `rt ci` that goes on, bodies are tried once the log says that their crates are proved.
 
 What is read off a run is first tried on runs that are made up here.
 """
@@ -72,7 +73,8 @@ class Body:
 
     def __init__(self, file):
         self.crate, self.name = file.split("/")[1], os.path.basename(file)[:-3]
-        self.right = self.name
+        self.module_name = f"{self.crate}_{self.name}"
+        self.right = self.module_name
         text = text_of(file)
         self.said = dict(re.findall(r"^(file|call|goal|head|clause): (.+)$", text, re.MULTILINE))
         self.lines = re.findall(r"^    (.*)$", text, re.MULTILINE)
@@ -173,24 +175,25 @@ def given_out(libraries):
     return [*found, *OTHERS.items()]
 
 
-def check(crate, bodies, uses):
+def check(bodies, uses):
     """What the prover says of a crate with these bodies and, beside each, its call alone."""
-    libraries = [crate, *below(crate, uses)]
-    own = [it for it in libraries if it in uses]
-    given = given_out(own)
+    crates = {it.crate for it in bodies}
+    libraries = below("bodies", {**uses, "bodies": [it for it in reversed(uses) if it in crates]})
     with tempfile.TemporaryDirectory() as room:
         os.makedirs(f"{room}/src")
         names, calls = [], {}
         for body in bodies:
-            body.right = calls.setdefault((body.said["file"], body.call(body.head()), body.head()), body.name)
+            given = given_out([it for it in [body.crate, *below(body.crate, uses)] if it in uses])
+            call = body.crate, body.said["file"], body.call(body.head()), body.head()
+            body.right = calls.setdefault(call, body.module_name)
             for kind, lines in (("wrong", body.lines), ("right", [body.call(body.head())])):
-                if kind == "wrong" or body.right == body.name:
-                    names.append(f"{body.name}_{kind}")
+                if kind == "wrong" or body.right == body.module_name:
+                    names.append(f"{body.module_name}_{kind}")
                     with open(f"{room}/src/{names[-1]}.rt", "w", encoding="utf-8") as it:
                         it.write(body.module(lines, given))
         with open(f"{room}/src/lib.rt", "w", encoding="utf-8") as it:
             it.write("\n".join(["//! Wrong bodies.", "#![tactic(auto)]", "", *[f"pub mod {it};" for it in names], ""]))
-        return above.check(room, "bodies", libraries, own)
+        return above.check(room, "bodies", libraries, [it for it in libraries if it in uses], ["--margin"])
 
 
 def faults(body, said):
@@ -198,10 +201,10 @@ def faults(body, said):
     found = []
     if not re.search(rf"^fn bodies::{body.right}_right::{body.function}: proved$", said, re.MULTILINE):
         found.append("the call alone is not proved under its clauses")
-    verdict = re.search(rf"^fn bodies::{body.name}_wrong::{body.function}: (.*)$", said, re.MULTILINE)
+    verdict = re.search(rf"^fn bodies::{body.module_name}_wrong::{body.function}: (.*)$", said, re.MULTILINE)
     if not verdict or verdict[1] == "proved":
         found.append("the wrong body is " + ("proved" if verdict else "not reached"))
-    goals = re.findall(rf"^(?:note: |error: )?(?:\./)?src/{body.name}_wrong\.rt:\d+:\d+: .*?\(`([^`]+)`\)", said, re.MULTILINE)
+    goals = re.findall(rf"^(?:note: |error: )?(?:\./)?src/{body.module_name}_wrong\.rt:\d+:\d+: .*?\(`([^`]+)`\)", said, re.MULTILINE)
     if verdict and body.said["goal"] not in goals:
         found.append(f"its file names the goal {body.said['goal']}, and the prover {', '.join(goals) or 'none'}")
     return found
@@ -233,7 +236,7 @@ LOGS = [
 def tries():
     """How many of the runs that are made up are told apart rightly, and how many not."""
     body = Body.__new__(Body)
-    body.crate, body.name, body.right, body.function, body.said = "made_up", "a", "a", "f", {"goal": "returns"}
+    body.module_name, body.right, body.function, body.said = "a", "a", "f", {"goal": "returns"}
     outcomes = []
     for *lines, passes in MADE_UP:
         outcomes.append((not faults(body, "\n".join(lines))) == passes)
@@ -265,9 +268,10 @@ def is_proved(crate):
     return True
 
 
-def tried(crate, bodies, uses):
-    """What the prover says of a crate's bodies, once the crate is proved."""
-    return check(crate, bodies, uses) if is_proved(crate) else f"{crate} is not proved"
+def tried(bodies, uses):
+    """What the prover says of these bodies, once their crates are proved."""
+    lacking = [it for it in {it.crate for it in bodies} if not is_proved(it)]
+    return check(bodies, uses) if not lacking else f"{lacking[0]} is not proved"
 
 
 def side_by_side():
@@ -295,25 +299,25 @@ def main():
     uses = listed()
     files = above.mutants(sys.argv[1:], of_one_function=False)
     bodies, unread = readable(files)
-    crates = [it for it in uses if any(it == body.crate for body in bodies)]
+    groups = [[it for it in bodies if it.crate.startswith("jpath") == of_jpath] for of_jpath in (False, True)]
     passed, failed = tries()
     made_up = passed
     if unread:
         print("\n".join(unread))
         failed += len(unread)
     with concurrent.futures.ThreadPoolExecutor(side_by_side()) as pool:
-        runs = [(name, pool.submit(tried, name, [it for it in bodies if it.crate == name], uses)) for name in crates]
-        for name, run in runs:
+        runs = [(group, pool.submit(tried, group, uses)) for group in groups if group]
+        for group, run in runs:
             said, told = run.result(), []
-            for body in (it for it in bodies if it.crate == name):
+            for body in group:
                 why = faults(body, said)
-                told += [f"bodies: {name}/{body.name}: {it}" for it in why]
+                told += [f"bodies: {body.crate}/{body.name}: {it}" for it in why]
                 passed, failed = passed + (not why), failed + bool(why)
             if told:
                 print(said[-6000:])
             elif os.environ.get("BODIES_SAID"):
                 print(said)
-            print("\n".join(told + [f"bodies: {name}: {sum(it.crate == name for it in bodies)} tried"]))
+            print("\n".join([*told, f"bodies: {len(group)} tried"]))
     if not files:
         print("bodies: there are no wrong bodies")
         failed += 1

@@ -1,8 +1,8 @@
 #!/usr/bin/env bash
 # Each wrong body of crates/NAME/must-fail/*.md without a line 'function:', put under the clauses of the public call that it
 # names, is refused at the goal that its file names, and the call by itself is proved under them. What it does in full is said
-# in `bodies.py`. Words behind it pick the files whose paths have them. Beside `rt ci`, whose log GATE_LOG names, it tries the
-# bodies of a crate once that crate is proved; else it takes the libraries as they are built, or builds them, which takes long.
+# in `bodies.py`. Words behind it pick the files whose paths have them. Beside `rt ci`, whose log GATE_LOG names, it tries
+# bodies once their crates are proved; else it takes the libraries as they are built, or builds them, which takes long.
 # Last line: 'N passed, M failed'.
 set -u
 cd "$(dirname "${BASH_SOURCE[0]}")/.." || exit 1

@@ -405,18 +405,9 @@ fn described_options(alloc: Global) -> Result<Vec<Described>, AllocError> {
         IN_PLACE.as_slice(),
         OF_CLAP.as_slice(),
     ] {
-        for (letter, name, help) in flags {
-            options.push(Described {
-                letter: *letter,
-                name: *name,
-                values: &[],
-                choices: &[],
-                help: *help,
-            })?;
-        }
+        add_described_flags(flags, &mut options)?;
     }
-    for one in [INDENT, COLOR, PATHS, ROWS, COMPLETIONS] {
-        let (letter, name, _, choices, help) = one;
+    for (letter, name, _, choices, help) in [INDENT, COLOR, PATHS, ROWS, COMPLETIONS] {
         options.push(Described {
             letter,
             name,
@@ -426,23 +417,47 @@ fn described_options(alloc: Global) -> Result<Vec<Described>, AllocError> {
         })?;
     }
     for many in [ARGUMENTS.as_slice(), EDITS.as_slice()] {
-        for (name, values, help) in many {
-            options.push(Described {
-                letter: None,
-                name: *name,
-                values: *values,
-                choices: &[],
-                help: *help,
-            })?;
-        }
+        add_described_value_options(many, &mut options)?;
     }
     Ok(options)
+}
+
+// Adds these flags, as completions need them.
+fn add_described_flags(flags: &[Flag], options: &mut Vec<Described>) -> Result<(), AllocError> {
+    for (letter, name, help) in flags {
+        options.push(Described {
+            letter: *letter,
+            name: *name,
+            values: &[],
+            choices: &[],
+            help: *help,
+        })?;
+    }
+    Ok(())
+}
+
+// Adds these options with values, as completions need them.
+fn add_described_value_options(
+    many: &[ValueOption],
+    options: &mut Vec<Described>,
+) -> Result<(), AllocError> {
+    for (name, values, help) in many {
+        options.push(Described {
+            letter: None,
+            name: *name,
+            values: *values,
+            choices: &[],
+            help: *help,
+        })?;
+    }
+    Ok(())
 }
 
 // `jpath` as `clap` is told of it: its name, version, purpose and options.
 fn clap_command<'a>(alloc: Global) -> Result<Command<'a>, AllocError> {
     let arguments = clap_arguments(alloc)?;
     Command::new(alloc, "jpath")
+        .bin_name("jpath")?
         .version("0.1.0")
         .about("Selects values of JSON documents by JSONPath: jpath [OPTIONS] PATH [FILE..]")
         .after_help(EXAMPLES)
@@ -480,10 +495,8 @@ fn add_flags<'a>(
     arguments: &mut Vec<Arg<'a>>,
 ) -> Result<(), AllocError> {
     for (letter, name, help) in flags {
-        add_argument(
-            as_flag(named_option(alloc, *name, *help), *letter),
-            arguments,
-        )?;
+        let flag = named_option(alloc, *name, *help).action(ArgAction::SetTrue);
+        add_argument(with_letter(flag, *letter), arguments)?;
     }
     Ok(())
 }
@@ -508,9 +521,8 @@ fn named_option<'a>(alloc: Global, name: &'a str, help: &'a str) -> Arg<'a> {
     Arg::new(alloc, name).long(name).help(help)
 }
 
-// Makes an option a flag: nothing stands behind it, and it has its letter, where there is one.
-fn as_flag<'a>(argument: Arg<'a>, letter: Option<char>) -> Arg<'a> {
-    let argument = argument.action(ArgAction::SetTrue);
+// Gives an option its letter, where it has one.
+fn with_letter<'a>(argument: Arg<'a>, letter: Option<char>) -> Arg<'a> {
     match letter {
         Some(letter) => argument.short(letter),
         None => argument,
@@ -539,14 +551,11 @@ fn path_option<'a>(alloc: Global) -> Arg<'a> {
 // The option with one value that is described so; another value is refused where it may be one of a few.
 fn one_value_option<'a>(alloc: Global, described: OneValue) -> Arg<'a> {
     let (letter, name, value, choices, help) = described;
-    let mut argument = named_option(alloc, name, help).value_name(value);
-    if let Some(letter) = letter {
-        argument = argument.short(letter);
+    let argument = with_letter(named_option(alloc, name, help).value_name(value), letter);
+    match choices {
+        [] => argument,
+        _ => argument.value_parser(choices),
     }
-    if !choices.is_empty() {
-        argument = argument.value_parser(choices);
-    }
-    argument
 }
 
 // The words that belong to no option: the path, where no option gives one, and the files.

@@ -154,8 +154,8 @@ pub fn wanted_of_words<'a>(
         return Err(Refused::Words(sentence));
     }
     let flags = words.flags;
-    let (paths, files) = paths_and_files(alloc, words)?;
-    let task = read_task(rt, words, paths.as_slice())?;
+    let (paths, files) = paths_and_files(words)?;
+    let task = read_task(rt, words, paths)?;
     if flags.check {
         return Err(Refused::Checked);
     }
@@ -168,7 +168,7 @@ fn wanted_with_task<'a>(
     alloc: Global,
     flags: &Flags,
     task: Task<'a>,
-    files: Vec<&'a str>,
+    files: &[&'a str],
     is_colored: bool,
 ) -> Result<Wanted<'a>, Refused>
     ensures look { IfOk result (λ wanted. wanted.look ≡ look_by flags.now is_colored) }
@@ -177,12 +177,13 @@ fn wanted_with_task<'a>(
     ensures ends { IfOk result (λ wanted. wanted.line_end ≡ end_by flags.now) }
     ensures goes_on { IfOk result (λ wanted. wanted.keeps_going ≡ flags.now.keep_going) }
     ensures in_place { IfOk result (λ wanted. wanted.is_in_place ≡ flags.now.in_place) }
-    ensures files { IfOk result (λ wanted. wanted.files.items ≡ files.entry.items) }
+    ensures files { IfOk result (λ wanted. wanted.files.items ≡ files.now) }
     ensures task { IfOk result (λ wanted. wanted.task ≡ task.entry) }
     ensures compared { IfOk result (λ wanted. All (Covers wanted.compared) (queries_of wanted.task)) }
     ensures copied { IfOk result (λ wanted. wanted.is_copied ≡ flags.now.copy) }
 {
     let compared = compared_by_task(alloc, &task)?;
+    let files = Vec::from_slice(alloc, files)?;
     Ok(Wanted {
         task,
         compared,
@@ -251,26 +252,22 @@ pub fn wants_color(flags: &Flags, is_terminal: bool, has_no_color: bool) -> bool
 
 // The path texts and the files among the words. Without -e and edits the first word that belongs to no option is the
 // path; refused where there is none.
-pub(crate) fn paths_and_files<'a>(
-    alloc: Global,
-    words: &Words<'a>,
-) -> Result<(Vec<&'a str>, Vec<&'a str>), Refused>
-    ensures paths { IfOk result (λ found. found.0.items ≡ paths_of words.now) }
-    ensures files { IfOk result (λ found. found.1.items ≡ files_of words.now) }
+pub(crate) fn paths_and_files<'w, 'a>(
+    words: &'w Words<'a>,
+) -> Result<(&'w [&'a str], &'w [&'a str]), Refused>
+    ensures paths { IfOk result (λ found. found.0.now ≡ paths_of words.now) }
+    ensures files { IfOk result (λ found. found.1.now ≡ files_of words.now) }
 {
+    let rest = words.rest.as_slice();
     if !words.paths.is_empty() || !words.edits.is_empty() {
-        let paths = Vec::from_slice(alloc, words.paths.as_slice())?;
-        return Ok((paths, Vec::from_slice(alloc, words.rest.as_slice())?));
+        return Ok((words.paths.as_slice(), rest));
     }
-    match words.rest.as_slice().split_first() {
-        Some((path, files)) => {
-            let paths = Vec::from_array(alloc, [*path])?;
-            Ok((paths, Vec::from_slice(alloc, files)?))
-        }
-        None => Err(Refused::Words(
+    if rest.is_empty() {
+        return Err(Refused::Words(
             "there is no path: write jpath PATH [FILE..], as in jpath '$.name' file.json",
-        )),
+        ));
     }
+    Ok(rest.split_at(1))
 }
 
 // What the words ask to be written for each document: its edited text, a table, or something of its matches. A path

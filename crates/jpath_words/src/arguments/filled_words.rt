@@ -46,11 +46,11 @@ pub fn fill_paths<'a>(
     let alloc = rt.alloc();
     let arguments = read_arguments(rt, words.arguments.as_slice())?;
     let arguments = arguments.as_slice();
-    let (paths, _) = paths_and_files(alloc, words)?;
+    let (paths, _) = paths_and_files(words)?;
     let rows = rows_path(alloc, words)?;
-    refuse_unused_argument(rt, words, paths.as_slice(), arguments)?;
+    refuse_unused_argument(rt, words, paths, arguments)?;
     Ok(FilledPaths {
-        paths: filled_texts(alloc, paths.as_slice(), arguments)?,
+        paths: filled_texts(alloc, paths, arguments)?,
         rows: filled_texts(alloc, rows.as_slice(), arguments)?,
         edits: filled_edits(alloc, words.edits.as_slice(), arguments)?,
     })
@@ -67,14 +67,14 @@ pub fn words_with_paths<'a>(
     ensures edits { IfOk result (λ made. map path_of made.edits.items ≡ map (λ f. string_bytes f.path) filled.now.edits.items) }
     ensures files { IfOk result (λ made. made.rest.items ≡ files_of words.now) }
 {
-    let (_, files) = paths_and_files(alloc, words)?;
+    let (_, files) = paths_and_files(words)?;
     Ok(Words {
         flags: words.flags,
         paths: texts_of_strings(alloc, filled.paths.as_slice())?,
         rows: filled.rows.as_slice().first().map(|path| path.as_str()),
         arguments: Vec::new(alloc),
         edits: edits_with_paths(alloc, filled.edits.as_slice())?,
-        rest: files,
+        rest: Vec::from_slice(alloc, files)?,
     })
 }
 
