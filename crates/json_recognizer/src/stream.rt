@@ -1,6 +1,7 @@
 //! Where a document of a stream ends, or its first wrong byte.
-ghost use Rattle.std.specs.Prelude.{◌≡◌, ◌<◌, ◌≤◌, ◌&&◌, ◌∷◌, ◌++◌, length, get_or, true, false, cond, Bool, List, ℕ, IfSome};
-ghost use Rattle.json_recognizer.specs.Classes.{class_of, is_plain, is_digit};
+ghost use Rattle.std.specs.Prelude.{◌≡◌, ◌<◌, ◌≤◌, ◌&&◌, ◌∷◌, ◌++◌, length, get_or, map, true, false, cond, Bool, List, ℕ, IfSome};
+ghost use Rattle.std.specs.Simd.Lanes.{mask_l};
+ghost use Rattle.json_recognizer.specs.Classes.{class_of, is_plain, is_digit, is_stop};
 ghost use Rattle.json_recognizer.specs.Grammar.{max_depth};
 ghost use Rattle.json_recognizer.specs.Machine.{is_final, step, goes};
 ghost use Rattle.json_recognizer.specs.State.{frames};
@@ -10,6 +11,7 @@ ghost use Rattle.json_recognizer.specs.declared.class.Class.TheVariants.{Space};
 use crate::class::{Class, class_of};
 use crate::machine::{Mode, NumberPart, TextPart};
 use crate::state::{self, State, start};
+use std::simd::prelude::*;
 
 /// The result of searching the next bytes of a stream for the end of the document that is being read.
 #[derive(Clone, Copy, Debug, Drop)]
@@ -23,34 +25,33 @@ pub enum Found {
     Refused(usize),
 }
 
-// Whether the byte stands for itself in a text.
+// Which of the bytes don't plainly stand for themselves in a text: a bit for each.
 #[inline(always)]
-fn is_char(byte: u8) -> bool
-    ensures { result ≡ true → is_plain (class_of byte) ≡ true }
+fn stops(bytes: u8x16) -> u64
+    ensures { result ≡ mask_l (map is_stop bytes) }
 {
-    if byte < 32 {
-        return false;
-    }
-    if byte >= 128 {
-        return false;
-    }
-    if byte == 34 {
-        return false;
-    }
-    byte != 92
+    (bytes.simd_eq(u8x16::splat(b'"'))
+        | bytes.simd_eq(u8x16::splat(b'\\'))
+        | bytes.simd_lt(u8x16::splat(32))
+        | bytes.simd_ge(u8x16::splat(128))).to_bitmask()
 }
 
-// How many bytes at the front stand for themselves in a text.
+// How many bytes at the front stand for themselves in a text. They are looked at sixteen at a time; the last few, where
+// there aren't so many, are not counted.
+#[inline(always)]
 fn count_chars(bytes: &[u8]) -> usize
     ensures within { result ≤ length bytes.now }
     ensures chars { (k : ℕ) → k < result → is_plain (class_of (get_or bytes.now k 0)) ≡ true }
 {
-    for (index, byte) in bytes.iter().enumerate() {
-        if !is_char(*byte) {
-            return index;
+    let mut at = 0;
+    while bytes.len() - at >= 16 {
+        let found = stops(u8x16::from_slice(&bytes[at..]));
+        if found != 0 {
+            return at + found.trailing_zeros() as usize;
         }
+        at += 16;
     }
-    bytes.len()
+    at
 }
 
 #[inline(always)]
