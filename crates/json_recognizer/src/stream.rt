@@ -179,10 +179,11 @@ fn mode_after_comma(top: Top) -> Option<Mode>
 // whatever is open around the innermost array or object.
 #[inline(always)]
 #[tactic(auto, using(crate::proofs::Streams::behind_comma))]
-fn plain_move(mode: Mode, top: Top, byte: u8) -> Option<Mode>
-    ensures { IfSome result (λ next. (st : List Bool) (r : ℕ) → top_of st ≡ top → (step mode st r (class_of byte) ≡ goes next st r) × ((is_final mode st && ends_number (class_of byte)) ≡ false)) }
+fn plain_move(state: &State, byte: u8) -> Option<Mode>
+    requires { state.now.depth ≤ max_depth }
+    ensures { IfSome result (λ next. (st : List Bool) (r : ℕ) → top_of st ≡ top_of (frames state.now.depth state.now.kinds) → (step state.now.mode st r (class_of byte) ≡ goes next st r) × ((is_final state.now.mode st && ends_number (class_of byte)) ≡ false)) }
 {
-    match (mode, byte) {
+    match (state.mode, byte) {
         (Mode::InText(TextPart::InChars, false), b'"') => Some(Mode::Behind),
         (Mode::InText(TextPart::InChars, true), b'"') => Some(Mode::AfterName),
         (Mode::AfterName, b':') => Some(Mode::Value),
@@ -194,9 +195,9 @@ fn plain_move(mode: Mode, top: Top, byte: u8) -> Option<Mode>
         }
         (Mode::Name, b'"') => Some(Mode::InText(TextPart::InChars, true)),
         (Mode::FirstName, b'"') => Some(Mode::InText(TextPart::InChars, true)),
-        (Mode::Behind, b',') => mode_after_comma(top),
-        (Mode::InNumber(NumberPart::InWhole), b',') => mode_after_comma(top),
-        (Mode::InNumber(NumberPart::InFraction), b',') => mode_after_comma(top),
+        (Mode::Behind, b',') => mode_after_comma(top(state)),
+        (Mode::InNumber(NumberPart::InWhole), b',') => mode_after_comma(top(state)),
+        (Mode::InNumber(NumberPart::InFraction), b',') => mode_after_comma(top(state)),
         (Mode::InText(TextPart::InChars, is_name), b'\\') => {
             Some(Mode::InText(TextPart::AfterBackslash, is_name))
         }
@@ -240,7 +241,7 @@ fn take_byte(state: &mut State, byte: u8) -> Found
     ensures open { result ≡ Found.GoesOn → is_over state.new ≡ false }
     ensures depth { state.new.depth ≤ max_depth }
 {
-    if let Some(mode) = plain_move(state.mode, top(state), byte) {
+    if let Some(mode) = plain_move(state, byte) {
         state.mode = mode;
         return found_behind(state);
     }

@@ -1,4 +1,4 @@
-use Rattle.std.proofs.Common.{◌-◌, refl, sym}
+use Rattle.std.proofs.Common.{◌-◌, refl}
 use Rattle.json_recognizer.specs.Grammar.{max_depth}
 use Rattle.json_recognizer.specs.Machine.{refused}
 use Rattle.json_recognizer.specs.State.{frames}
@@ -8,7 +8,7 @@ use Rattle.json_recognizer.proofs.stream.take_byte.Goals as goal
 pub returns-in-Some-clause-found : goal.returns-in-Some-clause-found
 returns-in-Some-clause-found c =
     let s = c.args.state.now in
-    let leads = c.in-Some.ensures (frames s.depth s.kinds) (max_depth - s.depth) (sym c.top.ensures) in
+    let leads = c.in-Some.ensures (frames s.depth s.kinds) (max_depth - s.depth) refl in
     leads_plainly s (record { mode = c.in-Some.mode; depth = s.depth; kinds = s.kinds }) c.args.byte leads.1 leads.0 c.found_behind.result c.found_behind.ensures
 
 pub returns-then-ends_before-clause-found : goal.returns-then-ends_before-clause-found
