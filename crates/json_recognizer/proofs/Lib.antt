@@ -9,3 +9,4 @@ pub mod Live
 pub mod Beginnings
 pub mod Frames
 pub mod Streams
+pub mod Chars

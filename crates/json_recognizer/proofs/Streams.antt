@@ -4,12 +4,14 @@ use Rattle.std.proofs.lemmas.Bool.{cases_lt}
 use Rattle.std.proofs.lemmas.List.{append-nil, drop-drop}
 use Rattle.json_recognizer.specs.Classes.{class_of}
 use Rattle.json_recognizer.specs.Grammar.{IsDocument, Begins, max_depth}
-use Rattle.json_recognizer.specs.Machine.{Next, goes, refused, step, is_final, after_all}
+use Rattle.json_recognizer.specs.Machine.{Next, goes, refused, step, is_final, after_all, apply, top_of, move_behind}
 use Rattle.json_recognizer.specs.State.{frames, next_of}
 use Rattle.json_recognizer.specs.Stream.{is_over_in, is_over, ends_number, later, found_by, found_from, found_at, found_in, or_later, IsFound}
 use Rattle.json_recognizer.specs.declared.class.Class.{Class}
-use Rattle.json_recognizer.specs.declared.class.Class.TheVariants.{Space, White, OpenBracket, OpenBrace, Quote}
+use Rattle.json_recognizer.specs.declared.class.Class.TheVariants.{Space, White, OpenBracket, OpenBrace, Quote, Comma}
 use Rattle.json_recognizer.specs.declared.machine.NumberPart.TheVariants.{AfterZero, InWhole, InFraction, InExponent}
+use Rattle.json_recognizer.specs.declared.machine.Move.TheVariants.{To}
+use Rattle.json_recognizer.specs.declared.machine.Top.{Top}
 use Rattle.json_recognizer.specs.declared.machine.Mode.{Mode}
 use Rattle.json_recognizer.specs.declared.machine.Mode.TheVariants.{Value, Behind, InNumber}
 use Rattle.json_recognizer.specs.declared.state.State.{State}
@@ -68,6 +70,11 @@ pub leads_plainly : (s next : State) (x : ℕ) → (is_final s.mode (frames s.de
 leads_plainly s next x none e found is_found more =
     one_byte s.mode (frames s.depth s.kinds) (max_depth - s.depth) x more (next_of next) none e
     ∙ over_or_later (is_over next) (found_at next more) ∙ ap (λ f. or_later f 1 (found_at next more)) (sym is_found)
+
+-- a comma behind a value, where this is the innermost that is open
+pub behind_comma : (top : Top) (next : Mode) → move_behind top Comma ≡ To next → (st : List Bool) (r : ℕ) → top_of st ≡ top
+    → (step Behind st r Comma ≡ goes next st r) × (step (InNumber InWhole) st r Comma ≡ goes next st r) × (step (InNumber InFraction) st r Comma ≡ goes next st r)
+behind_comma top next leads st r is = let e = ap (λ t. apply (move_behind t Comma) st r) is ∙ ap (λ m. apply m st r) leads in (e, e, e)
 
 -- ---- bytes that leave the mode as it is
 

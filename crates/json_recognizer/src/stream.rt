@@ -1,15 +1,18 @@
 //! Where a document of a stream ends, or its first wrong byte.
-ghost use Rattle.std.specs.Prelude.{◌≡◌, ◌<◌, ◌≤◌, ◌&&◌, ◌∷◌, ◌++◌, length, get_or, true, false, cond, Bool, List, ℕ, IfSome};
-ghost use Rattle.json_recognizer.specs.Classes.{class_of, is_plain, is_digit};
+ghost use Rattle.std.specs.Prelude.{◌≡◌, ◌<◌, ◌≤◌, ◌&&◌, ◌∷◌, ◌++◌, length, get_or, map, true, false, cond, Bool, List, ℕ, IfSome};
+ghost use Rattle.std.specs.Simd.Lanes.{mask_l};
+ghost use Rattle.json_recognizer.specs.Classes.{class_of, is_plain, is_digit, is_stop};
 ghost use Rattle.json_recognizer.specs.Grammar.{max_depth};
-ghost use Rattle.json_recognizer.specs.Machine.{is_final, step, goes};
+ghost use Rattle.json_recognizer.specs.Machine.{is_final, step, goes, top_of, move_behind};
 ghost use Rattle.json_recognizer.specs.State.{frames};
 ghost use Rattle.json_recognizer.specs.Stream.{is_over, ends_number, found_at, found_in, end_or, or_later, IsWithin};
-ghost use Rattle.json_recognizer.specs.declared.class.Class.TheVariants.{Space};
+ghost use Rattle.json_recognizer.specs.declared.class.Class.TheVariants.{Space, Comma};
+ghost use Rattle.json_recognizer.specs.declared.machine.Move.TheVariants.{To};
 
 use crate::class::{Class, class_of};
-use crate::machine::{Mode, NumberPart, TextPart};
-use crate::state::{self, State, start};
+use crate::machine::{Mode, NumberPart, TextPart, Top};
+use crate::state::{self, State, start, top};
+use std::simd::prelude::*;
 
 /// The result of searching the next bytes of a stream for the end of the document that is being read.
 #[derive(Clone, Copy, Debug, Drop)]
@@ -23,34 +26,33 @@ pub enum Found {
     Refused(usize),
 }
 
-// Whether the byte stands for itself in a text.
+// Which of the bytes don't plainly stand for themselves in a text: a bit for each.
 #[inline(always)]
-fn is_char(byte: u8) -> bool
-    ensures { result ≡ true → is_plain (class_of byte) ≡ true }
+fn stops(bytes: u8x16) -> u64
+    ensures { result ≡ mask_l (map is_stop bytes) }
 {
-    if byte < 32 {
-        return false;
-    }
-    if byte >= 128 {
-        return false;
-    }
-    if byte == 34 {
-        return false;
-    }
-    byte != 92
+    (bytes.simd_eq(u8x16::splat(b'"'))
+        | bytes.simd_eq(u8x16::splat(b'\\'))
+        | bytes.simd_lt(u8x16::splat(32))
+        | bytes.simd_ge(u8x16::splat(128))).to_bitmask()
 }
 
-// How many bytes at the front stand for themselves in a text.
+// How many bytes at the front stand for themselves in a text. They are looked at sixteen at a time; the last few, where
+// there aren't so many, are not counted.
+#[inline(always)]
 fn count_chars(bytes: &[u8]) -> usize
     ensures within { result ≤ length bytes.now }
     ensures chars { (k : ℕ) → k < result → is_plain (class_of (get_or bytes.now k 0)) ≡ true }
 {
-    for (index, byte) in bytes.iter().enumerate() {
-        if !is_char(*byte) {
-            return index;
+    let mut at = 0;
+    while bytes.len() - at >= 16 {
+        let found = stops(u8x16::from_slice(&bytes[at..]));
+        if found != 0 {
+            return at + found.trailing_zeros() as usize;
         }
+        at += 16;
     }
-    bytes.len()
+    at
 }
 
 #[inline(always)]
@@ -160,13 +162,28 @@ fn ends_before(state: &State, class: Class) -> bool
     is_final(state) && ends_number(class)
 }
 
-// The mode behind the byte, for the bytes that come most often: quotes, the colon behind a name, and the first digits of a
-// number and its fraction, and the dot between. Whatever is open, they lead there.
+// The mode behind a comma that comes behind a value of an array or object.
 #[inline(always)]
-fn plain_move(mode: Mode, byte: u8) -> Option<Mode>
-    ensures { IfSome result (λ next. (st : List Bool) (r : ℕ) → (step mode st r (class_of byte) ≡ goes next st r) × ((is_final mode st && ends_number (class_of byte)) ≡ false)) }
+fn mode_after_comma(top: Top) -> Option<Mode>
+    ensures { IfSome result (λ next. move_behind top Comma ≡ To next) }
 {
-    match (mode, byte) {
+    match top {
+        Top::InArray => Some(Mode::Value),
+        Top::InObject => Some(Mode::Name),
+        Top::Outside => None,
+    }
+}
+
+// The mode behind the byte, for the bytes that come most often: quotes, the colon behind a name, the first digits of a
+// number and its fraction, and the dot between, commas, escapes, and characters of two and three bytes. They lead there
+// whatever is open around the innermost array or object.
+#[inline(always)]
+#[tactic(auto, using(crate::proofs::Streams::behind_comma))]
+fn plain_move(state: &State, byte: u8) -> Option<Mode>
+    requires { state.now.depth ≤ max_depth }
+    ensures { IfSome result (λ next. (st : List Bool) (r : ℕ) → top_of st ≡ top_of (frames state.now.depth state.now.kinds) → (step state.now.mode st r (class_of byte) ≡ goes next st r) × ((is_final state.now.mode st && ends_number (class_of byte)) ≡ false)) }
+{
+    match (state.mode, byte) {
         (Mode::InText(TextPart::InChars, false), b'"') => Some(Mode::Behind),
         (Mode::InText(TextPart::InChars, true), b'"') => Some(Mode::AfterName),
         (Mode::AfterName, b':') => Some(Mode::Value),
@@ -178,6 +195,27 @@ fn plain_move(mode: Mode, byte: u8) -> Option<Mode>
         }
         (Mode::Name, b'"') => Some(Mode::InText(TextPart::InChars, true)),
         (Mode::FirstName, b'"') => Some(Mode::InText(TextPart::InChars, true)),
+        (Mode::Behind, b',') => mode_after_comma(top(state)),
+        (Mode::InNumber(NumberPart::InWhole), b',') => mode_after_comma(top(state)),
+        (Mode::InNumber(NumberPart::InFraction), b',') => mode_after_comma(top(state)),
+        (Mode::InText(TextPart::InChars, is_name), b'\\') => {
+            Some(Mode::InText(TextPart::AfterBackslash, is_name))
+        }
+        (Mode::InText(TextPart::AfterBackslash, is_name), b'"' | b'\\' | b'n') => {
+            Some(Mode::InText(TextPart::InChars, is_name))
+        }
+        (Mode::InText(TextPart::InChars, is_name), 194..=223) => {
+            Some(Mode::InText(TextPart::Utf1, is_name))
+        }
+        (Mode::InText(TextPart::InChars, is_name), 225..=236) => {
+            Some(Mode::InText(TextPart::Utf2, is_name))
+        }
+        (Mode::InText(TextPart::Utf2, is_name), 128..=191) => {
+            Some(Mode::InText(TextPart::Utf1, is_name))
+        }
+        (Mode::InText(TextPart::Utf1, is_name), 128..=191) => {
+            Some(Mode::InText(TextPart::InChars, is_name))
+        }
         _ => None,
     }
 }
@@ -203,7 +241,7 @@ fn take_byte(state: &mut State, byte: u8) -> Found
     ensures open { result ≡ Found.GoesOn → is_over state.new ≡ false }
     ensures depth { state.new.depth ≤ max_depth }
 {
-    if let Some(mode) = plain_move(state.mode, byte) {
+    if let Some(mode) = plain_move(state, byte) {
         state.mode = mode;
         return found_behind(state);
     }

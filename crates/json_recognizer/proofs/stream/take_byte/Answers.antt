@@ -8,7 +8,7 @@ use Rattle.json_recognizer.proofs.stream.take_byte.Goals as goal
 pub returns-in-Some-clause-found : goal.returns-in-Some-clause-found
 returns-in-Some-clause-found c =
     let s = c.args.state.now in
-    let leads = c.in-Some.ensures (frames s.depth s.kinds) (max_depth - s.depth) in
+    let leads = c.in-Some.ensures (frames s.depth s.kinds) (max_depth - s.depth) refl in
     leads_plainly s (record { mode = c.in-Some.mode; depth = s.depth; kinds = s.kinds }) c.args.byte leads.1 leads.0 c.found_behind.result c.found_behind.ensures
 
 pub returns-then-ends_before-clause-found : goal.returns-then-ends_before-clause-found
