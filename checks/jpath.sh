@@ -170,6 +170,38 @@ for words in ["--indent 2 --tab '$'", "-S --null '$.a'", "-S -c '$'", "--tab -l 
 for words in ["--indent 0 '$'", "--indent 9 '$'", "--indent x '$'"]:
     wants(f"jpath {words} a.json", 2, "", "error: *possible values: 1, 2, 3, 4, 5, 6, 7, 8*")
 
+# names, entries and lengths
+named = b'{"b":[1,{"z":1,"a":2}],"t\\ti":"\xc3\xa9\xf0\x9f\x98\x80","b":{"y":1,"x":[]},"":1.50}'
+wants("jpath --keys '$'", 0, '"b"\n"t\\ti"\n""\n', given=named)
+wants("jpath --keys -r '$'", 0, "b\nt\ti\n\n", given=named)
+wants("jpath --keys -S -e '$' -e '$.b'", 0, '""\n"b"\n"t\\ti"\n"x"\n"y"\n', given=named)
+wants("jpath --keys '$'", 0, "0\n1\n", given=b'["x",[]]')
+wants("jpath --keys '$.*' ", 0, "", given=b'{"a":1,"b":"x","c":null,"d":{},"e":[]}')
+wants("jpath --keys '$.none'", 1, "", given=named)
+wants("jpath --entries '$'", 0, '"b"\t{"y":1,"x":[]}\n"t\\ti"\t"é😀"\n""\t1.50\n', given=named)
+wants("jpath --entries -S -r '$'", 0, '\t1.50\nb\t{"x":[],"y":1}\nt\ti\té😀\n', given=named)
+wants("jpath --entries -p '$.b'", 0, '"y"\t1\n"x"\t[\n  2\n]\n', given=b'{"b":{"y":1,"x":[2]}}')
+wants("jpath --entries '$'", 0, '0\t"x"\n1\t{"a":2}\n', given=b'["x",{"a":1,"a":2}]')
+wants("jpath --lengths -e '$' -e '$.*'", 0, "3\nnull\n2\n2\n", given=named)
+wants("jpath --lengths '$[*]'", 0, "0\n0\n0\nnull\nnull\nnull\n3\n", given=b'["",[],{},0,true,null,"a\\u0000b"]')
+wants("jpath --keys -H '$' a.json", 0, 'a.json:"a"\n')
+wants("jpath --keys -0 -r '$'", 0, "b\0t\ti\0\0", given=named)
+wants("jpath --keys --seq '$.b'", 0, '\x1e"y"\n\x1e"x"\n', given=named)
+wants("jpath --keys -C always '$'", 0, '\x1b[32m"a"\x1b[0m\n', given=b'{"a":1}')
+wants("jpath --entries -C always '$'", 0, '\x1b[36m0\x1b[0m\t\x1b[35mnull\x1b[0m\n', given=b"[null]")
+many = "{" + ",".join(f'"n{number}":{number}' for number in range(40)) + ',"n7":0,"n0":[1]}'
+wants("jpath --keys -r '$'", 0, "".join(f"n{number}\n" for number in range(40)), given=many.encode())
+wants("jpath --lengths '$'", 0, "40\n", given=many.encode())
+for words in ["--keys --entries '$'", "--keys --lengths '$'", "--entries --lengths '$'", "--keys -l '$'", "--entries -L '$'", "--lengths -a '$'", "--keys -c '$'", "--keys -q '$'", "--lengths -S '$'",
+              "--lengths --tab '$'", "--keys --tab '$'", "--entries --seq '$'", "--keys --null '$.a'", "--keys --rows '$' -e '$' --csv"]:
+    wants(f"jpath {words} a.json", 2, "", "jpath: *")
+
+# a name never breaks the columns of -L; with -l its location is the path that selects just that
+broken = b'{"a\\tb":1,"c\\nd":{"e\\r":2}}'
+wants("jpath -L '$.*'", 0, "$['a\\tb']\t1\n$['c\\nd']\t{\"e\\r\":2}\n", given=broken)
+wants("jpath -L '$..*' | cut -f 1", 0, "$['a\\tb']\n$['c\\nd']\n$['c\\nd']['e\\r']\n", given=broken)
+wants("jpath -l '$.*'", 0, "$['a\tb']\n$['c\nd']\n", given=broken)
+
 # exact numbers
 many = b'[{"n":0.1},{"n":1e-400},{"n":0},{"n":-0},{"n":1e999},{"n":12345678901234567890123},{"n":12345678901234567890124},{"n":100e-3},{"n":-2.5e3}]'
 wants("jpath '$[?(@.n == 0.1)].n'", 0, "0.1\n100e-3\n", "", many)

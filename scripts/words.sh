@@ -56,7 +56,7 @@ fault_of_jpath_words() {
         fi
         case $word in
             --) has_path=yes && break ;;
-            --raw | --pretty | --tab | --sort-keys | --array | --locations | --with-locations | --count | --quiet | --with-filename | --keep-going | --join | --nul | --seq) ;;
+            --raw | --pretty | --tab | --sort-keys | --array | --locations | --with-locations | --keys | --entries | --lengths | --count | --quiet | --with-filename | --keep-going | --join | --nul | --seq) ;;
             --csv | --tsv | --header | --in-place | --copy | --check) ;;
             --help | --version) has_path=yes ;;
             --completions) has_path=yes wants=1 ;;

@@ -17,7 +17,7 @@ use Rattle.jsonpath_nodes.specs.compare.Comparisons.{Seen, null_value, truth, te
 use Rattle.jsonpath_select.specs.Meaning.{sel}
 use Rattle.jsonpath_select.specs.Parts.{name_at, literals, has_pair, joined}
 use Rattle.jpath_edits.specs.ExactAt.{exact_at}
-use Rattle.jpath_texts.specs.Lines.{named, shown, record_start, line_end}
+use Rattle.jpath_texts.specs.Lines.{on_line, shown}
 use Rattle.jpath_texts.specs.declared.output.match_line.Line.{Line}
 use Rattle.jpath_core.specs.declared.exact_tree.exact_evaluator.Lines.{Lines}
 
@@ -164,7 +164,7 @@ rest_from spelled rest (Some kept) x = kept_from spelled rest (condition_of kept
 
 -- the line of a value, without its place
 abbrev pub value_line : Line → Json → List ℕ
-value_line line j = record_start line.is_record ++ (named line.name ++ (shown line.look j ++ line_end line.end))
+value_line line j = on_line line (shown line.look j)
 
 abbrev pub value_lines : Option (Bor Line) → List Json → List ℕ
 value_lines None js = []

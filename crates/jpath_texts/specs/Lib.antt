@@ -1,4 +1,5 @@
 pub mod AtDepth
+pub mod Entries
 pub mod Exact
 pub mod Lines
 pub mod NamesOnce

@@ -7,6 +7,7 @@ use Rattle.json.specs.Tree.{json_tokens}
 use Rattle.serde_json.specs.Read.{of_json}
 use Rattle.jpath_texts.specs.AtDepth.{arranged, at_depth, is_compact}
 use Rattle.jpath_texts.specs.Exact.{exact_of}
+use Rattle.jpath_texts.specs.declared.output.match_line.Line.{Line}
 use Rattle.jpath_texts.specs.declared.output.match_line.LineEnd.{LineEnd}
 use Rattle.jpath_texts.specs.declared.output.match_line.LineEnd.TheVariants.{LineFeed, Nul, Nothing}
 use Rattle.jpath_texts.specs.declared.output.look.Look.{Look}
@@ -53,6 +54,10 @@ abbrev pub line_end : LineEnd → List ℕ
 line_end LineFeed = 10 ∷ []
 line_end Nul = 0 ∷ []
 line_end Nothing = []
+
+-- a text on a line, with what begins and what ends the line
+abbrev pub on_line : Line → List ℕ → List ℕ
+on_line line text = record_start line.is_record ++ (named line.name ++ (text ++ line_end line.end))
 
 -- the text is no document
 abbrev pub IsRefusedText : List ℕ → Type 0

@@ -25,8 +25,11 @@ pub use ordered_tree::in_order::put_in_order;
 pub use output::arranged::write_arranged;
 pub use output::array_items::{add_array_end, add_array_item};
 pub use output::csv_and_tsv::{Separated, add_header, add_row};
+pub use output::entry_lines::{add_entry_lines, add_length_line};
 pub use output::look::{Layout, Look};
-pub use output::match_line::{Line, LineEnd, Shown, add_file_name, add_line_end, add_record_start};
+pub use output::match_line::{
+    Line, LineEnd, Shown, add_file_name, add_line_end, add_line_start, add_record_start,
+};
 pub use output::value_text::{add_compact_value, add_value_in_look};
 pub use query::{Compared, Query};
 pub use refusal::DocumentRefusal;

@@ -5,6 +5,7 @@ pub(crate) mod arranged;
 pub(crate) mod array_items;
 pub(crate) mod colored_or_indented_value;
 pub(crate) mod csv_and_tsv;
+pub(crate) mod entry_lines;
 pub(crate) mod look;
 pub(crate) mod match_line;
 pub(crate) mod names_once;

@@ -17,7 +17,7 @@ use Rattle.jpath_texts.specs.declared.output.look.Look.{Look}
 use Rattle.jpath_texts.specs.declared.output.match_line.LineEnd.{LineEnd}
 use Rattle.jpath_texts.specs.declared.output.match_line.LineEnd.TheVariants.{LineFeed, Nul, Nothing}
 use Rattle.jpath_texts.specs.declared.output.match_line.Shown.{Shown}
-use Rattle.jpath_texts.specs.declared.output.match_line.Shown.TheVariants.{Values, Places, PlacesAndValues}
+use Rattle.jpath_texts.specs.declared.output.match_line.Shown.TheVariants.{Values, Places, PlacesAndValues, Keys, Entries, Lengths}
 use Rattle.jpath_texts.specs.NumberPlaces.{HasSides}
 use Rattle.jpath_texts.specs.declared.query.Query.{Query}
 use Rattle.jpath_texts.specs.declared.query.Compared.{Compared}
@@ -116,9 +116,12 @@ AreEditsOf (words ∷ more) (edit ∷ edits) = IsEditOf words edit × AreEditsOf
 
 -- ---- the task
 
--- what the line of a match shows
+-- what is shown of a match
+abbrev pub parts_by : Flags → Shown
+parts_by flags = if flags.keys then Keys else (if flags.entries then Entries else (if flags.lengths then Lengths else Values))
+
 abbrev pub shown_by : Flags → Shown
-shown_by flags = if flags.locations then Places else (if flags.with_locations then PlacesAndValues else Values)
+shown_by flags = if flags.locations then Places else (if flags.with_locations then PlacesAndValues else parts_by flags)
 
 -- what is done with the matches of these queries
 abbrev pub IsOfMatches : Flags → List Query → Task → Type 0

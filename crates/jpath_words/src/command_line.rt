@@ -53,7 +53,7 @@ const ENDS: [Flag; 3] = [
 ];
 
 // What is written of a match, and of a document.
-const FORMS: [Flag; 11] = [
+const FORMS: [Flag; 14] = [
     (Some('r'), "raw", "Texts without quotes and escapes"),
     (Some('p'), "pretty", "Indented by two blanks"),
     (None, "tab", "Indented by a tab"),
@@ -72,6 +72,17 @@ const FORMS: [Flag; 11] = [
         Some('L'),
         "with-locations",
         "The location, a tab, the value",
+    ),
+    (
+        None,
+        "keys",
+        "The names of each match's members, or its items' indexes, a line each",
+    ),
+    (None, "entries", "The same, each with a tab and the value"),
+    (
+        None,
+        "lengths",
+        "How many members, items or characters each match has; else null",
     ),
     (Some('c'), "count", "The number of matches in each FILE"),
     (
@@ -322,6 +333,9 @@ pub struct Flags {
     pub array: bool,
     pub locations: bool,
     pub with_locations: bool,
+    pub keys: bool,
+    pub entries: bool,
+    pub lengths: bool,
     pub count: bool,
     pub quiet: bool,
     pub with_filename: bool,
@@ -600,6 +614,9 @@ fn read_flags(matches: &ArgMatches<'_>) -> Flags {
         array: matches.get_flag("array"),
         locations: matches.get_flag("locations"),
         with_locations: matches.get_flag("with-locations"),
+        keys: matches.get_flag("keys"),
+        entries: matches.get_flag("entries"),
+        lengths: matches.get_flag("lengths"),
         count: matches.get_flag("count"),
         quiet: matches.get_flag("quiet"),
         with_filename: matches.get_flag("with-filename"),

@@ -26,7 +26,8 @@ use std::slice;
 /// What `jpath` writes for each document: lines, an array, a count, a table, or the edited text.
 #[derive(Drop)]
 pub enum Task<'a> {
-    /// Writes a line for each value that one of the paths selects, with the value, its location or both.
+    /// Writes lines for each value that one of the paths selects, with the value, its location or both, the names of its
+    /// members or its length.
     Lines(Vec<Query<'a>>, Shown),
     /// Writes one JSON array for each document, with all values that the paths select.
     Array(Vec<Query<'a>>),
@@ -305,7 +306,7 @@ fn task_of_matches<'a>(flags: &Flags, queries: Vec<Query<'a>>) -> Task<'a>
     }
 }
 
-// What the line of a match shows, by the flags: its place, place and value, or its value.
+// What is shown of a match, by the flags: its place, place and value, names, length, or its value.
 fn what_is_shown(flags: &Flags) -> Shown
     ensures { result ≡ shown_by flags.now }
 {
@@ -313,6 +314,12 @@ fn what_is_shown(flags: &Flags) -> Shown
         Shown::Places
     } else if flags.with_locations {
         Shown::PlacesAndValues
+    } else if flags.keys {
+        Shown::Keys
+    } else if flags.entries {
+        Shown::Entries
+    } else if flags.lengths {
+        Shown::Lengths
     } else {
         Shown::Values
     }

@@ -1,7 +1,7 @@
 //! Options that contradict each other, or that need another one that is missing: a sentence that says what to write. A
 //! missing path is reported in `task.rt`.
 
-use crate::command_line::Words;
+use crate::command_line::{Flags, Words};
 
 // A sentence for the first fault among the words, a contradiction or something missing, which says what to write, or
 // `None` where there is none.
@@ -15,6 +15,7 @@ pub(crate) fn words_fault(words: &Words<'_>) -> Option<&'static str> {
         || flags.array
         || flags.locations
         || flags.with_locations
+        || has_parts(&flags)
         || flags.count
         || flags.with_filename;
     if has_edits && (words.rows.is_some() || !words.paths.is_empty()) {
@@ -25,12 +26,13 @@ pub(crate) fn words_fault(words: &Words<'_>) -> Option<&'static str> {
             || flags.array
             || flags.locations
             || flags.with_locations
+            || has_parts(&flags)
             || flags.quiet
             || flags.with_filename
             || flags.raw)
     {
         return Some(
-            "with edits the document is written: of -r -p -a -l -L -c -q -H only -p goes with them",
+            "with edits the document is written: leave -r -a -l -L -c -q -H --keys --entries --lengths out",
         );
     }
     if has_edits && flags.sort_keys && !has_lines {
@@ -50,10 +52,32 @@ pub(crate) fn words_fault(words: &Words<'_>) -> Option<&'static str> {
     if flags.array && flags.count {
         return Some("-a writes arrays and -c numbers: leave one of them out");
     }
-    layout_fault(words)
+    parts_fault(&flags)
+        .or(layout_fault(words))
         .or(ends_fault(words))
         .or(table_fault(words, has_form))
         .or(in_place_fault(words))
+}
+
+// Whether lines are about what is in a value.
+fn has_parts(flags: &Flags) -> bool {
+    flags.keys || flags.entries || flags.lengths
+}
+
+// The sentence for `--keys`, `--entries` and `--lengths` where they do not go with the other flags, or `None`.
+fn parts_fault(flags: &Flags) -> Option<&'static str> {
+    if !has_parts(flags) {
+        return None;
+    }
+    if flags.keys && (flags.entries || flags.lengths) || flags.entries && flags.lengths {
+        return Some("--keys, --entries and --lengths differ in what they write: leave one of them");
+    }
+    if flags.locations || flags.with_locations || flags.array || flags.count {
+        return Some(
+            "--keys, --entries and --lengths write lines of their own: leave them, or -l -L -a -c, out",
+        );
+    }
+    None
 }
 
 // The sentence for `--indent`, `--tab` and `-S` where they do not go with the other words, or `None`.
@@ -63,8 +87,16 @@ fn layout_fault(words: &Words<'_>) -> Option<&'static str> {
     if has_indent && flags.tab {
         return Some("--indent and --tab say how lines are indented: leave one of them out");
     }
-    if (has_indent || flags.tab || flags.sort_keys) && (flags.count || flags.locations) {
-        return Some("--indent, --tab and -S are about values: leave them, or -c and -l, out");
+    let has_lines = has_indent || flags.tab;
+    if (has_lines || flags.sort_keys) && (flags.count || flags.locations || flags.lengths) {
+        return Some(
+            "--indent, --tab and -S are about values: leave them, or -c, -l and --lengths, out",
+        );
+    }
+    if has_lines && flags.keys {
+        return Some(
+            "--keys writes names alone: leave --indent and --tab out, or add values by --entries",
+        );
     }
     None
 }
@@ -88,9 +120,10 @@ fn ends_fault(words: &Words<'_>) -> Option<&'static str> {
         || flags.count
         || flags.with_filename
         || flags.locations
-        || flags.with_locations;
+        || flags.with_locations
+        || flags.entries;
     if flags.seq && has_other {
-        return Some("--seq writes JSON texts: leave -r -l -L -c -H out");
+        return Some("--seq writes JSON texts: leave -r -l -L -c -H --entries out");
     }
     None
 }
@@ -112,7 +145,9 @@ fn table_fault(words: &Words<'_>, has_form: bool) -> Option<&'static str> {
         return Some("--rows wants --csv or --tsv, one of them");
     }
     if has_form || flags.quiet {
-        return Some("--rows writes a table: leave -r -p --indent --tab -S -a -l -L -c -q -H out");
+        return Some(
+            "--rows writes a table: leave -r -p --indent --tab -S -a -l -L --keys --entries --lengths -c -q -H out",
+        );
     }
     None
 }

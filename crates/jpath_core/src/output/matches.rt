@@ -7,27 +7,29 @@ ghost use Rattle.serde_json.specs.View.{view};
 ghost use Rattle.jsonpath_paths.specs.tree.Tree.{Path};
 ghost use Rattle.jsonpath_paths.specs.Spelling.{Spells};
 ghost use Rattle.jsonpath_nodes.specs.document.OfData.{document_of};
-ghost use Rattle.jsonpath_nodes.specs.place.LocationText.{location_text};
 ghost use Rattle.jsonpath_nodes.specs.place.SpotPlace.{location_of};
 ghost use Rattle.jsonpath_select.specs.Meaning.{sel};
 ghost use Rattle.jpath_texts.specs.NumberPlaces.{is_as_read};
-ghost use Rattle.jpath_core.specs.Matches.{line_text, lines_text, AddsMatches};
+ghost use Rattle.jpath_core.specs.Matches.{lines_text, match_text, AddsMatches};
 ghost use Rattle.jpath_core.specs.AlongExactTree.{value_line, written};
 
 use crate::exact_at_steps::printable_value_at_steps;
+use crate::output::places::{add_place_and_value_line, add_place_line};
 use crate::selection::select_in_document;
 use jpath_texts::{
     Document, DocumentRefusal, Line, Look, Query, Shown, add_array_end, add_array_item,
-    add_file_name, add_line_end, add_record_start, add_value_in_look, write_arranged,
+    add_entry_lines, add_length_line, add_line_end, add_line_start, add_value_in_look,
+    write_arranged,
 };
 use json::{Value as Exact, Writer};
-use jsonpath_nodes::{Location, Spot};
+use jsonpath_nodes::Spot;
 use jsonpath_paths::laws::one_tree_per_text;
 use std::alloc::{AllocError, Global};
 use std::mem;
 
-/// Appends a line to `out` for each value that one path selects in a document, in the order in which the path's steps
-/// find them, and returns the number of lines. The only error is `OutOfMemory`; `out` may then end with a part of them.
+/// Appends to `out` what `line` shows of each value that one path selects in a document, in the order in which the
+/// path's steps find them, and returns the number of these values. The only error is `OutOfMemory`; `out` may then end
+/// with a part of the lines.
 pub fn add_lines_for_path(
     alloc: Global,
     document: &Document<'_>,
@@ -81,8 +83,7 @@ pub fn add_array(
 ) -> Result<usize, DocumentRefusal>
     requires { HasNumbers (value_view document.now.exact) }
 {
-    add_record_start(out, line.is_record)?;
-    add_file_name(out, line.name)?;
+    add_line_start(out, line)?;
     let count = if line.look.is_compact() {
         let mut writer = Writer::new(mem::replace(out, Vec::new(alloc)));
         let is_sorted = line.look.is_sorted;
@@ -185,7 +186,7 @@ fn add_pretty_or_colored_items(
     Ok(())
 }
 
-// Adds a line for each spot to what is written: its place, its value or both, as the line is asked for.
+// Adds the lines of each spot to what is written: its place, its value or both, or what is in the value, as is asked for.
 fn add_lines_of_spots(
     alloc: Global,
     exact: &Exact<'_>,
@@ -198,14 +199,14 @@ fn add_lines_of_spots(
 {
     for spot in spots {
         if let Some(value) = printable_value_at_steps(exact, spot.steps()) {
-            add_line(alloc, spot, value, line, out)?;
+            add_lines_of_match(alloc, spot, value, line, out)?;
         }
     }
     Ok(())
 }
 
-// Writes the line of one match: the file's name, its place, its value, as they are asked for.
-fn add_line(
+// Writes the lines of one match: one with its place, its value or both, or its length; or one for each of its members.
+fn add_lines_of_match(
     alloc: Global,
     spot: &Spot<'_>,
     value: &Exact<'_>,
@@ -213,42 +214,19 @@ fn add_line(
     out: &mut Vec<u8>,
 ) -> Result<(), AllocError>
     requires { HasNumbers (value_view value.now) }
-    ensures { OnOk result (out.new.items ≡ out.old.items ++ line_text line.now (location_of spot.now) (value_view value.now)) }
+    ensures { OnOk result (out.new.items ≡ out.old.items ++ match_text line.now (location_of spot.now) (value_view value.now)) }
 {
-    add_record_start(out, line.is_record)?;
-    add_file_name(out, line.name)?;
     match line.shown {
-        Shown::Values => add_value_in_look(alloc, out, value, line.look)?,
-        Shown::Places => add_spot_location(alloc, spot, out)?,
-        Shown::PlacesAndValues => {
-            add_spot_location(alloc, spot, out)?;
-            out.push(b'\t')?;
-            add_value_in_look(alloc, out, value, line.look)?;
-        }
-    }
-    add_line_end(out, line.end)
-}
-
-// Writes where a spot stands, as the path that selects just that.
-fn add_spot_location(alloc: Global, spot: &Spot<'_>, out: &mut Vec<u8>) -> Result<(), AllocError>
-    ensures { OnOk result (out.new.items ≡ out.old.items ++ location_text (location_of spot.now)) }
-{
-    match spot.steps().to_location(alloc) {
-        Ok(location) => add_location(alloc, &location, out),
-        Err(_) => Err(AllocError),
+        Shown::Values => add_value_line(alloc, value, line, out),
+        Shown::Places => add_place_line(alloc, spot, line, out),
+        Shown::PlacesAndValues => add_place_and_value_line(alloc, spot, value, line, out),
+        Shown::Keys => add_entry_lines(alloc, value, false, line, out),
+        Shown::Entries => add_entry_lines(alloc, value, true, line, out),
+        Shown::Lengths => add_length_line(alloc, value, line, out),
     }
 }
 
-// Writes a location as a path.
-fn add_location(alloc: Global, location: &Location, out: &mut Vec<u8>) -> Result<(), AllocError>
-    ensures { OnOk result (out.new.items ≡ out.old.items ++ location_text location.now) }
-{
-    let text = format!(in alloc; "{location}")?;
-    out.extend_from_slice(text.as_bytes())
-}
-
-// Writes a value on a line of its own, behind a file's name where there is one, whatever the line is to show of
-// matches.
+// Writes a value on a line of its own, whatever the line is to show of matches.
 pub(crate) fn add_value_line(
     alloc: Global,
     value: &Exact<'_>,
@@ -258,8 +236,7 @@ pub(crate) fn add_value_line(
     requires { HasNumbers (value_view value.now) }
     ensures { OnOk result (out.new.items ≡ out.old.items ++ value_line line.now (value_view value.now)) }
 {
-    add_record_start(out, line.is_record)?;
-    add_file_name(out, line.name)?;
+    add_line_start(out, line)?;
     add_value_in_look(alloc, out, value, line.look)?;
     add_line_end(out, line.end)
 }

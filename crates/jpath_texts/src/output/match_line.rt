@@ -7,7 +7,7 @@ ghost use Rattle.jpath_texts.specs.Lines.{named, record_start, line_end};
 use crate::output::look::Look;
 use std::alloc::AllocError;
 
-/// What `jpath` prints for a value that a path selects: the value, its location, or both.
+/// What `jpath` prints for a value that a path selects: the value, its location, or both; the names in it; its length.
 #[derive(Clone, Copy, Debug, Drop, PartialEq, Eq)]
 pub enum Shown {
     /// Prints the selected value.
@@ -16,6 +16,12 @@ pub enum Shown {
     Places,
     /// Prints the location of the selected value, a tab and the value.
     PlacesAndValues,
+    /// Prints a line for each member of the selected value with its name, or for each item with its index.
+    Keys,
+    /// Prints the same lines, each with a tab and the value of the member or item behind the name or index.
+    Entries,
+    /// Prints how many members or items the selected value has, or characters if it is a text; null for other values.
+    Lengths,
 }
 
 /// What follows a selected value that is printed.
@@ -29,14 +35,14 @@ pub enum LineEnd {
     Nothing,
 }
 
-/// How a line for a selected value is printed: which file name comes before it, if any, whether value, location or
-/// both, in which layout.
+/// How the lines for a selected value are printed: which file name comes before each, if any, what they show, in which
+/// layout.
 #[derive(Clone, Copy, Debug, Drop)]
 pub struct Line<'n> {
     /// How the selected value is written: a string with or without its quotes and escapes, members in the order of
     /// their names or not, indented over several lines or not, in colours or not.
     pub look: Look,
-    /// Whether the line shows the selected value, its location, or both.
+    /// What is shown of the selected value.
     pub shown: Shown,
     /// The name of a file to print at the front of the line, with a colon; `None` for no name.
     pub name: Option<&'n str>,
@@ -44,6 +50,14 @@ pub struct Line<'n> {
     pub is_record: bool,
     /// What is printed after the line.
     pub end: LineEnd,
+}
+
+/// Appends to `out` what begins each line: the byte 30 (RS) and the file's name with a colon, or nothing, as `line` says.
+pub fn add_line_start(out: &mut Vec<u8>, line: &Line<'_>) -> Result<(), AllocError>
+    ensures { OnOk result (out.new.items ≡ out.old.items ++ (record_start line.now.is_record ++ named line.now.name)) }
+{
+    add_record_start(out, line.is_record)?;
+    add_file_name(out, line.name)
 }
 
 /// Appends the byte 30 (RS) to `out` if `is_record` is set.
