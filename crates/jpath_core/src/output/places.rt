@@ -1,4 +1,4 @@
-//! Where matches stand, as paths on lines, alone or in a column before the values.
+//! The locations of matches, as paths on lines, alone or in a column before the values.
 
 ghost use Rattle.std.specs.Prelude.{◌≡◌, ◌∷◌, ◌++◌, OnOk};
 ghost use Rattle.json.specs.Tree.{HasNumbers};
