@@ -196,6 +196,12 @@ for words in ["--keys --entries '$'", "--keys --lengths '$'", "--entries --lengt
               "--lengths --tab '$'", "--keys --tab '$'", "--entries --seq '$'", "--keys --null '$.a'", "--keys --rows '$' -e '$' --csv"]:
     wants(f"jpath {words} a.json", 2, "", "jpath: *")
 
+# a name never breaks the columns of -L; with -l its location is the path that selects just that
+broken = b'{"a\\tb":1,"c\\nd":{"e\\r":2}}'
+wants("jpath -L '$.*'", 0, "$['a\\tb']\t1\n$['c\\nd']\t{\"e\\r\":2}\n", given=broken)
+wants("jpath -L '$..*' | cut -f 1", 0, "$['a\\tb']\n$['c\\nd']\n$['c\\nd']['e\\r']\n", given=broken)
+wants("jpath -l '$.*'", 0, "$['a\tb']\n$['c\nd']\n", given=broken)
+
 # exact numbers
 many = b'[{"n":0.1},{"n":1e-400},{"n":0},{"n":-0},{"n":1e999},{"n":12345678901234567890123},{"n":12345678901234567890124},{"n":100e-3},{"n":-2.5e3}]'
 wants("jpath '$[?(@.n == 0.1)].n'", 0, "0.1\n100e-3\n", "", many)

@@ -3,3 +3,4 @@ pub mod Images
 pub mod Matches
 pub mod Renumbered
 pub mod AlongExactTree
+pub mod Columns

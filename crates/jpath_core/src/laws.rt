@@ -4,6 +4,7 @@ ghost use Rattle.serde_json.specs.Data.{Data};
 ghost use Rattle.json.specs.Json.{Json};
 ghost use Rattle.jsonpath_nodes.specs.place.Location.{Location};
 ghost use Rattle.jpath_texts.specs.Exact.{IsImageOf};
+ghost use Rattle.jpath_core.specs.Columns.{ColumnsHold};
 ghost use Rattle.jpath_core.specs.Images.{ImageStandsAt};
 ghost use Rattle.jpath_core.specs.Renumbered.{OrderOfNumbersDecides};
 
@@ -20,4 +21,10 @@ pub fn image_has_same_locations()
 /// path's literals are replaced by others in the same order, the path selects the same list.
 pub fn order_of_numbers_decides()
     ensures { OrderOfNumbersDecides }
+{}
+
+/// Lemma: a text that is written as the first of two columns has no tab, no line feed and no carriage return there. If
+/// the text has none of these, the column is the text itself.
+pub fn columns_hold()
+    ensures { ColumnsHold }
 {}

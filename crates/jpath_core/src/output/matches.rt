@@ -1,21 +1,20 @@
 //! What is written for the matches of one document, and how many there are.
 
-ghost use Rattle.std.specs.Prelude.{◌≡◌, ◌∷◌, ◌++◌, true, length, map, OnOk, IfOk, Some};
+ghost use Rattle.std.specs.Prelude.{◌≡◌, ◌++◌, true, length, map, OnOk, IfOk, Some};
 ghost use Rattle.json.specs.Tree.{HasNumbers};
 ghost use Rattle.json.specs.Value.{value_view};
 ghost use Rattle.serde_json.specs.View.{view};
 ghost use Rattle.jsonpath_paths.specs.tree.Tree.{Path};
 ghost use Rattle.jsonpath_paths.specs.Spelling.{Spells};
 ghost use Rattle.jsonpath_nodes.specs.document.OfData.{document_of};
-ghost use Rattle.jsonpath_nodes.specs.place.LocationText.{location_text};
 ghost use Rattle.jsonpath_nodes.specs.place.SpotPlace.{location_of};
 ghost use Rattle.jsonpath_select.specs.Meaning.{sel};
-ghost use Rattle.jpath_texts.specs.Lines.{on_line, shown};
 ghost use Rattle.jpath_texts.specs.NumberPlaces.{is_as_read};
 ghost use Rattle.jpath_core.specs.Matches.{lines_text, match_text, AddsMatches};
 ghost use Rattle.jpath_core.specs.AlongExactTree.{value_line, written};
 
 use crate::exact_at_steps::printable_value_at_steps;
+use crate::output::places::{add_place_and_value_line, add_place_line};
 use crate::selection::select_in_document;
 use jpath_texts::{
     Document, DocumentRefusal, Line, Look, Query, Shown, add_array_end, add_array_item,
@@ -23,7 +22,7 @@ use jpath_texts::{
     write_arranged,
 };
 use json::{Value as Exact, Writer};
-use jsonpath_nodes::{Location, Spot};
+use jsonpath_nodes::Spot;
 use jsonpath_paths::laws::one_tree_per_text;
 use std::alloc::{AllocError, Global};
 use std::mem;
@@ -224,56 +223,6 @@ fn add_lines_of_match(
         Shown::Entries => add_entry_lines(alloc, value, true, line, out),
         Shown::Lengths => add_length_line(alloc, value, line, out),
     }
-}
-
-// Writes the place of a match on a line.
-fn add_place_line(
-    alloc: Global,
-    spot: &Spot<'_>,
-    line: &Line<'_>,
-    out: &mut Vec<u8>,
-) -> Result<(), AllocError>
-    ensures { OnOk result (out.new.items ≡ out.old.items ++ on_line line.now (location_text (location_of spot.now))) }
-{
-    add_line_start(out, line)?;
-    add_spot_location(alloc, spot, out)?;
-    add_line_end(out, line.end)
-}
-
-// Writes the place of a match, a tab and its value on a line.
-fn add_place_and_value_line(
-    alloc: Global,
-    spot: &Spot<'_>,
-    value: &Exact<'_>,
-    line: &Line<'_>,
-    out: &mut Vec<u8>,
-) -> Result<(), AllocError>
-    requires { HasNumbers (value_view value.now) }
-    ensures { OnOk result (out.new.items ≡ out.old.items ++ on_line line.now (location_text (location_of spot.now) ++ 9 ∷ shown line.now.look (value_view value.now))) }
-{
-    add_line_start(out, line)?;
-    add_spot_location(alloc, spot, out)?;
-    out.push(b'\t')?;
-    add_value_in_look(alloc, out, value, line.look)?;
-    add_line_end(out, line.end)
-}
-
-// Writes where a spot stands, as the path that selects just that.
-fn add_spot_location(alloc: Global, spot: &Spot<'_>, out: &mut Vec<u8>) -> Result<(), AllocError>
-    ensures { OnOk result (out.new.items ≡ out.old.items ++ location_text (location_of spot.now)) }
-{
-    match spot.steps().to_location(alloc) {
-        Ok(location) => add_location(alloc, &location, out),
-        Err(_) => Err(AllocError),
-    }
-}
-
-// Writes a location as a path.
-fn add_location(alloc: Global, location: &Location, out: &mut Vec<u8>) -> Result<(), AllocError>
-    ensures { OnOk result (out.new.items ≡ out.old.items ++ location_text location.now) }
-{
-    let text = format!(in alloc; "{location}")?;
-    out.extend_from_slice(text.as_bytes())
 }
 
 // Writes a value on a line of its own, whatever the line is to show of matches.
