@@ -22,7 +22,7 @@ def text_of(file):
 LINES = {"README.md": 150, "CONTRIBUTING.md": 60, "docs/PATHS.md": 230, "docs/FROM-OTHERS.md": 130, "docs/JPATH.md": 145, "docs/jpath.1": 195,
          "docs/jsonpath_run.1": 70, "docs/LIBRARY.md": 220, "docs/CALLING.md": 100, "docs/PROOF.md": 200, "docs/MUTANTS.md": 75, "docs/DEFINITIONS.md": 205,
          "docs/IN-PLACE.md": 30, "docs/LIMITS.md": 45, "docs/BENCHMARKS.md": 150, "docs/ARCHITECTURE.md": 150, "docs/GATE.md": 35}
-README_BYTES, ALL_BYTES = 10_000, 172_000
+README_BYTES, ALL_BYTES = 10_000, 170_000
 # What is said of the house in words of its own, and the field's.
 WORDS = {
     r"spots?": "node", r"strides?": "step, segment", r"tall(?:y|ies)": "accumulator", r"unread": "float, no integer of 64 bits",
