@@ -1,6 +1,6 @@
+pub mod AlongExactTree
 pub mod Edited
 pub mod Images
 pub mod Matches
+pub mod Printable
 pub mod Renumbered
-pub mod AlongExactTree
-pub mod Columns

@@ -8,7 +8,7 @@ use Rattle.jsonpath_nodes.specs.place.Location.{Location}
 use Rattle.jsonpath_nodes.specs.place.LocationText.{location_text}
 use Rattle.jsonpath_select.specs.Meaning.{sel}
 use Rattle.jpath_edits.specs.ExactAt.{exact_at}
-use Rattle.jpath_core.specs.Columns.{in_column}
+use Rattle.jpath_core.specs.Printable.{printable}
 use Rattle.jpath_texts.specs.Entries.{entry_lines, length_of, length_value}
 use Rattle.jpath_texts.specs.Lines.{on_line, shown, with_members_kept}
 use Rattle.jpath_texts.specs.declared.output.match_line.Line.{Line}
@@ -18,8 +18,8 @@ use Rattle.jpath_texts.specs.declared.output.match_line.Shown.TheVariants.{Value
 -- the lines of a value at a place: of the value, its place, or both with a tab between; of its names; of its length
 abbrev pub text_by : Shown → Line → Location → Json → List ℕ
 text_by Values line l j = on_line line (shown line.look j)
-text_by Places line l j = on_line line (location_text l)
-text_by PlacesAndValues line l j = on_line line (in_column (location_text l) ++ 9 ∷ shown line.look j)
+text_by Places line l j = on_line line (printable (location_text l))
+text_by PlacesAndValues line l j = on_line line (printable (location_text l) ++ 9 ∷ shown line.look j)
 text_by Keys line l j = entry_lines false line j
 text_by Entries line l j = entry_lines true line j
 text_by Lengths line l j = on_line line (with_members_kept line.look (length_value (length_of j)))

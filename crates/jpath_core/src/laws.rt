@@ -4,8 +4,8 @@ ghost use Rattle.serde_json.specs.Data.{Data};
 ghost use Rattle.json.specs.Json.{Json};
 ghost use Rattle.jsonpath_nodes.specs.place.Location.{Location};
 ghost use Rattle.jpath_texts.specs.Exact.{IsImageOf};
-ghost use Rattle.jpath_core.specs.Columns.{ColumnsHold};
 ghost use Rattle.jpath_core.specs.Images.{ImageStandsAt};
+ghost use Rattle.jpath_core.specs.Printable.{EscapesHold};
 ghost use Rattle.jpath_core.specs.Renumbered.{OrderOfNumbersDecides};
 
 pub use jpath_texts::laws::{copies_keep_order, one_number_one_key};
@@ -23,8 +23,8 @@ pub fn order_of_numbers_decides()
     ensures { OrderOfNumbersDecides }
 {}
 
-/// Lemma: a text that is written as the first of two columns has no tab, no line feed and no carriage return there. If
-/// the text has none of these, the column is the text itself.
-pub fn columns_hold()
-    ensures { ColumnsHold }
+/// Lemma: what the escapes of a location leave has no control character, so neither a tab nor a line end. If a text has
+/// none, it is written as it is.
+pub fn escapes_hold()
+    ensures { EscapesHold }
 {}
