@@ -196,11 +196,15 @@ for words in ["--keys --entries '$'", "--keys --lengths '$'", "--entries --lengt
               "--lengths --tab '$'", "--keys --tab '$'", "--entries --seq '$'", "--keys --null '$.a'", "--keys --rows '$' -e '$' --csv"]:
     wants(f"jpath {words} a.json", 2, "", "jpath: *")
 
-# a name never breaks the columns of -L; with -l its location is the path that selects just that
+# control characters of a name are escaped in its location, so none breaks the columns of -L
 broken = b'{"a\\tb":1,"c\\nd":{"e\\r":2}}'
 wants("jpath -L '$.*'", 0, "$['a\\tb']\t1\n$['c\\nd']\t{\"e\\r\":2}\n", given=broken)
 wants("jpath -L '$..*' | cut -f 1", 0, "$['a\\tb']\n$['c\\nd']\n$['c\\nd']['e\\r']\n", given=broken)
-wants("jpath -l '$.*'", 0, "$['a\tb']\n$['c\nd']\n", given=broken)
+wants("jpath -l '$.*'", 0, "$['a\\tb']\n$['c\\nd']\n", given=broken)
+controls = '{"\\u001b[2J\\u0000\\u007f\x85":"\\u001b[2J\x9b\\r\\n\\t\\rx"}'.encode()
+wants("jpath -l '$.*'", 0, "$['\\u001b[2J\\u0000\\u007f\\u0085']\n", given=controls)
+wants("jpath -r '$.*'", 0, "\x1b[2J\x9b\r\n\t\rx\n", given=controls)
+wants("jpath --keys -r '$'", 0, "\x1b[2J\0\x7f\x85\n", given=controls)
 
 # exact numbers
 many = b'[{"n":0.1},{"n":1e-400},{"n":0},{"n":-0},{"n":1e999},{"n":12345678901234567890123},{"n":12345678901234567890124},{"n":100e-3},{"n":-2.5e3}]'
@@ -433,6 +437,20 @@ judge(b"\x1b[" in on_terminal("jpath '$' a.json", NO_COLOR=""), "colours on a te
 judge(b"\x1b[" not in on_terminal("jpath '$' a.json", NO_COLOR="1"), "no colours with NO_COLOR")
 judge(b"\x1b[" not in on_terminal("jpath -C never '$' a.json"), "no colours where they aren't wanted")
 wants("jpath -C always '$' a.json", 0, '{\x1b[34;1m"a"\x1b[0m:\x1b[36m7\x1b[0m}\n')
+
+# ---- no control character of a document on a terminal, but for tabs and line ends (before each of these it puts a return)
+
+with open(f"{folder}/controls.json", "wb") as it:
+    it.write(controls)
+for words, shown in [
+    ("-r -C never '$.*'", "\\u001b[2J\\u009b\r\r\n\t\\rx\r\n"),
+    ("-r '$.*'", "\\u001b[2J\\u009b\r\r\n\t\\rx\r\n"),
+    ("--keys -r '$'", "\\u001b[2J\\u0000\\u007f\\u0085\r\n"),
+    ("-C never '$'", '{"\\u001b[2J\\u0000\\u007f\\u0085":"\\u001b[2J\\u009b\\r\\n\\t\\rx"}\r\n'),
+    ("-C never --null '$.none'", controls.decode().replace("\x85", "\\u0085").replace("\x9b", "\\u009b")),
+]:
+    said = on_terminal(f"jpath {words} controls.json")
+    judge(said.decode() == shown, f"on a terminal jpath {words} writes {said}")
 
 # ---- completions, in the shells that are here
 

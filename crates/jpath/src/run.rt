@@ -4,6 +4,7 @@
 mod document_visitor;
 mod edited_document;
 mod one_document;
+mod terminal;
 
 use document_visitor::{DocumentVisitor, Stop};
 use jpath_core::{Ended, How, ReadFailure, add_header, add_line_end, visit_documents};
@@ -15,7 +16,7 @@ use jsonpath_streams::{Checked, IoFailed, Output};
 use std::alloc::Global;
 use std::cell::Cell;
 use std::fs::File;
-use std::io::Read;
+use std::io::{IsTerminal, Read};
 
 // How far a run is: the visitor, with the output held back, whether a match was found, and whether a file or an edit
 // failed.
@@ -35,8 +36,9 @@ pub fn run_over_files<'r>(rt: &'r HostRuntime, wanted: &'r Wanted<'_>) -> u8 {
         is_pipe_closed: &is_pipe_closed,
         writer: rt.stdout(),
     });
+    let is_terminal = rt.stdout().is_terminal();
     let mut run = Progress {
-        visit: DocumentVisitor::new(rt, wanted, writer),
+        visit: DocumentVisitor::new(rt, wanted, is_terminal, writer),
         has_found: false,
         has_failed: false,
     };

@@ -23,5 +23,6 @@ pub use jpath_texts::{
     visit_documents,
 };
 pub use output::matches::{add_array, add_lines_for_path, count_matches};
+pub use output::places::add_escape;
 pub use output::table::add_rows;
 pub use selection::{select_in_document, select_in_image};

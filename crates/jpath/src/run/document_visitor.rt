@@ -5,6 +5,7 @@ ghost use Rattle.jpath.specs.Gives.{Gives, IsWhyStopped};
 
 use crate::run::edited_document::Kept;
 use crate::run::one_document::add_output_for_document;
+use crate::run::terminal::escape_for_terminal;
 use jpath_core::{DocumentRefusal, Kind, MARK, Piece, Taken, Visitor};
 use jpath_files::{HeldOutput, RefusedDocument};
 use jpath_words::{Task, Wanted};
@@ -56,13 +57,21 @@ pub struct DocumentVisitor<'r, 'w, T, W> {
     pub output: HeldOutput<W>,
     pub has_refused: bool,
     pub kept: Kept,
+    // Whether a terminal gets the output.
+    is_terminal: bool,
     // What is written for the document at hand.
     text: Vec<u8>,
 }
 
 impl<'r, 'w, T: Eprint + Alloc<A = Global>, W: Output> DocumentVisitor<'r, 'w, T, W> {
-    /// A visitor that has visited no document yet: no output is buffered, and no document had an error.
-    pub fn new(rt: &'r T, wanted: &'r Wanted<'w>, writer: W) -> DocumentVisitor<'r, 'w, T, W> {
+    /// A visitor that has visited no document yet: no output is buffered, and no document had an error. `is_terminal`
+    /// says whether `writer` is a terminal, which gets control characters escaped.
+    pub fn new(
+        rt: &'r T,
+        wanted: &'r Wanted<'w>,
+        is_terminal: bool,
+        writer: W,
+    ) -> DocumentVisitor<'r, 'w, T, W> {
         DocumentVisitor {
             rt,
             wanted,
@@ -70,6 +79,7 @@ impl<'r, 'w, T: Eprint + Alloc<A = Global>, W: Output> DocumentVisitor<'r, 'w, T
             output: HeldOutput::new(rt.alloc(), writer),
             has_refused: false,
             kept: Kept::new(rt.alloc()),
+            is_terminal: is_terminal && !wanted.is_in_place,
             text: Vec::new(rt.alloc()),
         }
     }
@@ -112,6 +122,9 @@ impl<'r, 'w, T: Eprint + Alloc<A = Global>, W: Output> Visitor for DocumentVisit
         let (wanted, name) = (self.wanted, self.name);
         match add_output_for_piece(self.rt, wanted, name, piece, &mut self.kept, &mut self.text) {
             Ok(count) => {
+                if self.is_terminal {
+                    escape_for_terminal(self.rt.alloc(), &mut self.text)?;
+                }
                 self.output.hold_text(&mut self.text)?;
                 Ok(Taken {
                     count,

@@ -1,0 +1,48 @@
+//! What a terminal gets of a document's output: no control character that could move its cursor or change its state.
+
+use jpath_core::add_escape;
+use std::alloc::{AllocError, Global};
+use std::str;
+
+// The sequences by which colours are set and taken back.
+const COLORS: [&str; 5] = [
+    "\u{1b}[34;1m",
+    "\u{1b}[32m",
+    "\u{1b}[36m",
+    "\u{1b}[35m",
+    "\u{1b}[0m",
+];
+
+/// Escapes the control characters of a text, as `\u001b`, but for tabs, line ends and the sequences of colours. Inside a
+/// JSON text they then mean the same. After an error the text is as it was, or empty.
+pub fn escape_for_terminal(alloc: Global, text: &mut Vec<u8>) -> Result<(), AllocError> {
+    let shown = match str::from_utf8(text.as_slice()) {
+        Ok(text) => text_for_terminal(alloc, text)?,
+        Err(_) => return Ok(()),
+    };
+    text.clear();
+    text.extend_from_slice(shown.as_bytes())
+}
+
+// The text as a terminal gets it.
+fn text_for_terminal(alloc: Global, text: &str) -> Result<String, AllocError> {
+    let mut shown = String::new(alloc);
+    for (at, c) in text.char_indices() {
+        if is_harmless(c, text.get(at..).unwrap_or("")) {
+            shown.push(c)?;
+        } else {
+            add_escape(c, &mut shown)?;
+        }
+    }
+    Ok(shown)
+}
+
+// Whether a terminal may get a character as it is. The text begins with it.
+fn is_harmless(c: char, text: &str) -> bool {
+    match c {
+        '\n' | '\t' => true,
+        '\r' => text.starts_with("\r\n"),
+        '\u{1b}' => COLORS.iter().any(|color| text.starts_with(*color)),
+        _ => !c.is_control(),
+    }
+}
