@@ -6,7 +6,8 @@ file) and 'new:'. A copy of the crate with the edit is checked over the librarie
 calls. The others of these have to be proved, so that what is refused is the edited one. `rt ci` proves the crate without
 the edit; where GATE_LOG names its log, an edit is tried once that says so.
 
-Edits of different functions of a crate stand in one copy: who calls a function goes by its clauses, whatever its body.
+Edits of different functions of a crate stand in one copy: who calls a function goes by its clauses, whatever its body. Of
+such a caller the prover says that it calls what is not proved, which is no fault.
 
 What is read off a run is first tried on runs that are made up here.
 """
@@ -69,12 +70,24 @@ def check(batch, uses):
         return above.check(room, crate, libraries, own, [it for edit in batch for it in ("--only", edit.function)])
 
 
+def callers_of(edited, verdicts):
+    """The functions that are not proved since they call one of these, or one that does."""
+    found = set()
+    for _ in verdicts:
+        for name, verdict in verdicts.items():
+            called = re.search(r": it calls `([^`]+)`, which is not proved", f": {verdict}")
+            if called and called[1] in edited | found and name not in edited:
+                found.add(name)
+    return found
+
+
 def faults(edit, said, beside=()):
     """Why a run doesn't say that the edited function is refused at its goal, and no other but those of the edits beside it."""
     function = f"{edit.crate}::{edit.function}"
     verdicts = dict(re.findall(r"^fn (\S+): (.*)$", said, re.MULTILINE))
-    for other in beside:
-        verdicts.pop(f"{other.crate}::{other.function}", None)
+    edited = {f"{it.crate}::{it.function}" for it in (edit, *beside)}
+    for other in callers_of(edited, verdicts) | edited - {function}:
+        verdicts.pop(other, None)
     told = re.findall(r"^(?:note: )?(?:\./)?(\S+?):\d+:\d+: (.*)$", said, re.MULTILINE)
     goals = [f"{file} {goal}" for file, text in told for goal in re.findall(r"\(`([^`]+)`\)|error: `([^`]+)`", text) for goal in goal if goal]
     found = []
@@ -110,8 +123,9 @@ def tries():
     """How many of the runs that are made up are told apart rightly, and how many not."""
     edit, other = made_up_edit("a", "b::f", "src/b.rt returns"), made_up_edit("a", "g", "src/b.rt other")
     wrong = [said for said, passes in MADE_UP if (not faults(edit, said)) != passes]
-    both = REFUSED.replace("g: proved", "g: not proved") + OPEN
-    if faults(edit, both, [other]) or not faults(other, both, [edit]):
+    both = REFUSED.replace("g: proved", "g: not proved") + OPEN + "\nfn a::h: no proof: it calls `a::g`, which is not proved"
+    both += "\nfn a::i: no proof: it calls `a::h`, which is not proved"
+    if faults(edit, both, [other]) or not faults(other, both, [edit]) or not faults(edit, both.replace("`a::g`", "`a::z`"), [other]):
         wrong.append(both)
     for said in wrong:
         print(f"edits: the made-up run {said!r} is not told apart")

@@ -13,8 +13,8 @@ returns g c =
       list,
       subst (λ ws. Pairwise IsArgumentOf ws list) c.as_slice.ensures.value c.in_ok-arguments.ensures,
       record {
-        paths = subst (λ ts. AreFilled list ts texts) (c.as_slice-3.ensures.value ∙ c.in_ok-paths.ensures.paths) (subst (λ x. AreFilled x c.as_slice-3.result.now texts) same c.in_ok-filled_texts.ensures);
-        rows = subst (λ ts. AreFilled list ts rows) (c.as_slice-4.ensures.value ∙ c.in_ok-rows.ensures) (subst (λ x. AreFilled x c.as_slice-4.result.now rows) same c.in_ok-filled_texts-2.ensures);
-        edits = subst (λ es. Pairwise (IsFilledEdit list) es edits) c.as_slice-5.ensures.value (subst (λ x. Pairwise (IsFilledEdit x) c.as_slice-5.result.now edits) same c.in_ok-filled_edits.ensures);
+        paths = subst (λ ts. AreFilled list ts texts) c.in_ok-paths.ensures.paths (subst (λ x. AreFilled x c.in_ok-paths.paths.now texts) same c.in_ok-filled_texts.ensures);
+        rows = subst (λ ts. AreFilled list ts rows) (c.as_slice-2.ensures.value ∙ c.in_ok-rows.ensures) (subst (λ x. AreFilled x c.as_slice-2.result.now rows) same c.in_ok-filled_texts-2.ensures);
+        edits = subst (λ es. Pairwise (IsFilledEdit list) es edits) c.as_slice-3.ensures.value (subst (λ x. Pairwise (IsFilledEdit x) c.as_slice-3.result.now edits) same c.in_ok-filled_edits.ensures);
       },
     )
