@@ -21,16 +21,17 @@ use jsonpath_nodes::laws::spots_show_their_locations;
 use jsonpath_nodes::{Location, compute_paths};
 use std::alloc::Global;
 
-/// The result of an edit of a document: the edited text, and how many locations its path selects.
+/// The result of an edit of a document: the edited text, how many values, members or items the edit is about, and
+/// whether its path selects the root.
 #[derive(Drop)]
 pub struct Edited {
     /// The text of the edited document.
     pub text: Vec<u8>,
-    /// How many locations below the root the path of the edit selects; for an edit that adds or renames members or
-    /// items, how many of them.
+    /// For an edit that replaces or removes values: how many different locations below the root its path selects. For
+    /// an edit that adds or renames: how many members or items were added, or how many members were renamed.
     pub targets: usize,
-    /// Whether the path of the edit selects the root, which can be neither replaced nor removed; false for an edit that
-    /// adds or renames members or items.
+    /// Whether the path of the edit selects the root, which can be neither replaced nor removed; false if members or
+    /// items were added, or members renamed.
     pub selects_root: bool,
 }
 

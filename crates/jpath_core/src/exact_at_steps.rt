@@ -24,8 +24,9 @@ pub fn exact_value_at_steps<'v, 'a>(
 }
 
 /// The value to which these steps lead in an exact tree, which is the tree of a JSON text with each number as it is
-/// written; `None` if there is no such value. Precondition: each number of the tree is written as JSON allows, as in
-/// any tree read from a text. The same then holds for the returned value, so that it can be printed.
+/// written; `None` if there is no such value. Of a repeated name, the last value counts. Precondition: each number of
+/// the tree is written as JSON allows, as in any tree read from a text. The same then holds for the returned value, so
+/// that it can be printed.
 pub fn printable_value_at_steps<'v, 'a>(
     root: &'v Exact<'a>,
     steps: Steps<'_, '_>,

@@ -17,14 +17,15 @@ pub fn image_has_same_locations()
     ensures { (l : Location) (exact : Json) (document : Data) → IsImageOf exact document → ImageStandsAt exact document l }
 {}
 
-/// Lemma: what a path selects depends on numbers only by how they are ordered. If the numbers of a document and of the
-/// path's literals are replaced by others in the same order, the path selects the same list.
+/// Lemma: what a path selects depends on numbers only by how they are ordered. Replace the numbers of a document and
+/// the literals that the path's filters compare, both by one mapping that keeps the order of numbers, and leave the
+/// indexes in the path: the path then selects the same list of locations.
 pub fn order_of_numbers_decides()
     ensures { OrderOfNumbersDecides }
 {}
 
-/// Lemma: what the escapes of a location leave has no control character, so neither a tab nor a line end. If a text has
-/// none, it is written as it is.
+/// Lemma: a text whose control characters are escaped, as in a printed location, has no control character, so neither
+/// a tab nor a line end. A text that has none from the start is printed as it is.
 pub fn escapes_hold()
     ensures { EscapesHold }
 {}

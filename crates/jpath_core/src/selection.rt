@@ -13,8 +13,9 @@ use jsonpath_select::{JsonPathError, select_path, select_tokens, tokens_fit};
 use serde_json::Value;
 use std::alloc::Global;
 
-/// The nodes that a path selects in a document, in the order in which the path's steps find them, with duplicates. They
-/// are nodes of the document's image, the copy of it on which paths are run. The only error is `OutOfMemory`.
+/// The nodes that a path selects in a document, in the order in which the path's steps find them (`*` finds members in
+/// the order of their names' bytes), with duplicates; may be empty. They are nodes of the document's image, the copy of
+/// it on which paths are run. The only error is `OutOfMemory`.
 pub fn select_in_document<'v>(
     alloc: Global,
     document: &'v Document<'_>,

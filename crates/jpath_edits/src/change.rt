@@ -35,9 +35,10 @@ impl<'c> Change<'c> {
 }
 
 /// The text of a document with `change` made, all at once, at each location of `places` except the root and locations
-/// below another changed one. `exact` is the document's exact tree, which keeps numbers as written, and `places` is in
-/// document order. Errors: `EditDiffers` if a part of the text that is to be replaced, read by itself, is not the value
-/// that `exact` has at that location, which would be a fault of this library; or `OutOfMemory`.
+/// below another changed one. `exact` is the document's exact tree, which keeps numbers as written. `places` has each
+/// location once, in document order: parents first, names by bytes, indexes by number. Errors: `EditDiffers` if a part
+/// of the text that is to be replaced, read by itself, is not the value that `exact` has at that location, which would
+/// be a fault of this library; or `OutOfMemory`.
 pub fn changed_text(
     alloc: Global,
     text: &str,

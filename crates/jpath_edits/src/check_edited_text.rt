@@ -41,10 +41,11 @@ fn document_with_change(
     }
 }
 
-/// Whether the edited text `written`, read again, is the original document with the change made at `places`, which are
-/// in document order, each once; false if it is not UTF-8. `image` is the original document as `serde_json` reads it,
-/// `None` if it rejects a number there. If it rejects a number of the document or of the new value, all numbers count
-/// as equal. Errors: `EditNests` if the edited text or the new value can't be read, or `OutOfMemory`.
+/// Whether the edited text `written`, read again, is the original document, read from `text`, with the change made at
+/// `places`, each once, in document order: parents first, names by bytes, indexes by number. False if `written` is not
+/// UTF-8. `image` is the original document as `serde_json` reads it, `None` if `serde_json` rejects a number there. If
+/// it rejects a number of the document or of the new value, all numbers count as equal. Errors: `EditNests` if the
+/// edited text or the new value can't be read, or `OutOfMemory`.
 pub fn are_bytes_of_changed_document(
     alloc: Global,
     text: &str,

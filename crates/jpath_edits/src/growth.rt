@@ -41,15 +41,15 @@ pub enum Growth<'c, 'v> {
 pub struct Grown {
     /// The edited text.
     pub text: Vec<u8>,
-    /// How many members or items were added, or how many members were renamed.
+    /// How many members or items were added, or how many members were renamed, each member of a repeated name counted.
     pub count: usize,
 }
 
 /// The text of a document with members or items added or members renamed, as `growth` says, at each location of
 /// `places` that is not below another one of them. `exact` is the document's exact tree, which keeps numbers as
-/// written, and `places` is in document order. To add a member or an item, the locations are those of the objects or
-/// arrays to which it is added; a value of another type stays as it is. To rename, they are the locations of the
-/// members.
+/// written. `places` has each location once, in document order: parents first, names by bytes, indexes by number. To
+/// add a member or an item, the locations are those of the objects or arrays to which it is added; a value of another
+/// type stays as it is. To rename, they are the locations of the members.
 ///
 /// A new member or item has the same blanks before it as the one before it. If that is the only one and has no blanks,
 /// the new one has one blank if the document has a blank after its first colon, else none. If the new one is the first,

@@ -7,8 +7,8 @@ ghost use Rattle.jpath_edits.specs.Changed.{below_root};
 use jsonpath_nodes::Location;
 use std::alloc::{AllocError, Global};
 
-/// The locations of a list except the root's. The list must be in document order, each location once, so that only its
-/// first can be the root's.
+/// The locations of a list except the root's; may be empty. The list must have each location once and be in document
+/// order, in which the root comes first, so that only the list's first location can be the root's.
 pub fn locations_below_root(places: &[Location]) -> &[Location]
     ensures { result.now ≡ below_root places.now }
 {

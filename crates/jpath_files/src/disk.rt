@@ -38,9 +38,10 @@ pub enum Call<'a> {
 /// The file of an edit in place whose facts (owner, size and so on) are asked for.
 #[derive(Clone, Copy, Drop)]
 pub enum Place {
-    /// Whatever file is now at the path of the edited file.
+    /// The file that is now at the path of the edited file: the edited file, or another one that has replaced it.
     Path,
-    /// Whatever file is at the path chosen for the new file. (The new file is to replace the edited file.)
+    /// The file beside the edited one (in the same folder), at the path chosen for the new file that is to replace it:
+    /// the new file, or a foreign file that is there instead.
     Beside,
     /// The new file that this edit has created and opened.
     NewFile,
@@ -51,11 +52,13 @@ pub enum Place {
 pub trait Disk {
     ghost state: { Self → DiskState };
 
-    /// Makes a system call on the edited file, on the new file beside it, or on their folder.
+    /// Makes a system call on the edited file, on the new file beside it, or on their folder. An error if the system
+    /// call fails, or needs the new file or the open folder and there is none.
     fn call(&mut self, call: Call<'_>) -> io::Result<()>
         ensures { Does call.entry (is_ok result) (state self.old) (state self.new) };
 
-    /// What the system knows of one of the files of an edit in place: its owner, size, times and so on.
+    /// What the system knows of one of the files of an edit in place: its owner, size, times and so on. An error if
+    /// there is no such file, or the system call fails.
     fn facts(&mut self, place: Place) -> io::Result<FileFacts>
         ensures { MatchResult result (λ facts. Tells (IsKnown place facts) (state self.old) (state self.new)) (λ _. state self.new ≡ state self.old) };
 
@@ -63,7 +66,7 @@ pub trait Disk {
     fn size_limit(&mut self) -> u64
         ensures { state self.new ≡ state self.old };
 
-    /// Fills the buffer with the first bytes of the edited file. An error if the file has fewer bytes.
+    /// Fills the buffer with the first bytes of the edited file. An error if the file has fewer bytes or a read fails.
     fn read(&mut self, buffer: &mut [u8]) -> io::Result<()>
         ensures { MatchResult result (λ _. Tells (IsFront buffer.new) (state self.old) (state self.new)) (λ _. state self.new ≡ state self.old) };
 }

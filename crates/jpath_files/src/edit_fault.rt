@@ -28,7 +28,7 @@ pub enum EditFault {
     /// The edited text is in the file, but a call that forces the file's folder to the disk (`fsync`) failed: in a
     /// crash the text may be lost.
     Unsynced(io::Error),
-    /// A system call failed, and the file is as it was: nothing was changed yet, or all was restored.
+    /// A system call failed or memory ran out, and the file is as it was: nothing was changed yet, or all was restored.
     Failed(io::Error),
 }
 

@@ -34,8 +34,9 @@ pub struct FileToEdit<'r> {
 }
 
 /// Opens a file to be edited in place, as `way` says, and locks it; for a symbolic link, the file that it leads to. If
-/// another edit has locked the file, waits until that is done, some ten seconds at most. Errors: it is not regular; it
-/// has several hard links and `way` is `NewFile`; it stays locked; or it can't be opened or locked.
+/// another edit has locked the file, waits until that is done, some ten seconds at most. Errors: `NotRegular`;
+/// `HardLinks` if it has several and `way` is `NewFile`; `Locked` if it is still locked after that time; `NoLock`; or
+/// `Failed` if it can't be opened or memory ran out.
 pub fn open_to_edit<'r>(
     rt: &'r HostRuntime,
     name: &str,

@@ -26,7 +26,7 @@ pub struct Document<'a> {
     /// The exact tree of the document: numbers as written, members in the order of the text. It borrows the text.
     pub exact: Exact<'a>,
     /// The image of the document, on which paths are run: the same values, with the numbers represented as the field
-    /// `numbers` says.
+    /// `numbers` says. Each name of an object is there once, with its last value, in the order of the names' bytes.
     pub image: Value,
     /// How the image, the copy of the document on which paths are run, represents its numbers.
     pub numbers: Numbers,

@@ -26,7 +26,8 @@ pub struct Compared {
     /// Whether some filter may compare numbers: it has a comparison of which neither side is a text literal or a
     /// boolean literal.
     pub is_any: bool,
-    /// The literal numbers that the filters of the paths compare.
+    /// The number literals that the filters of the paths compare, one for each time it is written; may be empty. The
+    /// order doesn't matter.
     pub literals: Vec<Decimal>,
 }
 

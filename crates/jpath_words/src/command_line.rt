@@ -349,7 +349,7 @@ pub struct Flags {
     pub join: bool,
     pub nul: bool,
     pub seq: bool,
-    /// The number of blanks that `--indent` gives.
+    /// The number of blanks for each level of indentation that `--indent` sets; `None` without that option.
     pub indent: Option<usize>,
     pub color: Color,
 }
@@ -365,7 +365,8 @@ pub struct Words<'a> {
     pub arguments: Vec<ArgumentWords<'a>>,
     /// The edit options, each with the words after it, in the order of the command line.
     pub edits: Vec<EditWords<'a>>,
-    /// The words on the command line that belong to no option: the path and the files.
+    /// The words that belong to no option, in the order of the command line: the path first, unless paths are set by
+    /// `-e` or edits, then the files.
     pub rest: Vec<&'a str>,
 }
 
@@ -374,13 +375,14 @@ pub struct Words<'a> {
 pub enum ParseOutcome<'a> {
     /// The options and words of the command line, parsed.
     Words(Words<'a>),
-    /// The program has to exit with this status: help, the version or completions were asked for and are printed, or
-    /// an option was wrong and the error is printed.
+    /// The program has to exit with this status: 0 if help, the version or completions were asked for and are printed,
+    /// 2 if an option was wrong and the error is printed.
     Ended(u8),
 }
 
 /// Parses the command line, whose first word is the program's name, into options and other words. Help, the version,
-/// completions and errors are printed here; the program then has to exit with the status that is returned.
+/// completions and errors are printed here; the program then has to exit with the status that is returned. The only
+/// error is that memory ran out.
 pub fn parse_words<'a>(
     rt: &(impl Print + Eprint + Alloc<A = Global>),
     words: &'a [String],

@@ -26,10 +26,10 @@ use std::slice;
 /// What `jpath` writes for each document: lines, an array, a count, a table, or the edited text.
 #[derive(Drop)]
 pub enum Task<'a> {
-    /// Writes lines for each value that one of the paths selects, with the value, its location or both, the names of its
-    /// members or its length.
+    /// Writes lines for each value that one of the paths selects, path by path, with the value, its location or both,
+    /// the names of its members or its length.
     Lines(Vec<Query<'a>>, Shown),
-    /// Writes one JSON array for each document, with all values that the paths select.
+    /// Writes one JSON array for each document, with all values that the paths select, path by path, with duplicates.
     Array(Vec<Query<'a>>),
     /// Writes, for each file, the number of values that the paths select in all its documents.
     Count(Vec<Query<'a>>),
@@ -37,11 +37,12 @@ pub enum Task<'a> {
     Quiet(Vec<Query<'a>>),
     /// Writes a table: a row for each value that one path selects, and in it a field for each of the other paths.
     Table(Table<'a>),
-    /// Writes each document with these edits made.
+    /// Writes each document with these edits made, one after another, in the order of the command line.
     Edits(Vec<Edit<'a>>),
 }
 
-/// The table that `jpath` writes: the path whose selected values are its rows, and the paths and names of its columns.
+/// The table that `jpath` writes: the path whose selected values are its rows, and the paths and names of its columns:
+/// two lists of equal length, both in the order of the options `-e`.
 #[derive(Drop)]
 pub struct Table<'a> {
     pub rows: Query<'a>,
@@ -66,7 +67,8 @@ pub struct Edit<'a> {
     pub member: Option<NamedMember>,
 }
 
-/// Everything that the command line of `jpath` asks for: the task, how lines look, and the files.
+/// Everything that the command line of `jpath` asks for: the task, how lines look, and the files; if there is no file,
+/// standard input is read.
 #[derive(Drop)]
 pub struct Wanted<'a> {
     pub task: Task<'a>,

@@ -15,7 +15,8 @@ use crate::moves::move_of;
 pub struct State {
     pub mode: Mode,
     pub depth: usize,
-    /// For each array or object that is open, from the outermost: true for an object, false for an array.
+    /// The first `depth` elements say what each open array or object is, from the outermost: true for an object, false
+    /// for an array. The others mean nothing.
     pub kinds: [bool; 127],
 }
 

@@ -53,7 +53,8 @@ impl Action {
 
 /// Makes the call of `action` `count` times. Returns the total time, and the number of results of one call: how many
 /// values or nodes the path selects, for an update too; 0 or 1 for `First` and `Exists`; 1 for compiling. Each update
-/// changes a fresh copy of the document; making the copies is not timed.
+/// changes a fresh copy of the document; making the copies is not timed. Errors: `path` is no path, memory ran out, or
+/// the clock can't be read.
 pub fn measure(
     rt: &HostRuntime,
     action: Action,

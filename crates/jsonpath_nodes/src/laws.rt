@@ -45,7 +45,8 @@ pub fn all_locations_stand_below_root()
     ensures { BelowIsAll }
 {}
 
-/// Lemma: the list of all locations at or below the root of a document is in document order, each once.
+/// Lemma: the list of all locations at or below the root of a document is in document order (parents before children,
+/// members by their names' bytes, items by index), each once.
 ///
 /// ```text
 /// laws::locations_below_root_ascend();
@@ -54,8 +55,8 @@ pub fn locations_below_root_ascend()
     ensures { BelowAscends }
 {}
 
-/// Lemma: sorting a list of locations into document order and dropping repeats yields a strictly ascending list with
-/// exactly the locations of the original.
+/// Lemma: sorting a list of locations into document order (parents before children, members by their names' bytes,
+/// items by index) and dropping repeats yields a strictly ascending list with exactly the locations of the original.
 ///
 /// ```text
 /// laws::locations_once_in_order_ascend();
@@ -122,8 +123,9 @@ pub fn updates_put_one_answer_in_turn<F: FnMut(Value) -> Option<Value>>(_closure
         → (ls : List Location) (before after : Document) (f g : F) → RunsWith F.FnMut ls before f g after → after ≡ update_each answer ls before }
 {}
 
-/// Lemma: for a list of locations in document order, each once, removing the values there all at once is the same as
-/// removing them one after another, from the last location back to the first.
+/// Lemma: for a list of locations in document order (parents before children, members by their names' bytes, items by
+/// index), each once, removing the values there all at once is the same as removing them one after another, from the
+/// last location back to the first.
 ///
 /// ```text
 /// laws::taking_at_once_is_in_turn();
@@ -145,8 +147,9 @@ pub fn nulling_and_taking_ignore_order()
 /// Lemma: the set of nodes that a step or `..` selects, and the set of values that a filter tests, depend only on the
 /// set of locations from which the step, `..` or the filter starts, not on their order or on repeats. The same holds
 /// for the set of those locations that meet a condition, and for whether any of them does. Two lists with the same set
-/// of locations become equal when they are put in document order, each location once.
-///
+/// for the set of those locations that meet a condition, and for whether any of them does. Two lists with the same set
+/// of locations become equal when they are put in document order (parents before children, members by their names'
+/// bytes, items by index), each location once.
 /// ```text
 /// laws::steps_ignore_order_and_repeats();
 /// ```

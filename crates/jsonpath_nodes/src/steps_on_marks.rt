@@ -16,7 +16,8 @@ use crate::step::plain_step::PlainStep;
 use crate::step::stride::{Stride, listed_names, plain_step_of_selection};
 use std::alloc::Global;
 
-/// Returns the children that a step other than a filter, such as `[0]`, selects from each node.
+/// Returns the children that a step other than a filter, such as `[0]`, selects from each node: node after node, those
+/// of one node in the order that `PlainStep` gives for the step, with duplicates.
 ///
 /// ```text
 /// let items = steps_on_marks::plain_step_from_each(alloc, &[&document], &PlainStep::Every)?;
@@ -65,7 +66,8 @@ fn selected_children_of_each<'a, M: Mark<'a>>(
     Ok(found)
 }
 
-/// The member of the given name, from each node that is an object and has one. The name is taken literally.
+/// The member of the given name, from each node that is an object and has one, in the order of the nodes. The name is
+/// taken literally, without quotes or escapes.
 ///
 /// ```text
 /// let found = steps_on_marks::named_member_from_each(alloc, &[&document], "a")?;
@@ -107,8 +109,9 @@ pub fn add_named_member<'a, M: Mark<'a>>(
     Ok(())
 }
 
-/// Applies a step other than a filter, such as `[0]`, to each node and to all its descendants, in preorder, as `..`
-/// does. The only error is `NoMemory`.
+/// Returns what a step other than a filter, such as `[0]`, selects from each node and from all its descendants, as
+/// after `..`. They are visited in preorder: each value before its children, items by index, members by their names'
+/// bytes. The only error is `NoMemory`.
 ///
 /// ```text
 /// let found = steps_on_marks::plain_step_from_all_below(alloc, &[&document], &PlainStep::Named("a"))?;
@@ -130,7 +133,8 @@ pub fn plain_step_from_all_below<'a, M: Mark<'a>>(
 }
 
 /// Returns what a `Stride`, a step other than a filter, selects from each node or, if the `Stride` has `..` (its field
-/// `leaves` is true), from each node and all its descendants, in preorder.
+/// `leaves` is true), from each node and all its descendants, in preorder: items by index, members by their names'
+/// bytes. The only error is `NoMemory`.
 ///
 /// ```text
 /// let second = Stride {

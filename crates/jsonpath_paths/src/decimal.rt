@@ -17,8 +17,7 @@ pub struct Decimal {
 
 const ONE: i128 = 1_000_000_000_000_000_000;
 
-// The number with this whole part and `fraction` units of 10^-18 behind the point, or its negative. That the parts are
-// in range was checked before.
+// The number with this whole part and `fraction` units of 10^-18, both in range, or its negative.
 pub(crate) fn decimal_of_parts_in_range(negative: bool, whole: u64, fraction: u64) -> Decimal
     requires { fraction < 10 ^ 18 }
     ensures { result ≡ decimal_from negative whole fraction }

@@ -56,7 +56,7 @@ impl fmt::Display for Outcome {
 }
 
 /// Calls the function `run` of `jsonpath_run` with the arguments and the input of a test row, and returns what it wrote
-/// and its status.
+/// and its status, also if the run fails. The only error is that memory ran out here.
 pub fn outcome_of(alloc: Global, row: &Row) -> Result<Outcome, AllocError> {
     let words = row
         .words

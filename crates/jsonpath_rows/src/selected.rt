@@ -38,7 +38,7 @@ impl Method {
 }
 
 /// Whether selecting in the way `way` gives the output or the error that a test row expects. `None` if the row is not
-/// about the command `select` with one path.
+/// about the command `select` with one path. The only error is `OutOfMemory`.
 pub fn is_selected(alloc: Global, row: &Row, way: Method) -> Result<Option<bool>, JsonPathError> {
     let [command, path] = row.words.as_slice() else {
         return Ok(None);

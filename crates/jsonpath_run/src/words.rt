@@ -10,15 +10,17 @@ ghost use Rattle.jsonpath_run.specs.Words.{IsCall, IsUsage, IsCount};
 /// ```
 #[derive(Clone, Copy, Debug, PartialEq, Eq)]
 pub enum Command {
-    /// The command that writes the list of the values that a path selects in a document.
+    /// The command that writes, as a JSON array, the values that a path selects in the document, in the order in which
+    /// the path finds them, with duplicates.
     Select,
-    /// The command that writes the document with null in place of each value that a path selects.
+    /// The command that writes the document with null in place of each value below the root that a path selects.
     Delete,
-    /// The command that writes the document without the values that a path selects.
+    /// The command that writes the document without the values below the root that a path selects.
     Remove,
-    /// The command that writes `ok` if a text is a path.
+    /// The command that writes `ok` if a text is a path; if it is none, `run` returns the error `Refused`.
     Check,
-    /// The command that writes the document with null in place of each value that any of several paths selects.
+    /// The command that writes the document with null in place of each value below the root that any of one or more
+    /// paths selects.
     Mask,
 }
 
@@ -36,12 +38,13 @@ pub enum Command {
 pub struct Call<'w, 'a> {
     /// The command that the first argument names.
     pub command: Command,
-    /// The texts of the paths, in the order of the command line. They may have syntax errors.
+    /// The texts of the paths, in the order of the command line: from `parse_call` exactly one, for `Mask` one or more.
+    /// They may have syntax errors.
     pub paths: &'w [&'a str],
 }
 
-/// Parses the command line of the program `jsonpath_run`, without the program's name. `None` if the command is unknown
-/// or the number of paths is wrong for it.
+/// Parses the command line of the program `jsonpath_run`, without the program's name. `None` if the command is missing
+/// or unknown, or if not exactly one path follows it (for `mask`, if no path follows it).
 ///
 /// ```text
 /// assert!(rt; parse_call(&["select", "$.a"]).is_some());

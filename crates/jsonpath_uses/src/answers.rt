@@ -18,7 +18,8 @@ use jsonpath_lib::{
 use serde_json::Value;
 use std::alloc::Global;
 
-/// Selects by `$.price`: the value of the member `price` if `json` is an object that has one, else an empty list.
+/// Selects by `$.price`: a list of the value of the member `price` if `json` is an object that has one, else an empty
+/// list. The only error is `OutOfMemory`.
 pub fn price<'a>(alloc: Global, json: &'a Value) -> Result<Vec<&'a Value>, JsonPathError>
     ensures { IfOk result (λ found. map (λ v. document_of (view v.now)) found.items
         ≡ option_to_list (get (codes "price") (document_of (view json.now)))) }
@@ -28,8 +29,9 @@ pub fn price<'a>(alloc: Global, json: &'a Value) -> Result<Vec<&'a Value>, JsonP
     select(alloc, json, "$.price")
 }
 
-/// A list with the value at the location, or an empty list if it doesn't exist. Compiles the location's text as a path;
-/// a path has no index from 2^63 on, so no index of the location may be that large.
+/// A list of the value at the location, or an empty list if `json` has no such location. The only error is
+/// `OutOfMemory`. Compiles the location's text as a path; a path has no index from 2^63 on, so no index of the location
+/// may be that large.
 pub fn value_at<'a>(
     alloc: Global,
     json: &'a Value,
@@ -47,7 +49,8 @@ pub fn value_at<'a>(
     select(alloc, json, text.as_str())
 }
 
-/// The text of a JSON array of the values that the path selects: for `$[*].name`, say, the names in a list of records.
+/// The text of a JSON array of the values that the path selects, in its order (for `$[*].name`, say, names of records).
+/// Errors: `Path` if `path` is no path, `Serde` for a number that is no `i64` or `u64`, such as 1.5, or `OutOfMemory`.
 pub fn column_text(alloc: Global, json: &Value, path: &str) -> Result<String, JsonPathError>
     ensures { IfOk result (λ text. (values : List Data) × Selects path.now (document_of (view json.now)) (map document_of values) × (list_text values ≡ Some (string_bytes text))) }
 {
@@ -66,7 +69,8 @@ pub fn compile_bare_name(alloc: Global) -> Result<PathParser<'static>, TokenErro
     PathParser::compile(alloc, "$.a[b]")
 }
 
-/// Whether the path selects exactly `count` values in the document, duplicates included.
+/// Whether the path selects exactly `count` values in the document, duplicates included. Errors: `Path` if the text is
+/// no path, or `OutOfMemory`.
 pub fn selects_exactly(
     alloc: Global,
     json: &Value,
@@ -79,7 +83,8 @@ pub fn selects_exactly(
     Ok(found.len() == count)
 }
 
-/// Selects by the path with a `JsonSelector` and with a `Selector`, and returns the two lists, which are equal.
+/// Selects by the path with a `JsonSelector` and with a `Selector`, and returns the two lists, which are equal. Errors:
+/// `Path` if the text is no path, or `OutOfMemory`.
 pub fn select_by_both_selectors<'a>(
     alloc: Global,
     json: &'a Value,
@@ -99,7 +104,7 @@ pub fn select_by_both_selectors<'a>(
 }
 
 /// Selects in an array of books by `$[?((@.isbn) && (@.price < 1000))]` and by the path with these two conditions in
-/// the other order, and returns the two lists, which are equal.
+/// the other order, and returns the two lists, which are equal. The only error is `OutOfMemory`.
 pub fn select_with_both_condition_orders<'a>(
     alloc: Global,
     books: &'a Value,

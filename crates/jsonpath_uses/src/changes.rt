@@ -14,8 +14,8 @@ use jsonpath_lib::{
 use serde_json::Value;
 use std::alloc::Global;
 
-/// Puts null at what two paths select, in two equal values: in `one` by `first` and `second`, in `other` by `second`
-/// and `first`. Returns the two results, which are equal, or `None` if a text is no path or memory runs out.
+/// Puts null at what two paths select below the root, in two equal values: in `one` by `first` and `second`, in `other`
+/// by `second` and `first`. Returns the two results, which are equal; `None` if a text is no path or memory runs out.
 pub fn mask_in_either_order(
     alloc: Global,
     one: Value,
@@ -37,7 +37,8 @@ pub fn mask_in_either_order(
     Some((one, other))
 }
 
-/// The document `config` with true in place of the value at `$.log.on`, if it has one there. All else stays.
+/// The document `config` with true in place of the value at `$.log.on`, if it has one there. All else stays. The only
+/// error is `OutOfMemory`; the document is then dropped.
 pub fn with_log_switched_on(alloc: Global, config: Value) -> Result<Value, JsonPathError>
     ensures on { IfOk result (λ changed. IsSome (at (document_of (view config)) (name (codes "log") ∷ name (codes "on") ∷ []))
         → at (document_of (view changed)) (name (codes "log") ∷ name (codes "on") ∷ []) ≡ Some (boolean true)) }
@@ -52,6 +53,7 @@ pub fn with_log_switched_on(alloc: Global, config: Value) -> Result<Value, JsonP
 }
 
 /// Removes by `$.price`, twice: the first call removes the member `price`, if there is one, the second changes nothing.
+/// The only error is `OutOfMemory`; the first call may have removed the member before it.
 pub fn remove_price_twice(alloc: Global, json: &mut Value) -> Result<(), JsonPathError>
     ensures { OnOk result (document_of (view json.new) ≡ update (name (codes "price") ∷ []) None (document_of (view json.old))) }
 {
@@ -65,8 +67,8 @@ pub fn remove_price_twice(alloc: Global, json: &mut Value) -> Result<(), JsonPat
     Ok(())
 }
 
-/// The document without the values that any of these paths selects. All paths select before anything is removed. The
-/// error is that of a text that is no path, or `OutOfMemory`; the document is then dropped.
+/// The document without the values below the root that any of these paths selects. All paths select before anything is
+/// removed. Errors: `Path` for the first text that is no path, or `OutOfMemory`; the document is then dropped.
 pub fn without_secrets(alloc: Global, json: Value, secrets: &[&str]) -> Result<Value, JsonPathError>
     ensures { IfOk result (λ left. AreRemoved (map (λ p. p.now) secrets.now) (document_of (view json)) (document_of (view left))) }
 {

@@ -13,8 +13,8 @@ use serde_json::Value;
 use std::alloc::Global;
 use std::rc::Rc;
 
-/// Puts a compiled path into a `JsonSelector` or a `JsonSelectorMut` by `set_parser`. After an error the selector has
-/// the path that it had before.
+/// Puts a compiled path into a `JsonSelector` or a `JsonSelectorMut` by `set_parser`. The only error is `OutOfMemory`;
+/// the selector then has the path that it had before.
 pub fn set_parser_in_pair<'a, V: HeldValue>(
     alloc: Global,
     held: &mut HeldPair<Rc<PathParser<'a>>, V>,
@@ -27,7 +27,8 @@ pub fn set_parser_in_pair<'a, V: HeldValue>(
     Ok(())
 }
 
-/// Sets the path of a `Selector` or `SelectorMut` by `set_path`. After an error it has the path that it had before.
+/// Sets the path of a `Selector` or `SelectorMut` by `set_path`. Errors: `Path` if the text is no path, or
+/// `OutOfMemory`; the selector then has the path that it had before.
 pub fn set_path_in_pair<P: OfNode + Drop, V: HeldValue>(
     alloc: Global,
     held: &mut HeldPair<P, V>,
@@ -40,7 +41,8 @@ pub fn set_path_in_pair<P: OfNode + Drop, V: HeldValue>(
     Ok(())
 }
 
-/// Sets two path texts in a `Selector`, one after the other, and returns what the second selects.
+/// Sets two path texts in a `Selector`, one after the other, and returns the values that the second selects, in its
+/// order, with duplicates. Errors: `Path` if one of the texts is no path, or `OutOfMemory`.
 pub fn select_by_second_path<'a>(
     alloc: Global,
     json: &'a Value,
@@ -56,7 +58,8 @@ pub fn select_by_second_path<'a>(
     held.select(alloc)
 }
 
-/// Sets a path in a `Selector`, once, and returns what it selects in a first document and in a second one.
+/// Sets a path in a `Selector`, once, and returns the values that it selects in `one` and those in `other`, each in the
+/// path's order, with duplicates. Errors: `Path` if the text is no path, or `OutOfMemory`.
 pub fn select_in_two_documents<'a>(
     alloc: Global,
     path: &str,
@@ -76,7 +79,8 @@ pub fn select_in_two_documents<'a>(
 }
 
 /// The document with null in place of what the path selects below the root, made by calls on a `JsonSelectorMut` that
-/// are not chained. `None` only if the selector had no document, which can't happen here.
+/// are not chained. `None` only if the selector had no document, which can't happen here. The only error is
+/// `OutOfMemory`.
 pub fn delete_in_statements(
     alloc: Global,
     json: Value,
@@ -90,8 +94,8 @@ pub fn delete_in_statements(
     Ok(held.take())
 }
 
-/// Removes from the document of a `SelectorMut` what its path selects, and returns whether that succeeded. After an
-/// error the document is as it was.
+/// Removes from the document of a `SelectorMut` what its path selects below the root, and returns true. If there is no
+/// path or no document, or memory runs out, returns false, and the document is as it was.
 pub fn remove_or_leave(alloc: Global, held: &mut SelectorMut) -> bool
     ensures removed { result ≡ true → RemovesHeld held.old.path (document held.old) (document held.new) }
     ensures left { result ≡ false → held.new ≡ held.old }

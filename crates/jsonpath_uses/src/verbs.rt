@@ -51,7 +51,8 @@ pub fn select_locations(
     path.select_locations(alloc, json)
 }
 
-/// The selected values as the text of a JSON array. Errors: `OutOfMemory`, or `Serde` for a number such as 1.5.
+/// The values that the path selects, in its order, with duplicates, as the text of a JSON array. Errors: `OutOfMemory`,
+/// or `Serde` if one contains a number that is neither an `i64` nor a `u64`, such as 1.5.
 pub fn select_as_str(
     alloc: Global,
     json: &Value,
@@ -63,7 +64,8 @@ pub fn select_as_str(
     path.select_as_str(alloc, json)
 }
 
-/// The selected values, each made a `T`. Errors: `OutOfMemory`, or `Serde` if one can't be or has a number such as 1.5.
+/// The values that the path selects, in its order, with duplicates, each made a `T`. Errors: `OutOfMemory`, or `Serde`
+/// if one can't be made a `T` or contains a number that is neither an `i64` nor a `u64`, such as 1.5.
 pub fn select_as<T: DeserializeOwned>(
     alloc: Global,
     json: &Value,
@@ -75,7 +77,7 @@ pub fn select_as<T: DeserializeOwned>(
     path.select_as(alloc, json)
 }
 
-/// How many values the path selects in the document.
+/// How many values the path selects in the document, duplicates included. The only error is `OutOfMemory`.
 pub fn count(alloc: Global, json: &Value, path: &PathParser<'_>) -> Result<usize, JsonPathError>
     ensures ok { IfOk result (IsCountOf (Selects path.now (document_of (view json.now)))) }
     ensures refused { IfErr result (λ e. e ≡ JsonPathError.OutOfMemory) }
@@ -83,7 +85,8 @@ pub fn count(alloc: Global, json: &Value, path: &PathParser<'_>) -> Result<usize
     path.count(alloc, json)
 }
 
-/// The first value that the path selects in the document, or `None`.
+/// The first value that the path selects in the document, in the order in which it finds them, or `None`. The only
+/// error is `OutOfMemory`.
 pub fn first<'v>(
     alloc: Global,
     json: &'v Value,
@@ -95,7 +98,7 @@ pub fn first<'v>(
     path.first(alloc, json)
 }
 
-/// Whether the path selects any value in the document.
+/// Whether the path selects any value in the document. The only error is `OutOfMemory`.
 pub fn exists(alloc: Global, json: &Value, path: &PathParser<'_>) -> Result<bool, JsonPathError>
     ensures ok { IfOk result (TellsIfAny (Selects path.now (document_of (view json.now)))) }
     ensures refused { IfErr result (λ e. e ≡ JsonPathError.OutOfMemory) }
@@ -143,7 +146,8 @@ pub fn set_in(
     path.set_in(alloc, value, new)
 }
 
-/// Replaces what the path selects below the root by the closure's results; `None` removes. An error changes nothing.
+/// Replaces the value at each location that the path selects below the root, parents first, by the closure's result, or
+/// removes it at `None`. The only error is `OutOfMemory`; then nothing has changed and the closure was not called.
 pub fn replace_in<F: FnMut(Value) -> Option<Value>>(
     alloc: Global,
     value: &mut Value,
@@ -160,8 +164,9 @@ pub fn replace_in<F: FnMut(Value) -> Option<Value>>(
     path.replace_in(alloc, value, fun)
 }
 
-/// Replaces each value that the path selects below the root by the closure's result, or removes it at `None`. The
-/// closure's first error ends the updates; those before it remain. `OutOfMemory` comes before the closure is called.
+/// Replaces the value at each location that the path selects below the root, parents first, by the closure's result, or
+/// removes it at `None`. The closure's first error, as `Refused`, ends the updates; those before it remain. Another
+/// error, `Unasked`, is `OutOfMemory` alone; it comes before the closure is called, and nothing has changed.
 pub fn try_replace_in<E, F: FnMut(&Value) -> Result<Option<Value>, E>>(
     alloc: Global,
     value: &mut Value,

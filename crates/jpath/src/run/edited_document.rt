@@ -44,9 +44,10 @@ impl Kept {
 }
 
 /// Appends to `out` the text of the document after all edits, made one after another: in its own layout or, if `look`
-/// puts it over several lines, laid out anew, with a line end. Returns the sum, over the edits, of how many locations
-/// below the root the path selects or how many members or items are added or renamed. If an edit would replace or
-/// remove the root, or a new name is in use already, a message on standard error says so.
+/// puts it over several lines, laid out anew, with a line end. Returns the sum of the edits' `Edited::targets`. If an
+/// edit would replace or remove the root, or a new name is in use already, a message on standard error says so. Errors:
+/// `NotADocument` if `text` is no JSON document, `HugeExponent`, `EditNests`, `EditDiffers` or `OutOfMemory`; `out` may
+/// then end with a part of the text.
 pub fn add_edited_document(
     rt: &(impl Eprint + Alloc<A = Global>),
     edits: &[Edit<'_>],

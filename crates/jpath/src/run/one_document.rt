@@ -14,9 +14,10 @@ use std::alloc::Global;
 use std::str;
 
 /// Appends to `out` the output for one document, as the command line asks for it: lines, an array, a table, the edited
-/// text, or nothing for `--count` and `--quiet`. Returns how many matches it has; for edits the sum of how many
-/// locations below the root each path selects, or how many members or items are added or renamed. `name` is the file's
-/// name. After an error `out` may end with a part of the output, or have lost all its content.
+/// text, or nothing for `--count` and `--quiet`. `name` is the file's name, `bytes` the document's text. Returns how
+/// many matches it has; for edits the sum of their `Edited::targets`. Errors: `NotADocument` if `bytes` is no JSON
+/// document, `HugeExponent`, `EditNests`, `EditDiffers` or `OutOfMemory`; `out` may then end with a part of the output,
+/// or have lost all its content.
 pub fn add_output_for_document(
     rt: &(impl Eprint + Alloc<A = Global>),
     wanted: &Wanted<'_>,

@@ -13,8 +13,9 @@ const COLORS: [&str; 5] = [
     "\u{1b}[0m",
 ];
 
-/// Escapes the control characters of a text, as `\u001b`, but for tabs, line ends and the sequences of colours. Inside a
-/// JSON text they then mean the same. After an error the text is as it was, or empty.
+/// Escapes the control characters of a text, as `\u001b`, but for tabs, line ends and the sequences of colours. Inside
+/// a JSON text they then mean the same. A text that is not UTF-8 stays as it is. The only error is that memory ran out;
+/// the text is then as it was, or empty.
 pub fn escape_for_terminal(alloc: Global, text: &mut Vec<u8>) -> Result<(), AllocError> {
     let shown = match str::from_utf8(text.as_slice()) {
         Ok(text) => text_for_terminal(alloc, text)?,

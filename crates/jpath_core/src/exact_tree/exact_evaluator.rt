@@ -55,7 +55,7 @@ pub fn may_answer_by_exact_tree(query: &Query<'_>) -> bool {
 /// Appends a line to `out` for each value that a path selects in an exact tree, in the order in which the path finds
 /// them; no line if `line` is `None`. A line shows the value, whatever `line.shown` says. Returns how many values there
 /// are, or `None` if the path or the document can be evaluated only on an image (a copy with `serde_json`'s numbers).
-/// After an error or `None`, `out` may end with a part of the lines.
+/// The only error is that memory ran out; after it, or after `None`, `out` may end with a part of the lines.
 pub fn add_lines_by_exact_tree(
     alloc: Global,
     exact: &Exact<'_>,

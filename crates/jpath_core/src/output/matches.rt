@@ -28,8 +28,8 @@ use std::alloc::{AllocError, Global};
 use std::mem;
 
 /// Appends to `out` what `line` shows of each value that one path selects in a document, in the order in which the
-/// path's steps find them, and returns the number of these values. The only error is `OutOfMemory`; `out` may then end
-/// with a part of the lines.
+/// path's steps find them (`*` finds members in the order of their names' bytes), and returns the number of these
+/// values. The only error is `OutOfMemory`; `out` may then end with a part of the lines.
 pub fn add_lines_for_path(
     alloc: Global,
     document: &Document<'_>,
@@ -72,8 +72,9 @@ pub(crate) fn count_matches_of_path(
     Ok(select_in_document(alloc, document, query)?.len())
 }
 
-/// Appends to `out` one JSON array of the values that the paths select, path by path, with all that `line` puts before
-/// and after it. Returns how many values there are. The only error is `OutOfMemory`; `out` may then end with a part.
+/// Appends to `out` one JSON array of the values that the paths select, path by path and for each path in the order of
+/// `select_in_document`, with all that `line` puts before and after it. Returns how many values there are. The only
+/// error is `OutOfMemory`; `out` may then end with a part.
 pub fn add_array(
     alloc: Global,
     document: &Document<'_>,

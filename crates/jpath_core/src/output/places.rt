@@ -88,7 +88,7 @@ fn add_printable_char(c: char, made: &mut String) -> Result<(), AllocError>
 }
 
 /// Appends the escape of a control character to `made`: `\t`, `\n`, `\r`, or `\u00` and two hexadecimal digits, as
-/// `\u001b`. After an error `made` may end with a part of it.
+/// `\u001b`. The only error is that memory ran out; `made` may then end with a part of it.
 pub fn add_escape(c: char, made: &mut String) -> Result<(), AllocError>
     ensures { OnOk result (string_bytes made.new ≡ string_bytes made.old ++ encode_utf8_all (escape c)) }
 {

@@ -32,7 +32,7 @@ pub(crate) fn rearranged<'t>(
 }
 
 /// Writes a JSON value to `writer`, each name of an object once, with its last value: where it occurs first or, if
-/// `is_sorted`, in the order of the names' bytes. After an error nothing of the value is written.
+/// `is_sorted`, in the order of the names' bytes. The only error is that memory ran out; then nothing is written.
 pub fn write_arranged(
     alloc: Global,
     value: &Exact<'_>,

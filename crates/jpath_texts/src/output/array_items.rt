@@ -13,8 +13,9 @@ use json::Value as Exact;
 use std::alloc::{AllocError, Global};
 
 /// Appends an item of a JSON array to `out`, in colours or over several lines as `look` says, after a comma if
-/// `has_comma`. Each name of an object is written once, with its last value: where it occurs first, or in the order of
-/// the names. After an error `out` may end with a part of the item.
+/// `has_comma`. Each name of an object is written once, with its last value: where it occurs first or, if
+/// `look.is_sorted`, in the order of the names' bytes. The only error is that memory ran out; `out` may then end with a
+/// part of the item.
 pub fn add_array_item(
     alloc: Global,
     out: &mut Vec<u8>,
@@ -32,7 +33,8 @@ pub fn add_array_item(
 }
 
 /// Appends the closing bracket of a JSON array to `out`: on a line of its own if the array has items (`has_items`) and
-/// `look` puts each item on lines of its own. After an error `out` may end with the white space before the bracket.
+/// `look` puts each item on lines of its own. The only error is that memory ran out; `out` may then end with the white
+/// space before the bracket.
 pub fn add_array_end(out: &mut Vec<u8>, has_items: bool, look: Look) -> Result<(), AllocError>
     ensures { OnOk result (out.new.items ≡ out.old.items ++ array_end has_items look) }
 {

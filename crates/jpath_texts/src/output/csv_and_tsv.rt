@@ -17,8 +17,8 @@ pub enum Separated {
     ByTabs,
 }
 
-/// Appends the header of a table to `out`: a row of CSV or TSV with these column names. After an error what `out` has
-/// is unspecified: what it had before, with or without a part of the row, or nothing.
+/// Appends the header of a table to `out`: a row of CSV or TSV with these column names. The only error is that memory
+/// ran out; `out` then has what it had before, with or without a part of the row, or nothing.
 pub fn add_header(
     alloc: Global,
     names: &[&str],

@@ -18,9 +18,10 @@ use json::Value as Exact;
 use std::alloc::{AllocError, Global};
 
 /// Appends a line to `out` for each member of a value, with its name, or for each item, with its index from 0; nothing
-/// for a value that is no object and no array. If `has_values` is set, a tab and the value of the member or item follow.
-/// A name that occurs several times in an object is written once, where it occurs first or, if members are sorted, in
-/// the order of the names, and with its last value.
+/// for a value that is no object and no array. If `has_values` is set, a tab and the value of the member or item
+/// follow. A name that occurs several times in an object is written once, with its last value: where it occurs first
+/// or, if `line.look.is_sorted`, in the order of the names' bytes. The only error is that memory ran out; `out` may
+/// then end with a part of the lines.
 pub fn add_entry_lines(
     alloc: Global,
     value: &Exact<'_>,
@@ -143,8 +144,9 @@ fn add_value_behind_key(
     add_value_with_members_kept(alloc, out, value, look)
 }
 
-/// Appends a line to `out` with the length of a value: of an array the number of its items, of an object that of its
-/// members, of a text that of its characters. A name that occurs several times is counted once. Null for other values.
+/// Appends a line to `out` with the length of a value: how many items an array has, members an object (a name that
+/// occurs several times is counted once) or characters a text; `null` for other values. The only error is that memory
+/// ran out; `out` may then end with a part of the line.
 pub fn add_length_line(
     alloc: Global,
     value: &Exact<'_>,

@@ -29,7 +29,8 @@ impl Layout {
 /// How a JSON value is printed.
 #[derive(Clone, Copy, Debug, Drop)]
 pub struct Look {
-    /// Whether a value that is a text is written without quotes and escapes.
+    /// Whether a value that is itself a text is written without quotes and escapes. Texts inside an array or object
+    /// keep them.
     pub is_raw: bool,
     /// Whether the members of objects are written in the order of their names' bytes, at every level, instead of in the
     /// order in which they were read.

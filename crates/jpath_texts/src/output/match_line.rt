@@ -16,9 +16,10 @@ pub enum Shown {
     Places,
     /// Prints the location of the selected value, a tab and the value.
     PlacesAndValues,
-    /// Prints a line for each member of the selected value with its name, or for each item with its index.
+    /// Prints a line for each member of the selected value with its name, or for each item with its index, from 0;
+    /// nothing for a value that is no object and no array.
     Keys,
-    /// Prints the same lines, each with a tab and the value of the member or item behind the name or index.
+    /// Prints the lines of `Keys`, each with a tab and the value of the member or item after its name or index.
     Entries,
     /// Prints how many members or items the selected value has, or characters if it is a text; null for other values.
     Lengths,
@@ -27,7 +28,7 @@ pub enum Shown {
 /// What follows a selected value that is printed.
 #[derive(Clone, Copy, Debug, Drop, PartialEq, Eq)]
 pub enum LineEnd {
-    /// A line end.
+    /// The byte 10, a line feed.
     LineFeed,
     /// The byte 0.
     Nul,
@@ -52,7 +53,8 @@ pub struct Line<'n> {
     pub end: LineEnd,
 }
 
-/// Appends to `out` what begins each line: the byte 30 (RS) and the file's name with a colon, or nothing, as `line` says.
+/// Appends to `out` what begins each line: the byte 30 (RS) if `line.is_record`, then the file's name and a colon if
+/// `line.name` has one. The only error is that memory ran out; `out` may then end with a part of it.
 pub fn add_line_start(out: &mut Vec<u8>, line: &Line<'_>) -> Result<(), AllocError>
     ensures { OnOk result (out.new.items ≡ out.old.items ++ (record_start line.now.is_record ++ named line.now.name)) }
 {
@@ -60,7 +62,7 @@ pub fn add_line_start(out: &mut Vec<u8>, line: &Line<'_>) -> Result<(), AllocErr
     add_file_name(out, line.name)
 }
 
-/// Appends the byte 30 (RS) to `out` if `is_record` is set.
+/// Appends the byte 30 (RS) to `out` if `is_record` is set. The only error is that memory ran out.
 pub fn add_record_start(out: &mut Vec<u8>, is_record: bool) -> Result<(), AllocError>
     ensures { OnOk result (out.new.items ≡ out.old.items ++ record_start is_record) }
 {
@@ -70,7 +72,7 @@ pub fn add_record_start(out: &mut Vec<u8>, is_record: bool) -> Result<(), AllocE
     Ok(())
 }
 
-/// Appends what follows a line to `out`: a line end, the byte 0, or nothing.
+/// Appends what follows a line to `out`: a line feed, the byte 0, or nothing. The only error is that memory ran out.
 pub fn add_line_end(out: &mut Vec<u8>, end: LineEnd) -> Result<(), AllocError>
     ensures { OnOk result (out.new.items ≡ out.old.items ++ line_end end) }
 {
@@ -82,7 +84,8 @@ pub fn add_line_end(out: &mut Vec<u8>, end: LineEnd) -> Result<(), AllocError>
     Ok(())
 }
 
-/// Appends a file's name and a colon to `out`, or nothing if `name` is `None`. An error may leave the name alone.
+/// Appends a file's name and a colon to `out`, or nothing if `name` is `None`. The only error is that memory ran out;
+/// `out` may then end with the name, without its colon.
 pub fn add_file_name(out: &mut Vec<u8>, name: Option<&str>) -> Result<(), AllocError>
     ensures { OnOk result (out.new.items ≡ out.old.items ++ named name.entry) }
 {

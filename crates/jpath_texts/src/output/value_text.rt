@@ -13,7 +13,7 @@ use std::alloc::{AllocError, Global};
 use std::mem;
 
 /// Appends the compact JSON text of a value to `out`. If an object has a name several times, each of these members is
-/// written. After an error nothing is appended.
+/// written. The only error is that memory ran out; nothing is appended then.
 pub fn add_compact_value(
     alloc: Global,
     out: &mut Vec<u8>,
@@ -30,8 +30,8 @@ pub fn add_compact_value(
 }
 
 /// Appends the text of a value to `out`: raw, sorted, indented over lines, in colours, as `look` says. Each name of an
-/// object is written once, with its last value: where it occurs first, or in the order of the names. After an error
-/// `out` may end with a part of the text.
+/// object is written once, with its last value: where it occurs first or, if `look.is_sorted`, in the order of the
+/// names' bytes. The only error is that memory ran out; `out` may then end with a part of the text.
 pub fn add_value_in_look(
     alloc: Global,
     out: &mut Vec<u8>,

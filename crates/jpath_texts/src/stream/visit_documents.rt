@@ -32,7 +32,8 @@ pub trait Visitor {
     // Why it may go no further.
     ghost stops: { Self → Self.Stop → Type 0 };
 
-    /// Called before each read of the stream, which may block: buffered output can be written first.
+    /// Called before each read of the stream, which may block: buffered output can be written first. An error ends the
+    /// visits.
     fn before_read(&mut self) -> Result<(), Self::Stop>
         ensures written { written self.new ≡ written self.old }
         ensures stops { IfErr result (stops self.new) }
@@ -64,7 +65,7 @@ pub enum How<S> {
     Endless,
 }
 
-/// The result of `visit_documents`: the number of matches, and why the visits ended.
+/// The result of `visit_documents`: the number of matches, and why the visits ended. `S` is the visitor's error.
 #[derive(Drop)]
 pub struct Ended<S> {
     /// How many matches the visited documents have together, or the greatest `usize` if there are more.

@@ -16,10 +16,10 @@ use std::alloc::{AllocError, Global};
 /// or `--argjson` sets for NAME.
 #[derive(Drop)]
 pub struct FilledPaths<'a> {
-    /// The path texts of the options `-e` or, if there are neither such options nor edits, the first word that belongs
-    /// to no option.
+    /// The texts of the options `-e`, in the order of the command line: paths, or with `--rows` also `NAME=PATH`.
+    /// Without `-e` it is empty if there are edits, and else has one text, the first word that belongs to no option.
     pub paths: Vec<String>,
-    /// The path text of `--rows`, if there is one.
+    /// The path text of `--rows`: one element if that option is on the command line, else none.
     pub rows: Vec<String>,
     /// The edit options in the order of the command line, each with its path text.
     pub edits: Vec<FilledEdit<'a>>,
@@ -56,7 +56,8 @@ pub fn fill_paths<'a>(
     })
 }
 
-/// `words` with the paths of `filled`, without `--arg` and `--argjson`. Errors: no path is there, or out of memory.
+/// `words` with each path text replaced by that of `filled`, which must be made of `words`, and without `--arg` and
+/// `--argjson`. `rest` then has only the files. Errors: `Words` if there is no path, or `OutOfMemory`.
 pub fn words_with_paths<'a>(
     alloc: Global,
     words: &Words<'a>,

@@ -33,7 +33,8 @@ impl From<AllocError> for ReadFailure {
 
 impl StreamBuffer {
     /// Reads the stream until its next piece is found, and returns what that is: a document, wrong bytes in place of
-    /// one, or blanks at the stream's end. An error if a read fails (all bytes read so far stay) or memory runs out.
+    /// one, or, at the stream's end, blanks, possibly none. Errors: `Failed` if a read fails (all bytes read so far
+    /// stay), or `OutOfMemory`.
     pub fn read_next_piece<R: Input>(&mut self, reader: &mut R) -> Result<Kind, ReadFailure>
         requires { IsReady self.old }
         ensures sound { IsSound self.new }

@@ -70,7 +70,8 @@ pub(crate) fn write_paths_fault<W: fmt::Write>(
     }
 }
 
-/// Compiles path texts, in order. The error has the index of the first that is no path, or `None` if memory ran out.
+/// Compiles path texts; the result has their paths in the same order. The error has `Path` and the index, from 0, of
+/// the first text that is no path, or `OutOfMemory` and no index.
 ///
 /// ```text
 /// match compile_paths(alloc, &["$[0]", "$["]) {

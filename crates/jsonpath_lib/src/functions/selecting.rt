@@ -35,8 +35,9 @@ pub fn select<'a>(
 }
 
 /// Reads a JSON text, then the path, and returns the selected values as a JSON text: `[`, their compact texts joined by
-/// `,`, and `]`. Errors: `Serde` if the JSON text is no document, or if the answer contains a number that is neither an
-/// `i64` nor a `u64`, such as 1.5; `Path` if the path text is no path; or `OutOfMemory`.
+/// `,`, and `]`, in the order in which the path's steps find the values, with duplicates. Errors: `Serde` if
+/// `serde_json` rejects the JSON text, or if a selected value contains a number that is neither an `i64` nor a `u64`,
+/// such as 1.5; `Path` if the path text is no path; or `OutOfMemory`.
 ///
 /// ```text
 /// let text = select_as_str(alloc, "[1, 2, 3]", "$[-2:]")?;
@@ -53,8 +54,9 @@ pub fn select_as_str(alloc: Global, json: &str, path: &str) -> Result<String, Js
 }
 
 /// Reads a JSON text, then a path, and deserializes each selected value to a `T`, in the order in which the path's
-/// steps find them. Errors: `Serde` if the JSON text is no document, or if a selected value has a number that is
-/// neither an `i64` nor a `u64`, or can't be made a `T`; `Path` if the path text is no path; or `OutOfMemory`.
+/// steps find them, with duplicates. Errors: `Serde` if `serde_json` rejects the JSON text, or if a selected value has
+/// a number that is neither an `i64` nor a `u64`, such as 1.5, or can't be made a `T`; `Path` if the path text is no
+/// path; or `OutOfMemory`.
 ///
 /// ```text
 /// let numbers = select_as::<u8>(alloc, "[[1, 2], [3]]", "$[*][0]")?;

@@ -28,11 +28,13 @@ pub enum FaultKind {
     /// The stream ends inside a document. The error's position is that of the stream's last byte; if this is a line
     /// end, it is column 0 of the next line.
     CutShort,
-    /// `serde_json` rejects the document, say for too large a number. The position is where, in the whole stream.
+    /// `serde_json` rejects the document, say for too large a number. The error's position is the one that `serde_json`
+    /// reports, counted from the beginning of the stream.
     Unread,
     /// A read of the input failed. The error's position is just after the last byte that was read.
     ReadFailed,
-    /// Memory ran out. The position is just after the last byte read or, when a document is parsed, `serde_json`'s.
+    /// Memory ran out. The position is just after the last byte read or, if a document was being parsed, the one that
+    /// `serde_json` reports, counted from the beginning of the stream.
     OutOfMemory,
     /// The stream has more bytes than 64 bits can count. The position is just after the last returned document.
     TooLong,

@@ -231,8 +231,9 @@ pub fn holds_atoms(op: FilterToken, left: &Atom<'_>, right: &Atom<'_>) -> bool
     holds_by_tree::<&Value>(op, left, right)
 }
 
-/// Whether two values satisfy a comparison; `op` must be neither `And` nor `Or`. Two arrays, two objects and values of
-/// different kinds satisfy `!=` alone, and so does a number that is neither an `i64` nor a `u64`.
+/// Whether `left op right` holds; `op` must be neither `And` nor `Or`. Booleans, numbers and texts compare within their
+/// kind: false before true, numbers exactly, texts by their bytes. Two nulls satisfy `==` alone. All other pairs
+/// satisfy `!=` alone, and so does every pair with a number that is neither an `i64` nor a `u64`.
 ///
 /// ```text
 /// let (one, two) = (Value::from(1u64), Value::from(2u64));

@@ -23,7 +23,8 @@ use std::alloc::Global;
 use std::cmp::Ordering;
 use std::collections::BTreeSet;
 
-/// Sorts nodes into document order and keeps one node for each location. The only error is `NoMemory`.
+/// Sorts nodes into document order (parents before children, members by their names' bytes, items by index) and keeps
+/// one node for each location. The only error is `NoMemory`.
 ///
 /// ```text
 /// let twice = [spots[1].clone()?, spots[0].clone()?, spots[1].clone()?];
@@ -56,8 +57,7 @@ fn are_ordered_without_repeats(alloc: Global, spots: &[Spot<'_>]) -> Result<bool
     Ok(true)
 }
 
-// Whether a location comes behind `last` in document order; true where there is no last. Both are given by their steps,
-// the last step first.
+// Whether a location comes behind `last` in document order; true without a last. Steps are given last step first.
 fn is_after_last_spot(last: &Option<Vec<PathStep<'_>>>, up: &[PathStep<'_>]) -> bool
     ensures { result ≡ comes_behind (last_location last.now) (from_top up.now) }
 {
@@ -129,7 +129,8 @@ fn ordered_spots<'a>(
 }
 
 /// Goes through a list of nodes and drops each that is at or below the node that it kept last. If the list is in
-/// document order, the nodes kept are those with no ancestor in the list. The only error is `NoMemory`.
+/// document order (parents before children, members by their names' bytes, items by index), this keeps the nodes with
+/// no ancestor in the list, one for each location. The only error is `NoMemory`.
 ///
 /// ```text
 /// let below = Spot::root(alloc, &document).below(alloc)?;
@@ -164,8 +165,7 @@ fn push_if_topmost<'a>(
     Ok(())
 }
 
-// Whether a location is `last` or stands below it; false where there is no last. Both are given by their steps, the
-// last step first.
+// Whether a location is `last` or below it; false without a last. Steps are given last step first.
 fn is_at_or_below_last(last: &Option<Vec<PathStep<'_>>>, up: &[PathStep<'_>]) -> bool
     ensures { result ≡ is_at_or_below (last_location last.now) (from_top up.now) }
 {

@@ -43,7 +43,8 @@ pub trait Mark<'a>: Drop + Sized {
     fn value(&self) -> &'a Value
         ensures { document_of (view result.now) ≡ content self.now };
 
-    /// Appends to `out` the children of this node that the step `plain` selects.
+    /// Appends to `out` the children of this node that the step `plain` selects, in the order that `PlainStep` gives
+    /// for this step, with duplicates.
     fn add_selected_children(
         &self,
         alloc: Global,
@@ -61,7 +62,8 @@ pub trait Mark<'a>: Drop + Sized {
     ) -> Result<(), NoMemory>
         ensures { OnOk result (MarksGain located stand content (single_steps (named name.now)) (stand self.now) (content self.now) out.old.items out.new.items) };
 
-    /// Appends to `out` what the step `plain` selects from this node and from each of its descendants, in preorder.
+    /// Appends to `out` what the step `plain` selects from this node and from each of its descendants, which are
+    /// visited in preorder: each value before its children, items by index, members by their names' bytes.
     fn add_selected_at_or_below(
         &self,
         alloc: Global,
@@ -76,9 +78,10 @@ pub trait Mark<'a>: Drop + Sized {
         ensures { OnOk result (MarksGain located stand content flat (stand self.now) (content self.now) out.old.items out.new.items) };
 
     /// For a filter after `..` that has a relative query with at least one segment, such as `@.a`, appends to `out` the
-    /// values that it tests when it is applied to this node: the node's descendants that are not arrays, each once. For
-    /// proofs, the postconditions also say that in each object at or below this node the member names are in ascending
-    /// order, as in every `Value`.
+    /// values that it tests when it is applied to this node: the node's descendants that are not arrays, each once. The
+    /// order is that of `..*`, with each array replaced by its items (nested arrays flattened); a value comes where it
+    /// is found first. For proofs, the postconditions also say that in each object at or below this node the member
+    /// names are in ascending order, as in every `Value`.
     fn add_candidates_below(&self, alloc: Global, out: &mut Vec<Self>) -> Result<(), NoMemory>
         ensures gains { OnOk result (MarksGain located stand content candidates_below (stand self.now) (content self.now) out.old.items out.new.items) }
         ensures document { OnOk result (IsOrderedDocument (content self.now)) };

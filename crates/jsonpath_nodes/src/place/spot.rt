@@ -132,7 +132,8 @@ impl<'a> Spot<'a> {
         self.steps().to_location(alloc)
     }
 
-    /// The children of this node, as nodes, in document order. The only error is `NoMemory`.
+    /// The children of this node, as nodes: items by index, members by their names' bytes; none if it is neither an
+    /// array nor an object. The only error is `NoMemory`.
     ///
     /// ```text
     /// let children = Spot::root(alloc, &document).children(alloc)?;
@@ -181,8 +182,8 @@ impl<'a> Spot<'a> {
         }
     }
 
-    /// This node itself and all its descendants, in document order, each before its descendants. The only error is
-    /// `NoMemory`.
+    /// This node itself and all its descendants, in preorder: each before its descendants, items by index, members by
+    /// their names' bytes. The only error is `NoMemory`.
     ///
     /// ```text
     /// let below = Spot::root(alloc, &document).below(alloc)?;

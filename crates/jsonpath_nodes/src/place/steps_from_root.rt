@@ -24,8 +24,7 @@ pub struct StepsFromRoot<'b, 'a> {
     pub(crate) taken: usize,
 }
 
-// The step at this index of a trail, from the root down. Where the trail ends before it, an error says how far: 0 right
-// behind the last step.
+// The step at this index of a trail, from the root down; or how far behind its end that is, 0 right behind it.
 fn step_at_index_of_trail<'a>(trail: &Trail<'a>, index: usize) -> Result<PathStep<'a>, usize>
     ensures { IsStepAt (location_at trail.now) index result }
 {
@@ -64,8 +63,7 @@ fn found_or_last_step<'a>(
     }
 }
 
-// The step at this index of a path to a value, from the root down. Where the path ends before it, an error says how
-// far: 0 right behind the last step.
+// The step at this index of a path to a value, from the root down; or how far behind its end that is.
 fn step_at_index_of_path_to_value<'a>(
     path_to: PathTo<'_, 'a>,
     index: usize,

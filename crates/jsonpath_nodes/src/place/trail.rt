@@ -20,8 +20,7 @@ pub enum Trail<'a> {
     ItemMember(u32, Rc<Trail<'a>>, &'a String),
 }
 
-// What leads to an object, lent: the trail to it, or the trail to the array that has it as an item, and its index
-// there.
+// What leads to an object, lent: the trail to it, or that to the array that has it as an item, and its index.
 #[derive(Clone, Copy)]
 pub enum PathToObject<'b, 'a> {
     Whole(&'b Rc<Trail<'a>>),
@@ -36,8 +35,7 @@ pub enum HeldPathToContainer<'a> {
     Item(Rc<Trail<'a>>, u32),
 }
 
-// What leads to a value, lent: the trail to it, or the trail to the array that has it as an item, and its index there.
-// It shares nothing and takes no memory.
+// What leads to a value, lent: the trail to it, or that to the array that has it as an item, and its index.
 #[derive(Clone, Copy)]
 pub enum PathTo<'b, 'a> {
     Whole(&'b Trail<'a>),
@@ -56,8 +54,7 @@ pub(crate) fn clone_trail<'a>(trail: &Trail<'a>) -> Result<Trail<'a>, AllocError
     }
 }
 
-// A trail to the member of this name of the object where a path to an object leads. It shares the trail that the path
-// lends.
+// A trail to the member of this name of the object where a path leads. It shares the trail that the path lends.
 #[inline]
 pub(crate) fn member_trail_of_path_to_object<'a>(
     path_to_object: PathToObject<'_, 'a>,
@@ -119,8 +116,7 @@ pub(crate) fn held_path_to_container<'a>(
     }
 }
 
-// The path to the item at this index of an array, held for what stands in the item to share; `parent` leads to the
-// array.
+// The path to the item at this index of an array, to which `parent` leads, held for what is in the item to share.
 #[inline]
 pub(crate) fn held_path_to_item<'a>(
     alloc: Global,

@@ -45,8 +45,7 @@ pub(crate) fn add_flattened<M: Descends>(
     }
 }
 
-// Adds what is no array and is reached through arrays alone from each item of the array where the descent is: the item
-// itself, where it is no array.
+// Adds what is no array and is reached through arrays alone from each item, itself included, of the descent's array.
 fn add_flattened_items<M: Descends>(
     items: <M::Tree as Tree>::Array,
     way: &mut M::Way,
@@ -138,8 +137,7 @@ fn add_in_objects<M: Descends>(
 
 // ---- each location once
 
-// Whether the spots ascend in document order with none at or below another: then no candidate can be found from two of
-// them.
+// Whether the spots ascend in document order, none at or below another: no candidate is then found from two of them.
 pub(crate) fn are_ordered_and_disjoint<'a>(
     alloc: Global,
     spots: &[Spot<'a>],
@@ -170,8 +168,7 @@ fn is_after_and_disjoint(last: &Option<Location>, here: &Location) -> bool
     }
 }
 
-// Whether the first step that differs is less on the left: then neither location is below the other. No where none
-// differs.
+// Whether a step differs and the first that does is less on the left: then neither location is below the other.
 fn first_difference_ascends(left: &[LocStep], right: &[LocStep]) -> bool
     ensures { result ≡ first_difference_ascends (owned_steps left.now) (owned_steps right.now) }
 {

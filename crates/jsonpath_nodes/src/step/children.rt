@@ -156,8 +156,7 @@ fn add_union_items<M: Descends>(
     Ok(())
 }
 
-// Adds to a list the items that a range selects of an array: at `from`, `from + step` and so on, below
-// `to`.
+// Adds to a list the items that a range selects of an array: at `from`, `from + step` .. below `to`.
 #[inline]
 fn add_range_items<M: Descends>(
     items: <M::Tree as Tree>::Array,
@@ -264,8 +263,7 @@ fn add_member_of_object<M: Descends>(
     Ok(())
 }
 
-// Adds to a list the members of these names, in the list's order, repeats kept; what is not there is left
-// out.
+// Adds to a list the members of these names that are there, in the list's order, repeats kept.
 fn add_listed_members<M: Descends>(
     members: <M::Tree as Tree>::Object,
     here: &M::Members,

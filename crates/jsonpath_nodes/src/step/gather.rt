@@ -19,8 +19,7 @@ use crate::step::plain_step::PlainStep;
 use crate::tree::Tree;
 use std::alloc::Global;
 
-// What a descent adds at each array and object where it comes. A type of its own for each kind has the descent compiled
-// for that kind alone.
+// What a descent adds at each array and object. A type for each kind has the descent compiled for that kind alone.
 pub trait Gathers {
     ghost what: { Self → Gathered };
 

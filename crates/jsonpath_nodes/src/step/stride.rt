@@ -23,7 +23,7 @@ use std::borrow::CowStr;
 /// ```
 #[derive(Drop)]
 pub enum Selection<'t> {
-    /// `*`: all children of an array or object.
+    /// `*`: all children of an array or object: items by index, members by their names' bytes.
     Every,
     /// The member with this name, in an object.
     Named(CowStr<'t, Global>),
@@ -33,7 +33,8 @@ pub enum Selection<'t> {
     Nth(i64),
     /// The items of an array at these indexes, in the list's order; each index selects what `Nth` does.
     Union(&'t [i64]),
-    /// A slice of an array: its start, end and step, each of which may be missing.
+    /// A slice `from:to:step` of an array: the items at `from`, `from + step` and so on, before `to`. A negative `from`
+    /// or `to` counts from the end. If missing, they are 0, the length and 1. A `step` of 0 selects nothing.
     Range(Option<i64>, Option<i64>, Option<u64>),
 }
 

@@ -96,7 +96,8 @@ impl ValueWalker {
         plain_step_from_each(alloc, spots, &PlainStep::Nth(n))
     }
 
-    /// From each node that is an array, the items at these indexes, in their order, each as `next_with_num` finds it.
+    /// From each node that is an array, the items at these indexes, in the order in which the indexes are given, each
+    /// as `next_with_num` finds it.
     ///
     /// ```text
     /// let found = ValueWalker::next_with_nums(alloc, items.as_slice(), &[2, 0])?;
@@ -131,8 +132,8 @@ impl ValueWalker {
         plain_step_from_each(alloc, spots, &PlainStep::Range(from, to, step))
     }
 
-    /// `..*`: goes through each node and all its descendants, in preorder, and returns the children of each that is an
-    /// array or an object.
+    /// `..*`: goes through each node and all its descendants, in preorder (items by index, members by their names'
+    /// bytes), and returns the children of each that is an array or an object: those of one, then those of the next.
     ///
     /// ```text
     /// let found = ValueWalker::all(alloc, &root)?;
@@ -144,8 +145,8 @@ impl ValueWalker {
         plain_step_from_all_below(alloc, spots, &PlainStep::Every)
     }
 
-    /// `..name`: goes through each node and all its descendants, in preorder, and returns the member of that name of
-    /// each object that has one.
+    /// `..name`: goes through each node and all its descendants, in preorder (items by index, members by their names'
+    /// bytes), and returns the member of that name of each object that has one.
     ///
     /// ```text
     /// let found = ValueWalker::all_with_str(alloc, &root, "b")?;
@@ -161,8 +162,8 @@ impl ValueWalker {
         plain_step_from_all_below(alloc, spots, &PlainStep::Named(name))
     }
 
-    /// `..[num]`: goes through each node and all its descendants, in preorder, and returns from each array the item at
-    /// that index, as `next_with_num` finds it.
+    /// `..[num]`: goes through each node and all its descendants, in preorder (items by index, members by their names'
+    /// bytes), and returns from each array the item at that index, as `next_with_num` finds it.
     ///
     /// ```text
     /// let found = ValueWalker::all_with_num(alloc, &root, 0)?;

@@ -10,9 +10,9 @@ use crate::place::location::Location;
 use crate::update::single::update_at;
 use serde_json::Value;
 
-/// Updates the values at the locations one after another, each in the document that the earlier updates left. The
-/// closure gets the value there; `Some` replaces it, `None` removes the member or item. The closure is not called at
-/// the root, nor at a location that doesn't exist.
+/// Updates the values at the locations one after another, in the list's order, each in the document that the earlier
+/// updates left. The closure gets the value there; `Some` replaces it, `None` removes the member or item. The closure
+/// is not called at the root, nor at a location that doesn't exist.
 ///
 /// ```text
 /// let mut document = Value::from_str(alloc, "[1, [2, 3]]")?;

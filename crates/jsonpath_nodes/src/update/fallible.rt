@@ -11,10 +11,10 @@ use crate::place::location::{LocStep, Location};
 use crate::update::single::{update_at_steps, value_at};
 use serde_json::Value;
 
-/// Updates the values at the locations one after another, each in the document that the earlier updates left. The
-/// closure gets a reference to the value there; `Some` replaces it, `None` removes the member or item. Its first error
-/// ends the updates and is returned: the updates before it remain, and the value for which it was returned is
-/// unchanged. The closure is not called at the root, nor at a location that doesn't exist.
+/// Updates the values at the locations one after another, in the list's order, each in the document that the earlier
+/// updates left. The closure gets a reference to the value there; `Some` replaces it, `None` removes the member or
+/// item. Its first error ends the updates and is returned: the updates before it remain, and the value for which it was
+/// returned is unchanged. The closure is not called at the root, nor at a location that doesn't exist.
 ///
 /// ```text
 /// let mut document = Value::from_str(alloc, "[1, [2, 3]]")?;
@@ -40,8 +40,7 @@ pub fn try_replace_at<E, F: FnMut(&Value) -> Result<Option<Value>, E>>(
 }
 
 // Updates the value at the end of the steps by what the closure answers: a value in its place, or None to take it away.
-// Where the closure refuses, its error is answered and nothing changes. At the root and where nothing stands it is not
-// asked.
+// Where the closure refuses, nothing changes. At the root and where nothing stands it is not asked.
 fn try_update<E, F: FnMut(&Value) -> Result<Option<Value>, E>>(
     value: &mut Value,
     steps: &[LocStep],

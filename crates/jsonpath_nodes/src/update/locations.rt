@@ -12,8 +12,8 @@ use crate::place::spot::Spot;
 use std::alloc::Global;
 use std::collections::BTreeSet;
 
-/// The locations of the nodes, each once, in document order. Named as in the Rust crate `jsonpath_lib`. The only
-/// error is `NoMemory`.
+/// The locations of the nodes, each once, in document order (parents before children, members by their names' bytes,
+/// items by index). Named as in the Rust crate `jsonpath_lib`. The only error is `NoMemory`.
 ///
 /// ```text
 /// let document = Value::from_str(alloc, "[1, [2, 3]]")?;

@@ -67,8 +67,7 @@ pub(crate) fn update_at_steps<F: FnMut(Value) -> Option<Value>>(
     }
 }
 
-// Updates the item at an index, or what the rest of the steps leads to below it, by what the closure answers. It
-// answers whether the closure was asked.
+// Updates the item at an index, or what the rest of the steps leads to. Answers whether the closure was asked.
 #[cycle(update)]
 fn update_item<F: FnMut(Value) -> Option<Value>>(
     list: &mut Vec<Value>,
@@ -124,8 +123,7 @@ fn update_member_of_owned_name<F: FnMut(Value) -> Option<Value>>(
     update_member(map, name.as_str(), rest, f)
 }
 
-// Updates the member of a name, or what the rest of the steps leads to below it, by what the closure answers. It
-// answers whether the closure was asked.
+// Updates the member of a name, or what the rest of the steps leads to. Answers whether the closure was asked.
 #[cycle(update)]
 fn update_member<F: FnMut(Value) -> Option<Value>>(
     map: &mut Map<String, Value>,

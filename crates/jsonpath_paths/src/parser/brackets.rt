@@ -14,8 +14,7 @@ use crate::token::tokens::{Kind, ParseToken};
 use crate::tree::items::Items;
 
 impl TreeParser<'_> {
-    // Takes an index, as a bound of a range, and the blanks behind it. `None` where no word is next; refused where the
-    // word spells no index.
+    // Takes a range's bound and the blanks behind it. `None` where no word is next; refused where it spells no index.
     fn parse_optional_range_bound(&mut self) -> Result<Option<i64>, Refusal>
         ensures reads { Reads (λ n. n) (range_bound_at self.old.text self.old.lexemes) result self.old self.new }
         ensures stops { Stops (range_to ∷ []) result self.old self.new }
@@ -35,8 +34,7 @@ impl TreeParser<'_> {
         }
     }
 
-    // Takes the step behind the second colon of a range, and the blanks behind it. `None` where no word is next;
-    // refused where the word spells no step.
+    // Takes a range's step and the blanks behind it. `None` where no word is next; refused where it spells no step.
     fn parse_optional_range_step(&mut self) -> Result<Option<u64>, Refusal>
         ensures reads { Reads (λ n. n) (optional_range_step self.old.text self.old.lexemes) result self.old self.new }
         ensures stops { Stops (range_step ∷ []) result self.old self.new }
@@ -69,8 +67,7 @@ impl TreeParser<'_> {
         self.parse_optional_range_step()
     }
 
-    // Takes what stands behind the first colon of a range, and answers the token of the range, whose first bound is
-    // `from`.
+    // Takes what is behind the first colon of a range, and answers its token, whose first bound is `from`.
     fn parse_rest_of_range(&mut self, from: Option<i64>) -> Result<ParseToken, Refusal>
         ensures reads { Reads (λ t. t) (rest_of_range self.old.text from self.old.lexemes) result self.old self.new }
         ensures stops { Stops (blanks ∷ range_to ∷ range_by ∷ []) result self.old self.new }
@@ -100,8 +97,7 @@ impl TreeParser<'_> {
         Ok(found)
     }
 
-    // Takes what stands behind the first comma of a union, and answers the token of the union, which begins with
-    // `first`.
+    // Takes what is behind the first comma of a union, and answers its token, which begins with `first`.
     fn parse_rest_of_union(&mut self, first: i64) -> Result<ParseToken, Refusal>
         ensures reads { Reads (λ t. t) (rest_of_union self.old.text first self.old.lexemes) result self.old self.new }
         ensures stops { Stops (blanks ∷ index ∷ more_indexes ∷ []) result self.old self.new }
@@ -116,8 +112,7 @@ impl TreeParser<'_> {
         Ok(ParseToken::Union(Items::from_vec(all)))
     }
 
-    // Takes the further names of a list of names, each behind a comma, and answers the spans in `found` and theirs
-    // behind them.
+    // Takes a list's further names, each behind a comma, and answers the spans in `found` and then theirs.
     fn parse_and_append_names(&mut self, mut found: Vec<StrRange>) -> Result<Vec<StrRange>, Refusal>
         ensures reads { Reads (λ v. v.items) (with_more_names self.old.text found.items self.old.lexemes) result self.old self.new }
         ensures stops { Stops (more_names ∷ []) result self.old self.new }
@@ -135,8 +130,7 @@ impl TreeParser<'_> {
         Ok(found)
     }
 
-    // Takes what stands behind the first comma of a list of names, and answers the token of the list, which begins with
-    // `first`.
+    // Takes what is behind the first comma of a list of names, and answers its token, which begins with `first`.
     fn parse_rest_of_name_list(&mut self, first: StrRange) -> Result<ParseToken, Refusal>
         ensures reads { Reads (λ t. t) (rest_of_name_list self.old.text first self.old.lexemes) result self.old self.new }
         ensures stops { Stops (blanks ∷ quoted ∷ blanks ∷ more_names ∷ []) result self.old self.new }
@@ -152,8 +146,7 @@ impl TreeParser<'_> {
         Ok(ParseToken::Keys(Items::from_vec(all)))
     }
 
-    // Takes what stands behind the first index in brackets, and answers the token that begins with it: the index alone,
-    // a union or a range.
+    // Takes what is behind the first index in brackets, and answers the token of the index alone, a union or a range.
     fn parse_behind_first_index(&mut self, n: i64) -> Result<ParseToken, Refusal>
         ensures reads { Reads (λ t. t) (index_union_or_range self.old.text n self.old.lexemes) result self.old self.new }
         ensures stops { Stops (after_first_index ∷ []) result self.old self.new }
@@ -168,8 +161,7 @@ impl TreeParser<'_> {
         Ok(ParseToken::Number(Decimal::of_i64(n)))
     }
 
-    // Takes what stands behind the first quoted name in brackets, and answers the token that begins with it: the name
-    // alone or a list of names.
+    // Takes what is behind the first name in brackets, and answers the token of the name alone or a list of names.
     fn parse_behind_first_name(&mut self, span: StrRange) -> Result<ParseToken, Refusal>
         ensures reads { Reads (λ t. t) (name_or_name_list self.old.text span self.old.lexemes) result self.old self.new }
         ensures stops { Stops (after_name ∷ []) result self.old self.new }
@@ -204,8 +196,7 @@ impl TreeParser<'_> {
         self.parse_name_or_name_list()
     }
 
-    // Takes what may stand in brackets and is neither a filter nor `*`: one index or more, a range, or one name or
-    // more.
+    // Takes what is in brackets and neither a filter nor `*`: one index or more, a range, or one name or more.
     fn parse_indexes_range_or_names(&mut self) -> Result<ParseToken, Refusal>
         ensures reads { Reads (λ t. t) (indexes_range_or_names self.old.text self.old.lexemes) result self.old self.new }
         ensures stops { Stops (indexes_range_or_names_wanted ∷ []) result self.old self.new }

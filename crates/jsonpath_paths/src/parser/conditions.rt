@@ -93,8 +93,7 @@ impl TreeParser<'_> {
         self.parse_whole_comparison(levels)
     }
 
-    // Takes the condition behind an `@` that is taken: that this path from the candidate reaches something, or a
-    // comparison that begins with it.
+    // Takes the condition behind an `@`: that this path reaches something, or a comparison that begins with it.
     #[cycle(nested)]
     #[inline(never)]
     fn parse_candidate_path_condition(&mut self, levels: usize) -> Result<Box<Condition>, Refusal>
@@ -128,8 +127,7 @@ impl TreeParser<'_> {
         }
     }
 
-    // Takes a comparison with both its sides. The left one is a literal or a path from the root: a path from `@` was
-    // tried before.
+    // Takes a comparison with both its sides. The left one is a literal or a path from the root: `@` was tried before.
     #[cycle(nested)]
     #[inline(never)]
     fn parse_whole_comparison(&mut self, levels: usize) -> Result<Box<Condition>, Refusal>

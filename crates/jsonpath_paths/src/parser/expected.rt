@@ -45,7 +45,8 @@ pub enum Expected {
 /// ```
 #[derive(Debug, PartialEq, Eq, Drop)]
 pub struct ExpectedTokens {
-    /// The tokens that a path could go on with, each once, in a fixed order.
+    /// The tokens that a path could go on with, each once: a word last, those before it by kind in a fixed order. Empty
+    /// if the path could only have ended there.
     pub tokens: Vec<Expected>,
     /// Whether the path could have ended where the error is, that is, whether the text before it is itself a path.
     pub end: bool,
@@ -111,8 +112,7 @@ fn can_follow(
     Ok(left.unwrap_or(0) == 0)
 }
 
-// The words with which a path can go on behind its first tokens. A word is tried for each kind of them, one that is of
-// none of the kinds tried behind it.
+// The words with which a path can go on behind its first tokens. A word is tried for each kind of them.
 fn expected_word(
     alloc: Global,
     text: &str,

@@ -38,8 +38,7 @@ impl TreeParser<'_> {
         }
     }
 
-    // The literal that begins with this word, which is taken: `true`, `false` or a number. Refused where it is none of
-    // them.
+    // The literal that begins with this word, which is taken: `true`, `false` or a number; else it is refused.
     fn parse_literal_beginning_with_word(&mut self, word: &str) -> Result<ParseToken, Refusal>
         ensures reads { Reads (λ t. t) (literal_from_word self.old.text word.now self.old.lexemes) result self.old self.new }
         ensures stops { StopsBehind (literal_word word.now []) result self.old self.new }
@@ -73,8 +72,7 @@ impl TreeParser<'_> {
     }
 }
 
-// The number with this whole part and these digits behind the point, possibly none. Refused where they spell none in
-// range.
+// The number with this whole part and these digits behind the point, if any. Refused where it is out of range.
 fn parse_decimal_or_refuse(whole: &str, fraction: &str) -> Result<Decimal, Refusal>
     ensures { MatchResult result (λ d. decimal_of whole.now fraction.now ≡ Some d) (λ e. (e ≡ Refused) × (decimal_of whole.now fraction.now ≡ None)) }
 {

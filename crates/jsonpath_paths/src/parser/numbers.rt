@@ -57,8 +57,7 @@ fn parse_fraction_units(fraction: &str) -> Option<u64>
     }
 }
 
-// The decimal that a whole part, with or without a minus sign, and the digits behind the point, possibly none, spell;
-// or `None`.
+// The decimal that a whole part, perhaps with a minus sign, and the digits behind the point, if any, spell; or `None`.
 pub(crate) fn parse_decimal(whole: &str, fraction: &str) -> Option<Decimal>
     ensures { result ≡ decimal_of whole.now fraction.now }
 {

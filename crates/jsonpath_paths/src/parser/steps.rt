@@ -60,8 +60,7 @@ impl TreeParser<'_> {
         self.parse_word_step(leaves, next)
     }
 
-    // Takes the word or `*` behind the dots of a step, and puts the step into `next`. `leaves` says whether there were
-    // two dots.
+    // Takes the word or `*` behind the dots of a step, and puts the step into `next`. `leaves`: there were two dots.
     #[inline(never)]
     fn parse_word_step(&mut self, leaves: bool, next: &mut ParserStep) -> Result<(), Refusal>
         ensures reads { Reads (λ _. (next.new.leaves, next.new.bracket, inner_of next.new.inner)) (word_step self.old.text (condition_at self.old.text 0) leaves self.old.lexemes) result self.old self.new }

@@ -39,8 +39,7 @@ impl TreeParser<'_> {
         Ok(node_of_steps(true, found))
     }
 
-    // Takes all the tokens as one path from `$`, and answers its tree. Refused where they are none. The clauses say so
-    // in the words of the grammar.
+    // Takes all the tokens as one path from `$`, and answers its tree. Refused where they are none.
     pub(crate) fn parse_whole_path(&mut self) -> Result<ParserNode, Refusal>
         ensures found { IfOk result (λ p. SpellsPath self.old.text (path_of p) self.old.lexemes) }
         ensures only { IfErr result (λ e. e ≡ Refused → (p : Path) → SpellsPath self.old.text p self.old.lexemes → ⊥) }

@@ -77,8 +77,7 @@ fn take_optional_equals(reader: &mut StrReader<'_>, alone: Kind, with_equal: Kin
     }
 }
 
-// Takes the second character of an operator, as of `==` or `&&`, and answers the operator's kind. `None` where the next
-// character is not this one.
+// Takes the second character of an operator, as of `==`, and answers its kind. `None` where another is next.
 fn take_second_character(reader: &mut StrReader<'_>, kind: Kind, second: char) -> Option<Kind>
     ensures { ends_at (two_characters kind second (ahead reader.old)) reader.old ≡ option_map (λ kind. (kind, reader.new)) result }
 {
@@ -135,8 +134,7 @@ fn skip_blanks(reader: &mut StrReader<'_>)
     let _ = reader.take_while(|c| c.is_whitespace());
 }
 
-// Reads what stands behind a dollar sign up to a stop character, and answers its kind: `$` alone, or a word that begins
-// with it.
+// Reads what is behind a dollar sign up to a stop character, and answers its kind: `$` alone, or a word.
 fn read_rest_of_dollar_lexeme(reader: &mut StrReader<'_>) -> Kind
     ensures { ends_at (dollar_word (ahead reader.old)) reader.old ≡ Some (result, reader.new) }
 {
@@ -402,8 +400,7 @@ impl<'a> Clone for Tokenizer<'a> {
 // Room for the lexemes of most paths: as many as a short path has characters.
 const ROOM: usize = 64;
 
-// All tokens of a text, by kind and span, up to where none begins, which is the text's end or a refused character, and
-// the tokenizer there.
+// All tokens of a text, by kind and span, up to its end or a refused character, and the tokenizer there.
 pub(crate) fn lexemes_up_to_refusal<'a>(
     alloc: Global,
     text: &'a str,

@@ -26,8 +26,9 @@ use std::fmt;
 pub enum TokenError {
     /// The path text ends too early, or its last token or character is the wrong one.
     Eof,
-    /// A byte position in the text: from `Tokenizer`, where the wrong character begins; from `PathParser`, where the
-    /// wrong token or character ends; from `TokenReader::to_error`, how far the text was read or peeked.
+    /// A byte position in the text: from `Tokenizer` and from `next_token` and `peek_token` of `TokenReader`, where the
+    /// wrong character begins; from `PathParser`, where the wrong token or character ends; from `to_error` of
+    /// `TokenReader`, how far the text was read or peeked.
     Position(usize),
     /// Memory ran out.
     OutOfMemory,
@@ -377,7 +378,7 @@ pub enum ParseToken {
     All,
     /// The span of one name that a step selects, or of a quoted text that is a side of a comparison.
     Key(StrRange),
-    /// The spans of the names that a step selects, two or more.
+    /// The spans of the names that a step selects, two or more, in the order of the path text.
     Keys(Items<StrRange>),
     /// The `[` that opens a step.
     Array,
@@ -387,7 +388,7 @@ pub enum ParseToken {
     Filter(FilterToken),
     /// A slice that a step selects: its start, end and step, each of which may be missing.
     Range(Option<i64>, Option<i64>, Option<u64>),
-    /// The indexes that a step selects, two or more.
+    /// The indexes that a step selects, two or more, in the order of the path text.
     Union(Items<i64>),
     /// One index that a step selects, or a number that is a side of a comparison.
     Number(Decimal),

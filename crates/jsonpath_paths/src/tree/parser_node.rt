@@ -19,7 +19,7 @@ use crate::token::tokens::{FilterToken, ParseToken};
 pub struct ParserNode {
     /// Whether the path begins with `$`, the document's root; else it begins with `@`, the value that a filter tests.
     pub absolute: bool,
-    /// The steps of the path, in the order of the path text.
+    /// The steps of the path, in the order of the path text; none for `$` or `@` alone.
     pub steps: Vec<ParserStep>,
 }
 
@@ -53,7 +53,8 @@ pub struct ParserStep {
 pub enum Inner {
     /// A step other than a filter: one token for its names, its indexes, its slice, or all children.
     Token(ParseToken),
-    /// A filter: of the values that it tests, the step selects those that meet this condition.
+    /// A filter: of the values that it tests, the step selects those that meet this condition. It tests the values
+    /// found before it; but if an `@` of the condition has a step, as in `@.a`, not an array itself but its items.
     Filter(Condition),
 }
 

@@ -59,8 +59,7 @@ fn visit_node<V, H: ParserTokenHandler<V>, R: Fn(&StrRange) -> V>(
     }
 }
 
-// Hands over the tokens of a step: `Leaves` for `..`, the brackets where it has them, `In` where it has neither, and
-// what it selects.
+// Hands over the tokens of a step: `Leaves` for `..`, brackets where it has them, else `In`; and what it selects.
 #[cycle(visit)]
 fn visit_step<V, H: ParserTokenHandler<V>, R: Fn(&StrRange) -> V>(
     step: &ParserStep,

@@ -11,8 +11,7 @@ use std::alloc::{AllocError, Global};
 // Room for the tokens of most paths.
 const ROOM: usize = 32;
 
-// The token list of a path's tree. At first there is room for as many tokens as its text has, or for those of most
-// paths, whichever are fewer.
+// The token list of a path's tree. At first there is room for its text's tokens, or those of most paths if fewer.
 pub(crate) fn token_list(
     alloc: Global,
     path: &ParserNode,
@@ -48,8 +47,7 @@ fn push_path(path: &ParserNode, tokens: &mut Vec<ParseToken>) -> Result<(), Allo
     Ok(())
 }
 
-// Adds the tokens of a step: `Leaves` for `..`, the brackets where it has them, `In` where it has neither, and what it
-// selects.
+// Adds the tokens of a step: `Leaves` for `..`, brackets where it has them, else `In`; and what it selects.
 #[cycle(list)]
 fn push_step(step: &ParserStep, tokens: &mut Vec<ParseToken>) -> Result<(), AllocError>
     ensures { OnOk result (tokens.new.items ≡ tokens.old.items ++ one_step step.now.leaves step.now.bracket (inner_tokens (inner_of step.now.inner))) }

@@ -8,7 +8,8 @@ use crate::error::{JsonPathError, serde_error};
 use serde_json::Value;
 use std::alloc::Global;
 
-/// Reads a JSON text. Errors: `Serde`, with `serde_json`'s message, if it is no JSON document, or `OutOfMemory`.
+/// Reads a JSON text; of an object's members with the same name the last counts. Errors: `Serde`, with `serde_json`'s
+/// message, if it is no JSON document, nests deeper than 127 levels or has a number beyond all `f64`; or `OutOfMemory`.
 ///
 /// ```text
 /// let document = read_document(alloc, b"{\"b\": 1, \"a\": [2]}")?;

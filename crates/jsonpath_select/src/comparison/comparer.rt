@@ -53,8 +53,7 @@ impl<'t> Comparer<'t> {
         Ok(tags)
     }
 
-    // The numbers of the candidates at which the two operands satisfy the comparison. What a quoted literal among them
-    // means is handed in, in `texts`.
+    // The numbers of the candidates at which two operands satisfy the comparison. `texts` has what quoted literals mean.
     fn compare_operands<'a, M: Carried<'a>>(
         &self,
         left: Operand<'_, M>,

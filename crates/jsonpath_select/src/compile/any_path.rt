@@ -123,9 +123,9 @@ pub trait AnyPath {
         locations_of_selected_spots(alloc, spots.as_slice())
     }
 
-    /// The values that the path selects as a JSON text: `[`, their compact texts joined by `,`, and `]`. Errors:
-    /// `OutOfMemory`, and `Serde` exactly if one of the values contains, at any depth, a number that is neither an
-    /// `i64` nor a `u64`, such as 1.5.
+    /// The values that the path selects as a JSON text: `[`, their compact texts joined by `,`, and `]`, in the order
+    /// in which the path finds the values, with duplicates. Errors: `OutOfMemory`, and `Serde` exactly if one of the
+    /// values contains, at any depth, a number that is neither an `i64` nor a `u64`, such as 1.5.
     ///
     /// ```text
     /// let document = read_document(alloc, b"[1, 2, 3]")?;
@@ -265,10 +265,11 @@ pub trait AnyPath {
         Ok(())
     }
 
-    /// Calls the closure once for each selected location, in document order, with the value that the earlier updates
-    /// left there: `Some` replaces the value, `None` removes it. The locations are found beforehand and stay fixed:
-    /// after an item was removed, the next item is at its location; a location that no longer exists is skipped, and so
-    /// is the root. The only error is `OutOfMemory`; then the document is unchanged and the closure was not called.
+    /// Calls the closure once for each selected location, in document order (parents before children, members by their
+    /// names' bytes, items by index), with the value that the earlier updates left there: `Some` replaces the value,
+    /// `None` removes it. The locations are found beforehand and stay fixed: after an item was removed, the next item
+    /// is at its location; a location that no longer exists is skipped, and so is the root. The only error is
+    /// `OutOfMemory`; then the document is unchanged and the closure was not called.
     ///
     /// ```text
     /// let mut document = read_document(alloc, b"[1, 2, 3]")?;
@@ -294,11 +295,12 @@ pub trait AnyPath {
         Ok(())
     }
 
-    /// Calls the closure once for each selected location, in document order, with a reference to the value that the
-    /// earlier updates left there: `Some` replaces the value, `None` removes it. The locations are found beforehand and
-    /// stay fixed: after an item was removed, the next item is at its location; a location that no longer exists is
-    /// skipped, and so is the root. The closure's first error ends the updates, as `Refused`; the updates before it
-    /// remain. The only other error is `Unasked` with `OutOfMemory`, before the closure is called.
+    /// Calls the closure once for each selected location, in document order (parents before children, members by their
+    /// names' bytes, items by index), with a reference to the value that the earlier updates left there: `Some`
+    /// replaces the value, `None` removes it. The locations are found beforehand and stay fixed: after an item was
+    /// removed, the next item is at its location; a location that no longer exists is skipped, and so is the root. The
+    /// closure's first error ends the updates, as `Refused`; the updates before it remain. The only other error is
+    /// `Unasked` with `OutOfMemory`, before the closure is called.
     ///
     /// ```text
     /// let mut document = read_document(alloc, b"[1, \"x\", 3]")?;

@@ -58,7 +58,8 @@ pub trait NodeVisitor {
         ensures stays_failed { has_failed self.old ≡ true → has_failed self.new ≡ true }
         ensures given { has_failed self.new ≡ false → tokens self.new ≡ tokens self.old ++ token.now ∷ [] };
 
-    /// Called after the tokens of one side of a comparison. It must change neither `tokens` nor what `failed` returns.
+    /// Called after the tokens of each side of a comparison; it does nothing, unless an implementation overrides it. It
+    /// must change neither `tokens` nor what `failed` returns.
     fn end_term(&mut self)
         ensures failed { has_failed self.new ≡ has_failed self.old }
         ensures tokens { tokens self.new ≡ tokens self.old }

@@ -128,8 +128,7 @@ impl<'a, 't> Machine<'a, 't> {
         self.keep_passing_with_standing(condition, candidates)
     }
 
-    // The candidates of a filter, from the places that lead to it, and, where `asks_standing` is set, how they stand to
-    // each other.
+    // A filter's candidates, from the places that lead to it, and, if `asks_standing`, how they stand to each other.
     pub(crate) fn candidates_of_places<M: Carried<'a>>(
         &self,
         way: FilterApproach<'_, '_>,

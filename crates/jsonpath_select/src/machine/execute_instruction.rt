@@ -73,8 +73,7 @@ impl<'a, 't> Machine<'a, 't> {
         Ok(())
     }
 
-    // Puts on the operands where a path from `@` has led after its first step: the member of each candidate with the
-    // name at this span.
+    // Puts on the operands where a path from `@` leads by its first step: each candidate's member of the name at a span.
     pub(crate) fn start_at_member<M: Carried<'a>>(
         &self,
         span: StrRange,

@@ -71,8 +71,7 @@ pub(crate) fn manner_of(
     })
 }
 
-// Whether a step or a filter can reach a node more than once: behind `..`, by a list that has a name twice, and by a
-// union of which two indexes can meet.
+// Whether a step or filter can reach a node more than once: behind `..`, by a name twice, by indexes that can meet.
 fn may_repeat_nodes(
     alloc: Global,
     text: &str,

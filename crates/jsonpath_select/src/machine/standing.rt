@@ -125,8 +125,7 @@ impl Standing {
         }
     }
 
-    // How the places to which the step by a token leads stand to each other, where those that it leads from stand as
-    // this says; `Unknown` for `*`.
+    // How the places to which a token's step leads from places that stand as this says do so; `Unknown` for `*`.
     fn after_token(
         self,
         alloc: Global,
@@ -202,8 +201,7 @@ impl<'a, 't> Machine<'a, 't> {
     }
 
     // How the places to which a step behind `..` leads stand to each other, where those that it leads from stand as
-    // `standing` says. The names of all objects of the document are looked at, which costs no more than such a step
-    // itself.
+    // `standing` says. The names of all objects of the document are looked at, which costs no more than such a step.
     fn standing_after_descent(
         &self,
         standing: Standing,

@@ -121,9 +121,10 @@ impl<P: AnyPath, V: HeldValue> HeldPair<P, V> {
         path.select_locations(alloc, value.lent())
     }
 
-    /// The selected values as a JSON text: `[`, their compact texts joined by `,`, and `]`. Errors: `EmptyPath` without
-    /// a path, else `EmptyValue` without a value, `OutOfMemory`, or `Serde` exactly if one of the values contains, at
-    /// any depth, a number that is neither an `i64` nor a `u64`, such as 1.5.
+    /// The selected values as a JSON text: `[`, their compact texts joined by `,`, and `]`, in the order in which the
+    /// path finds the values, with duplicates. Errors: `EmptyPath` without a path, else `EmptyValue` without a value,
+    /// `OutOfMemory`, or `Serde` exactly if one of the values contains, at any depth, a number that is neither an `i64`
+    /// nor a `u64`, such as 1.5.
     ///
     /// ```text
     /// let mut held = SelectorMut::new();

@@ -29,7 +29,8 @@ impl<P: AnyPath> HeldPair<P, Value> {
         self
     }
 
-    /// Moves the document, with all changes made so far, out of the selector, which then has none. Allocates no memory.
+    /// Moves the document, with all changes made so far, out of the selector, which then has none; `None` if it had
+    /// none before. Allocates no memory.
     ///
     /// ```text
     /// let mut held = SelectorMut::default();

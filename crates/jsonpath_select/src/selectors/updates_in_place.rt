@@ -104,10 +104,11 @@ impl<P: AnyPath> HeldPair<P, Value> {
         path.replace_in(alloc, value, fun)
     }
 
-    /// Calls the closure once for each selected location below the root that still exists, in document order, with a
-    /// reference to the value that earlier updates left there: `Some` replaces the value, `None` removes it. The
-    /// closure's first error ends the updates, as `Refused`; the updates before it remain. Errors before the closure is
-    /// called are `Unasked`: `EmptyPath` (no path), `EmptyValue` (a path, no document), `OutOfMemory`.
+    /// Calls the closure once for each selected location below the root that still exists, in document order (parents
+    /// before children, members by their names' bytes, items by index), with a reference to the value that earlier
+    /// updates left there: `Some` replaces the value, `None` removes it. The closure's first error ends the updates, as
+    /// `Refused`; the updates before it remain. Errors before the closure is called are `Unasked`: `EmptyPath` (no
+    /// path), `EmptyValue` (a path, no document), `OutOfMemory`.
     ///
     /// ```text
     /// let mut held = SelectorMut::new();

@@ -48,8 +48,7 @@ pub trait Carried<'a>: Mark<'a> {
     fn marks_in_document_order(alloc: Global, marks: &[Self]) -> Result<Vec<Self>, Self::Stop>
         ensures { IfOk result (λ found. MarksLeadBy Self.located Self.stand Self.content (λ _ ls. once_in_order ls) marks.now found.items) };
 
-    // The marks without those at or below the one kept before them; `NeedsLocations` where the marks can't tell which
-    // these are.
+    // The marks without those at or below the one kept before them; `NeedsLocations` where the marks can't tell.
     fn topmost_marks(alloc: Global, marks: &[Self]) -> Result<Vec<Self>, Self::Stop>
         ensures { IfOk result (λ found. MarksLeadBy Self.located Self.stand Self.content (λ _ ls. topmost ls) marks.now found.items) };
 

@@ -16,8 +16,7 @@ use jsonpath_nodes::NoMemory;
 use jsonpath_paths::FilterToken;
 use std::alloc::Global;
 
-// The numbers of those of the `count` candidates at which a condition holds, by the operand that it left: a path alone
-// holds where it reaches something.
+// The numbers of those of the `count` candidates at which a condition holds, by its operand: a path that finds any.
 pub(crate) fn condition_tags<'a, M: Carried<'a>>(
     alloc: Global,
     count: usize,

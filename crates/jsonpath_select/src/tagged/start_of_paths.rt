@@ -73,8 +73,7 @@ pub(crate) fn numbered_candidates<'a, M: Carried<'a>>(
     Ok(TaggedMarks { tags, marks })
 }
 
-// The member of this name of each candidate's value, tagged with the candidate's number, where the value is an object
-// that has one.
+// The member of this name of each candidate's value, if it has one, tagged with the candidate's number.
 pub(crate) fn members_named<'a, M: Carried<'a>>(
     alloc: Global,
     candidates: &[M],

@@ -47,8 +47,7 @@ pub(crate) fn push_tag_if(tags: &mut Vec<usize>, passes: bool, tag: usize) -> Re
     Ok(())
 }
 
-// Adds the tag, a candidate's number or what else stands beside a mark, until there are `count` tags. Mostly none or
-// one is missing.
+// Adds the tag, a candidate's number or what else is beside a mark, until there are `count`. Mostly one or none lacks.
 #[inline]
 pub(crate) fn fill_tags(tags: &mut Vec<usize>, tag: usize, count: usize) -> Result<(), NoMemory>
     requires { length tags.old.items ≤ count }

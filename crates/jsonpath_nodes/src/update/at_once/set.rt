@@ -18,7 +18,8 @@ use std::alloc::Global;
 
 /// Replaces the value at each location of a list by a copy of `new`, all at once. The root is skipped, and so is each
 /// location that doesn't exist, or that is below another location of the list, other than the root. The list must be in
-/// document order, each location once, as `compute_paths` returns it.
+/// document order (parents before children, members by their names' bytes, items by index), each location once, as
+/// `compute_paths` returns it.
 ///
 /// The only error is `NoMemory`, and then the value is unchanged.
 ///

@@ -16,8 +16,8 @@ use serde_json::{Map, Value};
 /// Removes the values at all locations of a list, all at once: the other items of an array keep their order. The root
 /// and locations that don't exist are skipped.
 ///
-/// The list must be in document order, each location once, as `compute_paths` returns it. Removing allocates no memory,
-/// so the call always returns `Ok`.
+/// The list must be in document order (parents before children, members by their names' bytes, items by index), each
+/// location once, as `compute_paths` returns it. Removing allocates no memory, so the call always returns `Ok`.
 ///
 /// ```text
 /// let mut document = Value::from_str(alloc, "[1, [2, 3]]")?;
@@ -133,8 +133,7 @@ fn has_step_at_depth(location: &Location, depth: usize, step: &LocStep) -> bool
     }
 }
 
-// How many of the locations at the front have the same step at `depth` as the first of them; 0 where that has none
-// there.
+// How many of the locations at the front have the step at `depth` that the first of them has; 0 where it has none.
 fn group_len(locations: &[Location], depth: usize) -> usize
     ensures count { result ≡ group_len (beyond depth locations.now) }
     ensures within { result ≤ length locations.now }
