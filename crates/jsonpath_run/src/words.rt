@@ -38,8 +38,8 @@ pub enum Command {
 pub struct Call<'w, 'a> {
     /// The command that the first argument names.
     pub command: Command,
-    /// The texts of the paths, in the order of the command line: from `parse_call` exactly one, for `Mask` one or more.
-    /// They may have syntax errors.
+    /// The texts of the paths, in the order of the command line; they may have syntax errors. `parse_call` gives one or
+    /// more for `Mask`, and exactly one for every other command.
     pub paths: &'w [&'a str],
 }
 

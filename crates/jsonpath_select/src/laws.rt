@@ -159,10 +159,10 @@ pub fn extremes_and_sets_decide_pairs()
     ensures { EndsDecidePairs }
 {}
 
-/// Lemma: a path selects the same set of nodes, and the condition of each filter holds at the same locations, if
-/// duplicates are dropped after each step, also inside conditions, and if, before each step with `..`, every node that
-/// has an ancestor in the same list is dropped from the list. Whether a condition holds depends on the location and the
-/// document alone, so it can be decided once for each location.
+/// Lemma: the set of nodes that a path selects, and the locations at which a filter's condition holds, stay the same if
+/// duplicates are dropped after each step, also inside conditions, and if before a step with `..` the nodes that have
+/// an ancestor in the same list are dropped. Whether a condition holds depends on the location and the document alone,
+/// so it can be decided once for each location.
 ///
 /// ```text
 /// laws::dropping_repeats_keeps_the_set();

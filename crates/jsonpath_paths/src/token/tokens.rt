@@ -369,7 +369,7 @@ pub enum ParseToken {
     Absolute,
     /// Begins a path from the value that a filter tests, `@`.
     Relative,
-    /// Begins a step after a single dot: it selects among the children of each node.
+    /// Begins a step after a single dot: the step selects among the children of each node.
     In,
     /// Begins a step after `..`: it selects among the children of each node that the steps before it have selected, and
     /// among the children of all descendants of these nodes.
