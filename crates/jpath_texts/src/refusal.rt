@@ -2,7 +2,7 @@
 
 use std::alloc::{AllocError, AllocFailed};
 
-/// Why `jpath` writes nothing for a text: it is no document, or can't be edited or compared as asked.
+/// Why `jpath` writes nothing for a text: it is no document, can't be edited or compared as asked, or memory ran out.
 #[derive(Clone, Copy, Debug, Drop, PartialEq, Eq)]
 pub enum DocumentRefusal {
     /// The text is no JSON document, or it nests deeper than 127 levels.

@@ -13,9 +13,9 @@ pub enum Command {
     /// The command that writes, as a JSON array, the values that a path selects in the document, in the order in which
     /// the path finds them, with duplicates.
     Select,
-    /// The command that writes the document with null in place of each value below the root that a path selects.
+    /// The command that writes the document with null in place of each value that a path selects, except the root.
     Delete,
-    /// The command that writes the document without the values below the root that a path selects.
+    /// The command that writes the document without the values that a path selects, except the root.
     Remove,
     /// The command that writes `ok` if a text is a path; if it is none, `run` returns the error `Refused`.
     Check,

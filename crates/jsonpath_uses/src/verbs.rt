@@ -27,7 +27,7 @@ pub fn select<'v>(
     path.select(alloc, json)
 }
 
-/// The nodes (values with locations) that the path selects, in its order, with duplicates. Error: `OutOfMemory`.
+/// The nodes (values with locations) that the path selects, in the path's order, with duplicates. Error: `OutOfMemory`.
 pub fn select_spots<'v>(
     alloc: Global,
     json: &'v Value,
@@ -51,8 +51,8 @@ pub fn select_locations(
     path.select_locations(alloc, json)
 }
 
-/// The values that the path selects, in its order, with duplicates, as the text of a JSON array. Errors: `OutOfMemory`,
-/// or `Serde` if one contains a number that is neither an `i64` nor a `u64`, such as 1.5.
+/// The values that the path selects, in the path's order, with duplicates, as a JSON array's text. Errors:
+/// `OutOfMemory`, or `Serde` if one contains a number that is neither an `i64` nor a `u64`, such as 1.5.
 pub fn select_as_str(
     alloc: Global,
     json: &Value,
@@ -64,8 +64,8 @@ pub fn select_as_str(
     path.select_as_str(alloc, json)
 }
 
-/// The values that the path selects, in its order, with duplicates, each made a `T`. Errors: `OutOfMemory`, or `Serde`
-/// if one can't be made a `T` or contains a number that is neither an `i64` nor a `u64`, such as 1.5.
+/// The values that the path selects, in the path's order, with duplicates, each made a `T`. Errors: `OutOfMemory`, or
+/// `Serde` if one can't be made a `T` or contains a number that is neither an `i64` nor a `u64`, such as 1.5.
 pub fn select_as<T: DeserializeOwned>(
     alloc: Global,
     json: &Value,
@@ -202,7 +202,7 @@ pub fn spelling_of_shared<P: AnyPath>(path: &Rc<P>) -> &str
     spelling_of(path)
 }
 
-/// The text from which a `Compiled` or a `PathCompiled` was compiled. Contracts refer to it as `spelling`.
+/// The text from which a kept path, a `Compiled` or a `PathCompiled`, was compiled. Contracts refer to it as `spelling`.
 pub fn spelling_of_kept<P: AnyPath>(path: &KeptPath<P>) -> &str
     ensures { result.now ≡ path.now }
 {

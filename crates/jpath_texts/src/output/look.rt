@@ -8,9 +8,9 @@ ghost use Rattle.jpath_texts.specs.AtDepth.{is_compact, is_over_lines};
 pub enum Layout {
     /// On one line, without blanks.
     OneLine,
-    /// Over lines, indented by this number of blanks for each level.
+    /// Over several lines, indented by this number of blanks for each level.
     Blanks(usize),
-    /// Over lines, indented by a tab for each level.
+    /// Over several lines, indented by a tab for each level.
     Tabs,
 }
 
