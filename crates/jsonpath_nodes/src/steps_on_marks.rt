@@ -109,9 +109,9 @@ pub fn add_named_member<'a, M: Mark<'a>>(
     Ok(())
 }
 
-/// Returns what a step other than a filter, such as `[0]`, selects from each node and from all its descendants, as
-/// after `..`. They are visited in preorder: each value before its children, items by index, members by their names'
-/// bytes. The only error is `NoMemory`.
+/// Returns what a step that is no filter (say `[0]`) selects from each node and from all its descendants, as after `..`,
+/// with duplicates. They are visited in preorder: each value before its children, items by index, members by their
+/// names' bytes. The only error is `NoMemory`.
 ///
 /// ```text
 /// let found = steps_on_marks::plain_step_from_all_below(alloc, &[&document], &PlainStep::Named("a"))?;

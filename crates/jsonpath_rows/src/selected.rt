@@ -12,15 +12,15 @@ use std::alloc::Global;
 /// tree written out as a list). All have to give the same answer.
 #[derive(Clone, Copy)]
 pub enum Method {
-    /// Selects values by a `JsonSelector`.
+    /// To select values by a `JsonSelector`.
     JsonSelector,
-    /// Selects values by a `Selector`.
+    /// To select values by a `Selector`.
     Selector,
-    /// Selects nodes, values with locations, by a `Selector`.
+    /// To select nodes (values with their locations) by a `Selector`.
     SelectorSpots,
-    /// Selects by `tokens_fit` and `select_tokens` on the path's token list.
+    /// To select by `tokens_fit` and `select_tokens` on the path's token list.
     TokenList,
-    /// Selects nodes by a `Selector`; `select_path_in_any_order` has to select the same set.
+    /// To select nodes by a `Selector`; `select_path_in_any_order` has to select the same set.
     Set,
 }
 

@@ -52,10 +52,11 @@ pub fn may_answer_by_exact_tree(query: &Query<'_>) -> bool {
     path.absolute
 }
 
-/// Appends a line to `out` for each value that a path selects in an exact tree, in the order in which the path finds
-/// them; no line if `line` is `None`. A line shows the value, whatever `line.shown` says. Returns how many values there
-/// are, or `None` if the path or the document can be evaluated only on an image (a copy with `serde_json`'s numbers).
-/// The only error is that memory ran out; after it, or after `None`, `out` may end with a part of the lines.
+/// Selects by a path in an exact tree (a JSON text's tree, each number as written), and appends each value to `out`, in
+/// the order in which the path finds them, a line for each, in the form `line`, but for `line.shown`; nothing if `line`
+/// is `None`. Returns how many values there are and whether fractions were compared; or `None` if the path or the
+/// document can be evaluated only on an image (a copy with `serde_json`'s numbers). The only error is that memory ran
+/// out. After it, or after `None`, `out` may end with a part of the lines.
 pub fn add_lines_by_exact_tree(
     alloc: Global,
     exact: &Exact<'_>,
