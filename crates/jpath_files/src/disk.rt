@@ -35,7 +35,7 @@ pub enum Call<'a> {
     SyncFolder,
 }
 
-/// The file of an edit in place whose facts (owner, size and so on) are asked for.
+/// Which file to ask the system about: an edit in place has several, the edited one and the new one beside it.
 #[derive(Clone, Copy, Drop)]
 pub enum Place {
     /// The file that is now at the path of the edited file: the edited file, or another one that has replaced it.

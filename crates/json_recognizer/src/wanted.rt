@@ -158,9 +158,9 @@ pub fn what_was_wanted(mode: Mode, top: Top, class: Class) -> Wanted
     }
 }
 
-/// The reason, for an error message, why the byte `byte` is wrong in this state of the recognizer: what was expected in
-/// its place, or what is wrong with it. Every byte that the reason names would have been accepted, except for a bracket
-/// that would nest too deep.
+/// The reason, for an error message, why `byte` is wrong in this state of the recognizer, where `byte` must be wrong. If
+/// the reason says what was expected, each byte that it names would have been accepted here, except `[` or `{` where
+/// they would nest too deep.
 pub fn wanted_at(state: &State, byte: u8) -> Wanted
     requires { state.now.depth ≤ max_depth }
     ensures { (c : Class) → names result c ≡ true → move state.now.mode (top_of (frames state.now.depth state.now.kinds)) c ≢ Wrong }
