@@ -4,7 +4,7 @@ Each names a public call, the file with its contract, and the goal at which the 
 head and clauses are taken from that file as they stand there, and the body is put under them in a crate above the
 libraries. Beside those of a call, under the same clauses, stands a body that only makes the call: it has to be proved, so
 that what is refused is the wrong body and not the clauses in their new place. The bodies of the crates `jsonpath_..` are checked
-in one run, those of `jpath_..` in another, in which a search has half its counts: most of the time goes to what is refused.
+in one run, those of `jpath_..` in another.
 
 A call that has its clauses by a trait has no such lines: there the file of the body says the head and the clause, and the
 body beside it shows that the call meets them.
@@ -176,7 +176,7 @@ def given_out(libraries):
 
 
 def check(bodies, uses):
-    """What the prover says of a crate with these bodies and, beside each, its call alone."""
+    """What the prover says of these bodies and, beside each, of its call alone."""
     crates = {it.crate for it in bodies}
     libraries = below("bodies", {**uses, "bodies": [it for it in reversed(uses) if it in crates]})
     with tempfile.TemporaryDirectory() as room:
@@ -193,7 +193,7 @@ def check(bodies, uses):
                         it.write(body.module(lines, given))
         with open(f"{room}/src/lib.rt", "w", encoding="utf-8") as it:
             it.write("\n".join(["//! Wrong bodies.", "#![tactic(auto)]", "", *[f"pub mod {it};" for it in names], ""]))
-        return above.check(room, "bodies", libraries, [it for it in libraries if it in uses], ["--margin"])
+        return above.check(room, "bodies", libraries, [it for it in libraries if it in uses])
 
 
 def faults(body, said):

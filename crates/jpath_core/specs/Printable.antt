@@ -1,7 +1,7 @@
 -- A text whose control characters are escaped.
 use Rattle.std.specs.Prelude.{◌≡◌, ℕ, ◌/◌, ◌%◌, Bool, false, ◌||◌, ◌&&◌, ◌==◌, nat_le, nat_lt, if◌then◌else◌, List, [], ◌∷◌, flat_map}
 use Rattle.std.specs.Char.{digit_char}
-use Rattle.std.specs.Str.{chars, encode_utf8_all}
+use Rattle.std.specs.Str.{chars, encode_utf8_all, IsUtf8}
 
 -- a control character of Unicode: below the blank, or from DEL to the last of C1
 abbrev pub is_control : ℕ → Bool
@@ -27,6 +27,6 @@ abbrev pub has_control : List ℕ → Bool
 has_control [] = false
 has_control (c ∷ cs) = is_control c || has_control cs
 
--- no control character is left, and where there was none all is as it was
+-- no control character of a text is left, and a text without one is as it was
 abbrev pub EscapesHold : Type 0
-EscapesHold = (cs : List ℕ) → (has_control (printable_chars cs) ≡ false) × (has_control cs ≡ false → printable_chars cs ≡ cs)
+EscapesHold = (text : List ℕ) → IsUtf8 text → (has_control (printable_chars (chars text)) ≡ false) × (has_control (chars text) ≡ false → printable text ≡ text)

@@ -1,5 +1,7 @@
-use Rattle.std.proofs.Common.{◌≡◌, ℕ, ◌/◌, ◌%◌, Bool, true, false, ◌||◌, ◌==◌, if◌then◌else◌, List, [], ◌∷◌, ◌++◌, refl, ap₂, arith}
+use Rattle.std.proofs.Common.{◌≡◌, ℕ, ◌/◌, ◌%◌, Bool, true, false, ◌||◌, ◌==◌, if◌then◌else◌, List, [], ◌∷◌, ◌++◌, refl, ap, ap₂, ◌∙◌, arith}
+use Rattle.std.proofs.lemmas.Str.{encodes-chars}
 use Rattle.std.specs.Char.{digit_char}
+use Rattle.std.specs.Str.{chars, encode_utf8_all}
 use Rattle.jpath_core.specs.Printable.{is_control, escape, printable_char, printable_chars, has_control}
 use Rattle.jpath_core.proofs.laws.escapes_hold.Goals as goal
 
@@ -46,4 +48,4 @@ kept [] h = refl
 kept (c ∷ cs) h = ap₂ (λ (x y : List ℕ). x ++ y) (char_kept (is_control c) c (left _ _ h)) (kept cs (right _ _ h))
 
 pub returns : goal.returns
-returns c = λ cs. (free cs, kept cs)
+returns c = λ text u. (free (chars text), λ h. ap encode_utf8_all (kept (chars text) h) ∙ encodes-chars text u)
