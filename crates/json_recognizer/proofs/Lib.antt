@@ -8,5 +8,6 @@ pub mod Complete
 pub mod Live
 pub mod Beginnings
 pub mod Frames
+pub mod Leads
 pub mod Streams
 pub mod Chars

@@ -1,12 +1,12 @@
 -- What is found along a stream, byte by byte.
 use Rattle.std.proofs.Common.{◌≡◌, ℕ, zero, suc, ◌+◌, ◌-◌, ◌<◌, ◌≤◌, List, [], ◌∷◌, ◌++◌, length, get_or, take, drop, Bool, true, false, ◌&&◌, cond, map, refl, sym, ap, ap₂, subst, ◌∙◌, arith, add-one, append_assoc, drop-cons, inl, inr}
 use Rattle.std.proofs.lemmas.Bool.{cases_lt}
-use Rattle.std.proofs.lemmas.List.{append-nil, drop-drop}
+use Rattle.std.proofs.lemmas.List.{append-nil, drop-drop, take-append-drop, length-take-le}
 use Rattle.json_recognizer.specs.Classes.{class_of}
 use Rattle.json_recognizer.specs.Grammar.{IsDocument, Begins, max_depth}
-use Rattle.json_recognizer.specs.Machine.{Next, goes, refused, step, is_final, after_all, apply, top_of, move_behind}
+use Rattle.json_recognizer.specs.Machine.{Next, goes, refused, step, is_final, after_all, goes_from, apply, top_of, move_behind}
 use Rattle.json_recognizer.specs.State.{frames, next_of}
-use Rattle.json_recognizer.specs.Stream.{is_over_in, is_over, ends_number, later, found_by, found_from, found_at, found_in, or_later, IsFound}
+use Rattle.json_recognizer.specs.Stream.{is_over_in, is_over, ends_number, later, found_by, found_from, found_at, found_in, or_later, Leads, IsFound}
 use Rattle.json_recognizer.specs.declared.class.Class.{Class}
 use Rattle.json_recognizer.specs.declared.class.Class.TheVariants.{Space, White, OpenBracket, OpenBrace, Quote, Comma}
 use Rattle.json_recognizer.specs.declared.machine.NumberPart.TheVariants.{AfterZero, InWhole, InFraction, InExponent}
@@ -71,15 +71,29 @@ leads_plainly s next x none e found is_found more =
     one_byte s.mode (frames s.depth s.kinds) (max_depth - s.depth) x more (next_of next) none e
     ∙ over_or_later (is_over next) (found_at next more) ∙ ap (λ f. or_later f 1 (found_at next more)) (sym is_found)
 
--- a comma behind a value, where this is the innermost that is open
-pub behind_comma : (top : Top) (next : Mode) → move_behind top Comma ≡ To next → (st : List Bool) (r : ℕ) → top_of st ≡ top
-    → (step Behind st r Comma ≡ goes next st r) × (step (InNumber InWhole) st r Comma ≡ goes next st r) × (step (InNumber InFraction) st r Comma ≡ goes next st r)
-behind_comma top next leads st r is = let e = ap (λ t. apply (move_behind t Comma) st r) is ∙ ap (λ m. apply m st r) leads in (e, e, e)
+pub refused_plainly : (s : State) (x : ℕ) → (is_final s.mode (frames s.depth s.kinds) && ends_number (class_of x)) ≡ false → step s.mode (frames s.depth s.kinds) (max_depth - s.depth) (class_of x) ≡ refused → (more : List ℕ) → found_at s (x ∷ more) ≡ Refused 0
+refused_plainly s x none e more = one_byte s.mode (frames s.depth s.kinds) (max_depth - s.depth) x more refused none e
 
--- ---- bytes that leave the mode as it is
+-- ---- bytes that lead to a mode in which the document is not over
 
--- what ends a number leaves its mode
-no_end : (m : Mode) (st : List Bool) (r : ℕ) (c : Class) → is_over_in m st ≡ false → step m st r c ≡ goes m st r → (is_final m st && ends_number c) ≡ false
+-- what is over stays so
+abbrev over_next : Next → Bool
+over_next (goes m st r) = is_over_in m st
+over_next refused = true
+
+stays_over : (cs : List Class) (r : ℕ) → over_next (after_all Behind [] r cs) ≡ true
+unfolding after_all
+stays_over [] r = refl
+stays_over (Space ∷ cs) r = stays_over cs r
+stays_over (White ∷ cs) r = stays_over cs r
+stays_over (c ∷ cs) r = refl
+
+was_open : (m : Mode) (st : List Bool) (r : ℕ) (cs : List Class) → over_next (after_all m st r cs) ≡ false → is_over_in m st ≡ false
+was_open Behind [] r cs h = let over = stays_over cs r in cc
+was_open m st r cs h = refl
+
+-- what ends a number leads to where it is over
+no_end : (m : Mode) (st : List Bool) (r : ℕ) (c : Class) → is_over_in m st ≡ false → over_next (step m st r c) ≡ false → (is_final m st && ends_number c) ≡ false
 no_end Behind [] r c o s = cc
 no_end (InNumber AfterZero) [] r Space o s = cc
 no_end (InNumber AfterZero) [] r White o s = cc
@@ -112,28 +126,35 @@ one_further P i before here k below = elim (cases_lt k i) [
   | inr le ↦ let same : i ≡ k = omega (arith, le, below) in subst P same here
 ]
 
-run_on : (m : Mode) (st : List Bool) (r : ℕ) (xs more : List ℕ) (n : ℕ) → n ≤ length xs → is_over_in m st ≡ false → ((k : ℕ) → k < n → step m st r (class_of (get_or xs k 0)) ≡ goes m st r)
-    → found_from (goes m st r) (xs ++ more) ≡ later n (found_from (goes m st r) (drop n xs ++ more))
-run_on m st r [] more zero le o stays = sym (later_none _)
-run_on m st r (x ∷ xs) more zero le o stays = sym (later_none _)
-run_on m st r [] more (suc n) le o stays = absurd (omega (arith, le))
-run_on m st r (x ∷ xs) more (suc n) le o stays =
-    let s : step m st r (class_of x) ≡ goes m st r = stays 0 (omega arith) in
-    let less : n ≤ length xs = omega (arith, le) in
-    let behind = found_from (goes m st r) (drop n xs ++ more) in
-    one_byte m st r x (xs ++ more) (goes m st r) (no_end m st r (class_of x) o s) s ∙ over_by m st r (found_from (goes m st r) (xs ++ more)) false o
-    ∙ ap (later 1) (run_on m st r xs more n less o (λ k. λ lt. stays (suc k) (omega (arith, lt)))) ∙ later_more 1 n behind ∙ ap (λ j. later j behind) (let e : 1 + n ≡ suc n = omega arith in e)
+module _ (more : List ℕ) (next : Next) (is_open : over_next next ≡ false) where
+  by_next : (x : ℕ) (xs : List ℕ) (m : Mode) (st : List Bool) (r : ℕ) → is_over_in m st ≡ false → (by : Next) → step m st r (class_of x) ≡ by → goes_from by (λ m. λ st. λ r. after_all m st r (map class_of xs)) ≡ next
+      → ((m : Mode) (st : List Bool) (r : ℕ) → after_all m st r (map class_of xs) ≡ next → found_from (goes m st r) (xs ++ more) ≡ later (length xs) (found_from next more))
+      → found_from (goes m st r) (x ∷ (xs ++ more)) ≡ later (suc (length xs)) (found_from next more)
+  by_next x xs m st r o refused e h behind = let over = ap over_next h in cc
+  by_next x xs m st r o (goes m₁ st₁ r₁) e h behind =
+      let open₁ : is_over_in m₁ st₁ ≡ false = was_open m₁ st₁ r₁ (map class_of xs) (ap over_next h ∙ is_open) in
+      let found = found_from next more in
+      one_byte m st r x (xs ++ more) (goes m₁ st₁ r₁) (no_end m st r (class_of x) o (ap over_next e ∙ open₁)) e ∙ over_by m₁ st₁ r₁ (found_from (goes m₁ st₁ r₁) (xs ++ more)) false open₁
+      ∙ ap (later 1) (behind m₁ st₁ r₁ h) ∙ later_more 1 (length xs) found ∙ ap (λ j. later j found) (let e : 1 + length xs ≡ suc (length xs) = omega arith in e)
+
+  run_on : (xs : List ℕ) (m : Mode) (st : List Bool) (r : ℕ) → after_all m st r (map class_of xs) ≡ next → found_from (goes m st r) (xs ++ more) ≡ later (length xs) (found_from next more)
+  unfolding after_all
+  run_on [] m st r h = ap (λ n. found_from n more) h ∙ sym (later_none (found_from next more))
+  run_on (x ∷ xs) m st r h = by_next x xs m st r (was_open m st r (map class_of (x ∷ xs)) (ap over_next h ∙ is_open)) (step m st r (class_of x)) refl h (λ m. λ st. λ r. run_on xs m st r)
 
 -- ---- a piece
 
 module _ (s₀ s : State) (piece : List ℕ) (i n j : ℕ) (so_far : (more : List ℕ) → found_at s₀ (piece ++ more) ≡ later i (found_at s (drop i piece ++ more))) (is_open : is_over s ≡ false) (behind : List ℕ) (lies : behind ≡ drop i piece)
-    (within : n ≤ length behind) (stays : (k : ℕ) → k < n → (st : List Bool) (r : ℕ) → step s.mode st r (class_of (get_or behind k 0)) ≡ goes s.mode st r) (is : j ≡ i + n) where
+    (within : n ≤ length behind) (leads : Leads s.mode (take n behind) s.mode) (is : j ≡ i + n) where
   pub passed : (more : List ℕ) → found_at s₀ (piece ++ more) ≡ later j (found_at s (drop j piece ++ more))
   passed more =
       let st = frames s.depth s.kinds in
       let r = max_depth - s.depth in
+      let rest = drop n behind ++ more in
+      let front : behind ++ more ≡ take n behind ++ rest = ap (λ xs. xs ++ more) (sym (take-append-drop n behind)) ∙ append_assoc (take n behind) (drop n behind) more in
+      let run : found_at s (take n behind ++ rest) ≡ later (length (take n behind)) (found_at s rest) = run_on rest (goes s.mode st r) is_open (take n behind) s.mode st r (leads st r) in
       let dropped : drop n behind ≡ drop j piece = ap (drop n) lies ∙ drop-drop n i piece ∙ ap (λ k. drop k piece) (sym is) in
-      so_far more ∙ ap (λ xs. later i (found_at s (xs ++ more))) (sym lies) ∙ ap (later i) (run_on s.mode st r behind more n within is_open (λ k. λ lt. stays k lt st r))
+      so_far more ∙ ap (λ xs. later i (found_at s (xs ++ more))) (sym lies) ∙ ap (later i) (ap (found_at s) front ∙ run ∙ ap (λ k. later k (found_at s rest)) (length-take-le n behind within))
       ∙ later_more i n (found_at s (drop n behind ++ more)) ∙ ap₂ (λ (k : ℕ) (xs : List ℕ). later k (found_at s (xs ++ more))) (sym is) dropped
 
   pub passed_one : (next : State) (found : Found) → j < length piece → ((more : List ℕ) → found_at s (get_or piece j 0 ∷ more) ≡ or_later found 1 (found_at next more))

@@ -9,6 +9,7 @@ mod machine;
 mod moves;
 mod state;
 mod stream;
+mod text;
 mod wanted;
 
 pub use buffer::lines::{count_blanks, place_after};

@@ -1,6 +1,6 @@
 //! The state, and the step.
 ghost use Rattle.std.specs.Prelude.{◌≡◌, ◌≤◌, ◌-◌, ℕ, List, [], true, false};
-ghost use Rattle.json_recognizer.specs.Machine.{step, refused, top_of, goes, first_in};
+ghost use Rattle.json_recognizer.specs.Machine.{step, apply, refused, top_of, goes, first_in};
 ghost use Rattle.json_recognizer.specs.Grammar.{max_depth};
 ghost use Rattle.json_recognizer.specs.State.{frames, next_of};
 ghost use Rattle.json_recognizer.specs.Stream.{is_over, found_at, found_in};
@@ -70,7 +70,20 @@ pub fn take(state: &mut State, class: Class) -> bool
     ensures refused { result ≡ false → step state.old.mode (frames state.old.depth state.old.kinds) (max_depth - state.old.depth) class ≡ refused }
     ensures depth { state.new.depth ≤ max_depth }
 {
-    match move_of(state.mode, top(state), class) {
+    let next = move_of(state.mode, top(state), class);
+    make(state, next)
+}
+
+// Updates the recognizer's state by this move, and returns true; false, and the state is unchanged, if no text goes on
+// with it.
+#[inline(always)]
+pub(crate) fn make(state: &mut State, next: Move) -> bool
+    requires { state.old.depth ≤ max_depth }
+    ensures goes { result ≡ true → apply next (frames state.old.depth state.old.kinds) (max_depth - state.old.depth) ≡ next_of state.new }
+    ensures refused { result ≡ false → apply next (frames state.old.depth state.old.kinds) (max_depth - state.old.depth) ≡ refused }
+    ensures depth { state.new.depth ≤ max_depth }
+{
+    match next {
         Move::To(mode) => {
             state.mode = mode;
             true

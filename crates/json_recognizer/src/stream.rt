@@ -1,18 +1,17 @@
 //! Where a document of a stream ends, or its first wrong byte.
-ghost use Rattle.std.specs.Prelude.{◌≡◌, ◌<◌, ◌≤◌, ◌&&◌, ◌∷◌, ◌++◌, length, get_or, map, true, false, cond, Bool, List, ℕ, IfSome};
-ghost use Rattle.std.specs.Simd.Lanes.{mask_l};
-ghost use Rattle.json_recognizer.specs.Classes.{class_of, is_plain, is_digit, is_stop};
+ghost use Rattle.std.specs.Prelude.{◌≡◌, ◌<◌, ◌≤◌, ◌&&◌, ◌∷◌, ◌++◌, length, get_or, take, map, true, false, cond, Bool, List, ℕ, IfSome};
+ghost use Rattle.json_recognizer.specs.Classes.{class_of, is_digit};
 ghost use Rattle.json_recognizer.specs.Grammar.{max_depth};
-ghost use Rattle.json_recognizer.specs.Machine.{is_final, step, goes, top_of, move_behind};
+ghost use Rattle.json_recognizer.specs.Machine.{is_final, move, top_of, move_behind, move_word};
 ghost use Rattle.json_recognizer.specs.State.{frames};
-ghost use Rattle.json_recognizer.specs.Stream.{is_over, ends_number, found_at, found_in, end_or, or_later, IsWithin};
+ghost use Rattle.json_recognizer.specs.Stream.{is_over, ends_number, found_at, found_in, end_or, or_later, IsWithin, Leads};
 ghost use Rattle.json_recognizer.specs.declared.class.Class.TheVariants.{Space, Comma};
 ghost use Rattle.json_recognizer.specs.declared.machine.Move.TheVariants.{To};
 
 use crate::class::{Class, class_of};
-use crate::machine::{Mode, NumberPart, TextPart, Top};
+use crate::machine::{Mode, Move, NumberPart, TextPart, Top, WordPart};
 use crate::state::{self, State, start, top};
-use std::simd::prelude::*;
+use crate::text::count_text;
 
 /// The result of searching the next bytes of a stream for the end of the document that is being read.
 #[derive(Clone, Copy, Debug, Drop)]
@@ -24,35 +23,6 @@ pub enum Found {
     /// The byte at this index, from 0, in the bytes that were passed to the call is wrong: no document can continue
     /// with it.
     Refused(usize),
-}
-
-// Which of the bytes don't plainly stand for themselves in a text: a bit for each.
-#[inline(always)]
-fn stops(bytes: u8x16) -> u64
-    ensures { result ≡ mask_l (map is_stop bytes) }
-{
-    (bytes.simd_eq(u8x16::splat(b'"'))
-        | bytes.simd_eq(u8x16::splat(b'\\'))
-        | bytes.simd_lt(u8x16::splat(32))
-        | bytes.simd_ge(u8x16::splat(128))).to_bitmask()
-}
-
-// How many bytes at the front stand for themselves in a text. They are looked at sixteen at a time; the last few, where
-// there aren't so many, are not counted.
-#[inline(always)]
-fn count_chars(bytes: &[u8]) -> usize
-    ensures within { result ≤ length bytes.now }
-    ensures chars { (k : ℕ) → k < result → is_plain (class_of (get_or bytes.now k 0)) ≡ true }
-{
-    let mut at = 0;
-    while bytes.len() - at >= 16 {
-        let found = stops(u8x16::from_slice(&bytes[at..]));
-        if found != 0 {
-            return at + found.trailing_zeros() as usize;
-        }
-        at += 16;
-    }
-    at
 }
 
 #[inline(always)]
@@ -95,10 +65,10 @@ fn count_spaces(bytes: &[u8]) -> usize
 #[inline(always)]
 fn count_staying(mode: Mode, bytes: &[u8]) -> usize
     ensures within { result ≤ length bytes.now }
-    ensures stays { (k : ℕ) → k < result → (st : List Bool) (r : ℕ) → step mode st r (class_of (get_or bytes.now k 0)) ≡ goes mode st r }
+    ensures stays { Leads mode (take result bytes.now) mode }
 {
     match mode {
-        Mode::InText(TextPart::InChars, _) => count_chars(bytes),
+        Mode::InText(TextPart::InChars, _) => count_text(bytes),
         Mode::InNumber(NumberPart::InWhole) => count_digits(bytes),
         Mode::InNumber(NumberPart::InFraction) => count_digits(bytes),
         Mode::InNumber(NumberPart::InExponent) => count_digits(bytes),
@@ -162,59 +132,76 @@ fn ends_before(state: &State, class: Class) -> bool
     is_final(state) && ends_number(class)
 }
 
-// The mode behind a comma that comes behind a value of an array or object.
+// The move of a comma or closing bracket that comes behind a value of an array or object.
 #[inline(always)]
-fn mode_after_comma(top: Top) -> Option<Mode>
-    ensures { IfSome result (λ next. move_behind top Comma ≡ To next) }
+fn move_after_value(top: Top, byte: u8) -> Option<Move>
+    ensures { IfSome result (λ next. move_behind top (class_of byte) ≡ next) }
 {
-    match top {
-        Top::InArray => Some(Mode::Value),
-        Top::InObject => Some(Mode::Name),
-        Top::Outside => None,
+    match (top, byte) {
+        (Top::InArray, b',') => Some(Move::To(Mode::Value)),
+        (Top::InObject, b',') => Some(Move::To(Mode::Name)),
+        (Top::InArray, b']') => Some(Move::Shuts),
+        (Top::InObject, b'}') => Some(Move::Shuts),
+        _ => None,
     }
 }
 
-// The mode behind the byte, for the bytes that come most often: quotes, the colon behind a name, the first digits of a
-// number and its fraction, and the dot between, commas, escapes, and characters of two and three bytes. They lead there
-// whatever is open around the innermost array or object.
+// The move of a letter of `true`, `false` or `null` that comes behind others.
 #[inline(always)]
-#[tactic(auto, using(crate::proofs::Streams::behind_comma))]
-fn plain_move(state: &State, byte: u8) -> Option<Mode>
+fn letter_move(part: WordPart, byte: u8) -> Option<Move>
+    ensures { IfSome result (λ next. move_word part (class_of byte) ≡ next) }
+{
+    match (part, byte) {
+        (WordPart::AfterT, b'r') => Some(Move::To(Mode::InWord(WordPart::AfterTr))),
+        (WordPart::AfterTr, b'u') => Some(Move::To(Mode::InWord(WordPart::AfterTru))),
+        (WordPart::AfterF, b'a') => Some(Move::To(Mode::InWord(WordPart::AfterFa))),
+        (WordPart::AfterFa, b'l') => Some(Move::To(Mode::InWord(WordPart::AfterFal))),
+        (WordPart::AfterFal, b's') => Some(Move::To(Mode::InWord(WordPart::AfterFals))),
+        (WordPart::AfterN, b'u') => Some(Move::To(Mode::InWord(WordPart::AfterNu))),
+        (WordPart::AfterNu, b'l') => Some(Move::To(Mode::InWord(WordPart::AfterNul))),
+        (WordPart::AfterTru | WordPart::AfterFals, b'e') => Some(Move::To(Mode::Behind)),
+        (WordPart::AfterNul, b'l') => Some(Move::To(Mode::Behind)),
+        _ => None,
+    }
+}
+
+// The move of the byte, for the bytes that come most often: quotes, the colon behind a name, the first digits of a
+// number and its fraction, and the dot between, commas and brackets.
+#[inline(always)]
+fn plain_move(state: &State, byte: u8) -> Option<Move>
     requires { state.now.depth ≤ max_depth }
-    ensures { IfSome result (λ next. (st : List Bool) (r : ℕ) → top_of st ≡ top_of (frames state.now.depth state.now.kinds) → (step state.now.mode st r (class_of byte) ≡ goes next st r) × ((is_final state.now.mode st && ends_number (class_of byte)) ≡ false)) }
+    ensures { IfSome result (λ next. (st : List Bool) → top_of st ≡ top_of (frames state.now.depth state.now.kinds) → (move state.now.mode (top_of st) (class_of byte) ≡ next) × ((is_final state.now.mode st && ends_number (class_of byte)) ≡ false)) }
 {
     match (state.mode, byte) {
-        (Mode::InText(TextPart::InChars, false), b'"') => Some(Mode::Behind),
-        (Mode::InText(TextPart::InChars, true), b'"') => Some(Mode::AfterName),
-        (Mode::AfterName, b':') => Some(Mode::Value),
-        (Mode::Value, b'"') => Some(Mode::InText(TextPart::InChars, false)),
-        (Mode::Value, b'1'..=b'9') => Some(Mode::InNumber(NumberPart::InWhole)),
-        (Mode::InNumber(NumberPart::InWhole), b'.') => Some(Mode::InNumber(NumberPart::AfterDot)),
         (Mode::InNumber(NumberPart::AfterDot), b'0'..=b'9') => {
-            Some(Mode::InNumber(NumberPart::InFraction))
+            Some(Move::To(Mode::InNumber(NumberPart::InFraction)))
         }
-        (Mode::Name, b'"') => Some(Mode::InText(TextPart::InChars, true)),
-        (Mode::FirstName, b'"') => Some(Mode::InText(TextPart::InChars, true)),
-        (Mode::Behind, b',') => mode_after_comma(top(state)),
-        (Mode::InNumber(NumberPart::InWhole), b',') => mode_after_comma(top(state)),
-        (Mode::InNumber(NumberPart::InFraction), b',') => mode_after_comma(top(state)),
-        (Mode::InText(TextPart::InChars, is_name), b'\\') => {
-            Some(Mode::InText(TextPart::AfterBackslash, is_name))
+        (Mode::Value, b'1'..=b'9') => Some(Move::To(Mode::InNumber(NumberPart::InWhole))),
+        (Mode::First, b'1'..=b'9') => Some(Move::To(Mode::InNumber(NumberPart::InWhole))),
+        (Mode::InText(TextPart::InChars, false), b'"') => Some(Move::To(Mode::Behind)),
+        (Mode::InText(TextPart::InChars, true), b'"') => Some(Move::To(Mode::AfterName)),
+        (Mode::AfterName, b':') => Some(Move::To(Mode::Value)),
+        (Mode::Value | Mode::First, b'"') => {
+            Some(Move::To(Mode::InText(TextPart::InChars, false)))
         }
-        (Mode::InText(TextPart::AfterBackslash, is_name), b'"' | b'\\' | b'n') => {
-            Some(Mode::InText(TextPart::InChars, is_name))
+        (Mode::Value | Mode::First, b'{') => Some(Move::Opens(true)),
+        (Mode::Value | Mode::First, b'[') => Some(Move::Opens(false)),
+        (Mode::Value | Mode::First, b't') => Some(Move::To(Mode::InWord(WordPart::AfterT))),
+        (Mode::Value | Mode::First, b'f') => Some(Move::To(Mode::InWord(WordPart::AfterF))),
+        (Mode::Value | Mode::First, b'n') => Some(Move::To(Mode::InWord(WordPart::AfterN))),
+        (Mode::InWord(part), _) => letter_move(part, byte),
+        (Mode::InNumber(NumberPart::InWhole), b'.') => {
+            Some(Move::To(Mode::InNumber(NumberPart::AfterDot)))
         }
-        (Mode::InText(TextPart::InChars, is_name), 194..=223) => {
-            Some(Mode::InText(TextPart::Utf1, is_name))
+        (Mode::Name | Mode::FirstName, b'"') => {
+            Some(Move::To(Mode::InText(TextPart::InChars, true)))
         }
-        (Mode::InText(TextPart::InChars, is_name), 225..=236) => {
-            Some(Mode::InText(TextPart::Utf2, is_name))
+        (Mode::Behind, b',' | b']' | b'}') => move_after_value(top(state), byte),
+        (Mode::InNumber(NumberPart::InWhole), b',' | b']' | b'}') => {
+            move_after_value(top(state), byte)
         }
-        (Mode::InText(TextPart::Utf2, is_name), 128..=191) => {
-            Some(Mode::InText(TextPart::Utf1, is_name))
-        }
-        (Mode::InText(TextPart::Utf1, is_name), 128..=191) => {
-            Some(Mode::InText(TextPart::InChars, is_name))
+        (Mode::InNumber(NumberPart::InFraction), b',' | b']' | b'}') => {
+            move_after_value(top(state), byte)
         }
         _ => None,
     }
@@ -241,8 +228,10 @@ fn take_byte(state: &mut State, byte: u8) -> Found
     ensures open { result ≡ Found.GoesOn → is_over state.new ≡ false }
     ensures depth { state.new.depth ≤ max_depth }
 {
-    if let Some(mode) = plain_move(state, byte) {
-        state.mode = mode;
+    if let Some(next) = plain_move(state, byte) {
+        if !state::make(state, next) {
+            return Found::Refused(0);
+        }
         return found_behind(state);
     }
     let class = class_of(byte);

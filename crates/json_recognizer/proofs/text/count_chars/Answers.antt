@@ -2,7 +2,7 @@ use Rattle.std.proofs.Common.{arith}
 use Rattle.std.proofs.lemmas.Simd.{run_in_chunk_le}
 use Rattle.json_recognizer.proofs.Chars.{counted, stops_at, none_stops}
 use Rattle.json_recognizer.specs.Classes.{is_stop}
-use Rattle.json_recognizer.proofs.stream.count_chars.Goals as goal
+use Rattle.json_recognizer.proofs.text.count_chars.Goals as goal
 
 pub returns-then-found-ne0-clause-within : goal.returns-then-found-ne0-clause-within
 returns-then-found-ne0-clause-within c =

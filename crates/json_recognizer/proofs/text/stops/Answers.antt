@@ -2,7 +2,7 @@ use Rattle.std.proofs.Common.{◌==◌, nat_lt, nat_le, arith}
 use Rattle.std.proofs.lemmas.Simd.{zip2_splat, zip2_splat_left}
 use Rattle.json_recognizer.specs.Classes.{is_stop}
 use Rattle.json_recognizer.proofs.Chars.{flag, either, masked}
-use Rattle.json_recognizer.proofs.stream.stops.Goals as goal
+use Rattle.json_recognizer.proofs.text.stops.Goals as goal
 
 pub returns : goal.returns
 returns c =

@@ -1,0 +1,187 @@
+//! The characters of a quoted text, passed over many at a time.
+ghost use Rattle.std.specs.Prelude.{◌≡◌, ◌<◌, ◌≤◌, [], ◌∷◌, length, get_or, take, map, true, ℕ};
+ghost use Rattle.std.specs.Simd.Lanes.{mask_l};
+ghost use Rattle.json_recognizer.specs.Classes.{class_of, is_plain, is_stop, is_tail, is_hex, is_short_escape};
+ghost use Rattle.json_recognizer.specs.Stream.{LeadsIn, AreChars};
+ghost use Rattle.json_recognizer.specs.declared.machine.TextPart.TheVariants.{InChars, Unit4, Unit2, Utf1, Utf2};
+
+use std::simd::prelude::*;
+
+// Which of the bytes don't plainly stand for themselves in a text: a bit for each.
+#[inline(always)]
+fn stops(bytes: u8x16) -> u64
+    ensures { result ≡ mask_l (map is_stop bytes) }
+{
+    (bytes.simd_eq(u8x16::splat(b'"'))
+        | bytes.simd_eq(u8x16::splat(b'\\'))
+        | bytes.simd_lt(u8x16::splat(32))
+        | bytes.simd_ge(u8x16::splat(128))).to_bitmask()
+}
+
+// How many bytes at the front stand for themselves in a text. They are looked at sixteen at a time; the last few, where
+// there aren't so many, are not counted.
+#[inline(always)]
+fn count_chars(bytes: &[u8]) -> usize
+    ensures within { result ≤ length bytes.now }
+    ensures chars { (k : ℕ) → k < result → is_plain (class_of (get_or bytes.now k 0)) ≡ true }
+{
+    let mut at = 0;
+    while bytes.len() - at >= 16 {
+        let found = stops(u8x16::from_slice(&bytes[at..]));
+        if found != 0 {
+            return at + found.trailing_zeros() as usize;
+        }
+        at += 16;
+    }
+    at
+}
+
+#[inline(always)]
+fn is_tail(byte: u8) -> bool
+    ensures { result ≡ true → is_tail (class_of byte) ≡ true }
+{
+    matches!(byte, 128..=191)
+}
+
+// Whether these are a character of two bytes.
+#[inline(always)]
+fn are_two(first: u8, second: u8) -> bool
+    ensures { result ≡ true → LeadsIn InChars (first ∷ second ∷ []) InChars }
+{
+    matches!(first, 194..=223) && is_tail(second)
+}
+
+// Whether these are the first two bytes of a character of three.
+#[inline(always)]
+fn begins_three(first: u8, second: u8) -> bool
+    ensures { result ≡ true → LeadsIn InChars (first ∷ second ∷ []) Utf1 }
+{
+    match first {
+        224 => matches!(second, 160..=191),
+        237 => matches!(second, 128..=159),
+        225..=239 => is_tail(second),
+        _ => false,
+    }
+}
+
+// Whether these are the first two bytes of a character of four, as most have them.
+#[inline(always)]
+fn begins_four(first: u8, second: u8) -> bool
+    ensures { result ≡ true → LeadsIn InChars (first ∷ second ∷ []) Utf2 }
+{
+    first == 240 && matches!(second, 144..=191)
+}
+
+#[inline(always)]
+fn is_hex(byte: u8) -> bool
+    ensures { result ≡ true → is_hex (class_of byte) ≡ true }
+{
+    byte.is_ascii_hexdigit()
+}
+
+// Whether these are the first two digits of a character's number, which is no half of a surrogate pair.
+#[inline(always)]
+fn begins_unit(first: u8, second: u8) -> bool
+    ensures { result ≡ true → LeadsIn Unit4 (first ∷ second ∷ []) Unit2 }
+{
+    match first {
+        b'd' => matches!(second, b'0'..=b'7'),
+        b'D' => matches!(second, b'0'..=b'7'),
+        _ => is_hex(first) && is_hex(second),
+    }
+}
+
+// How many bytes the first character has if it is beyond ASCII, an escape by its number, or a space; 0 if it is not.
+#[inline(always)]
+fn other_len(bytes: &[u8]) -> usize
+    requires { 6 ≤ length bytes.now }
+    ensures within { result ≤ length bytes.now }
+    ensures chars { AreChars (take result bytes.now) }
+{
+    if are_two(bytes[0], bytes[1]) {
+        2
+    } else if begins_three(bytes[0], bytes[1]) && is_tail(bytes[2]) {
+        3
+    } else if bytes[0] == b' ' {
+        1
+    } else if bytes[0] == b'\\'
+        && bytes[1] == b'u'
+        && begins_unit(bytes[2], bytes[3])
+        && is_hex(bytes[4])
+        && is_hex(bytes[5])
+    {
+        6
+    } else if begins_four(bytes[0], bytes[1]) && is_tail(bytes[2]) && is_tail(bytes[3]) {
+        4
+    } else {
+        0
+    }
+}
+
+// How many bytes at the front are such characters. The last few bytes are not looked at.
+#[inline(never)]
+fn count_others(bytes: &[u8]) -> usize
+    ensures within { result ≤ length bytes.now }
+    ensures chars { AreChars (take result bytes.now) }
+{
+    let mut at = 0;
+    while bytes.len() - at >= 6 {
+        let len = other_len(&bytes[at..]);
+        if len == 0 {
+            return at;
+        }
+        at += len;
+    }
+    at
+}
+
+// Whether a backslash may stand before this letter alone.
+#[inline(always)]
+fn is_short_escape(byte: u8) -> bool
+    ensures { result ≡ true → is_short_escape (class_of byte) ≡ true }
+{
+    matches!(byte, b'"' | b'\\' | b'/' | b'b' | b'f' | b'n' | b'r' | b't')
+}
+
+// Whether the bytes begin with an escape by one letter.
+#[inline(always)]
+fn has_short_escape(bytes: &[u8]) -> bool
+    ensures within { result ≡ true → 2 ≤ length bytes.now }
+    ensures chars { result ≡ true → AreChars (take 2 bytes.now) }
+{
+    if bytes.len() < 2 {
+        return false;
+    }
+    bytes[0] == b'\\' && is_short_escape(bytes[1])
+}
+
+// How many bytes at the front are an escape by one letter, or such characters.
+#[inline(always)]
+fn count_beyond(bytes: &[u8]) -> usize
+    ensures within { result ≤ length bytes.now }
+    ensures chars { AreChars (take result bytes.now) }
+{
+    if has_short_escape(bytes) {
+        2
+    } else {
+        count_others(bytes)
+    }
+}
+
+// How many bytes at the front are characters and escapes of the text that is being read.
+#[inline(always)]
+pub(crate) fn count_text(bytes: &[u8]) -> usize
+    ensures within { result ≤ length bytes.now }
+    ensures chars { AreChars (take result bytes.now) }
+{
+    let mut at = count_chars(bytes);
+    while at < bytes.len() && bytes[at] != b'"' {
+        let beyond = count_beyond(&bytes[at..]);
+        if beyond == 0 {
+            return at;
+        }
+        at += beyond;
+        at += count_chars(&bytes[at..]);
+    }
+    at
+}
