@@ -1,17 +1,15 @@
 -- What is found along a stream, byte by byte.
-use Rattle.std.proofs.Common.{◌≡◌, ℕ, zero, suc, ◌+◌, ◌-◌, ◌<◌, ◌≤◌, List, [], ◌∷◌, ◌++◌, length, get_or, take, drop, Bool, true, false, ◌&&◌, cond, map, refl, sym, ap, ap₂, subst, ◌∙◌, arith, add-one, append_assoc, drop-cons, inl, inr}
+use Rattle.std.proofs.Common.{◌≡◌, ℕ, suc, ◌+◌, ◌-◌, ◌<◌, ◌≤◌, List, [], ◌∷◌, ◌++◌, length, get_or, take, drop, Bool, true, false, ◌&&◌, cond, map, refl, sym, ap, ap₂, subst, ◌∙◌, arith, add-one, append_assoc, drop-cons, inl, inr}
 use Rattle.std.proofs.lemmas.Bool.{cases_lt}
 use Rattle.std.proofs.lemmas.List.{append-nil, drop-drop, take-append-drop, length-take-le}
 use Rattle.json_recognizer.specs.Classes.{class_of}
 use Rattle.json_recognizer.specs.Grammar.{IsDocument, Begins, max_depth}
-use Rattle.json_recognizer.specs.Machine.{Next, goes, refused, step, is_final, after_all, goes_from, apply, top_of, move_behind}
+use Rattle.json_recognizer.specs.Machine.{Next, goes, refused, step, is_final, after_all, goes_from}
 use Rattle.json_recognizer.specs.State.{frames, next_of}
 use Rattle.json_recognizer.specs.Stream.{is_over_in, is_over, ends_number, later, found_by, found_from, found_at, found_in, or_later, Leads, IsFound}
 use Rattle.json_recognizer.specs.declared.class.Class.{Class}
-use Rattle.json_recognizer.specs.declared.class.Class.TheVariants.{Space, White, OpenBracket, OpenBrace, Quote, Comma}
+use Rattle.json_recognizer.specs.declared.class.Class.TheVariants.{Space, White, OpenBracket, OpenBrace, Quote}
 use Rattle.json_recognizer.specs.declared.machine.NumberPart.TheVariants.{AfterZero, InWhole, InFraction, InExponent}
-use Rattle.json_recognizer.specs.declared.machine.Move.TheVariants.{To}
-use Rattle.json_recognizer.specs.declared.machine.Top.{Top}
 use Rattle.json_recognizer.specs.declared.machine.Mode.{Mode}
 use Rattle.json_recognizer.specs.declared.machine.Mode.TheVariants.{Value, Behind, InNumber}
 use Rattle.json_recognizer.specs.declared.state.State.{State}

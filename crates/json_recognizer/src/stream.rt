@@ -1,12 +1,11 @@
 //! Where a document of a stream ends, or its first wrong byte.
-ghost use Rattle.std.specs.Prelude.{◌≡◌, ◌<◌, ◌≤◌, ◌&&◌, ◌∷◌, ◌++◌, length, get_or, take, map, true, false, cond, Bool, List, ℕ, IfSome};
+ghost use Rattle.std.specs.Prelude.{◌≡◌, ◌<◌, ◌≤◌, ◌&&◌, ◌∷◌, ◌++◌, length, get_or, take, true, false, cond, Bool, List, ℕ, IfSome};
 ghost use Rattle.json_recognizer.specs.Classes.{class_of, is_digit};
 ghost use Rattle.json_recognizer.specs.Grammar.{max_depth};
 ghost use Rattle.json_recognizer.specs.Machine.{is_final, move, top_of, move_behind, move_word};
 ghost use Rattle.json_recognizer.specs.State.{frames};
 ghost use Rattle.json_recognizer.specs.Stream.{is_over, ends_number, found_at, found_in, end_or, or_later, IsWithin, Leads};
-ghost use Rattle.json_recognizer.specs.declared.class.Class.TheVariants.{Space, Comma};
-ghost use Rattle.json_recognizer.specs.declared.machine.Move.TheVariants.{To};
+ghost use Rattle.json_recognizer.specs.declared.class.Class.TheVariants.{Space};
 
 use crate::class::{Class, class_of};
 use crate::machine::{Mode, Move, NumberPart, TextPart, Top, WordPart};
