@@ -59,7 +59,7 @@ fn count_spaces(bytes: &[u8]) -> usize
     bytes.len()
 }
 
-// How many bytes at the front plainly leave the mode as it is: they stand for themselves in a text, are more digits of a
+// How many bytes at the front plainly lead back to the mode: they are characters and escapes of a text, more digits of a
 // number, or spaces.
 #[inline(always)]
 fn count_staying(mode: Mode, bytes: &[u8]) -> usize
@@ -164,8 +164,8 @@ fn letter_move(part: WordPart, byte: u8) -> Option<Move>
     }
 }
 
-// The move of the byte, for the bytes that come most often: quotes, the colon behind a name, the first digits of a
-// number and its fraction, and the dot between, commas and brackets.
+// The move of the byte, for the bytes that come most often: quotes, colons, commas and brackets, the first byte of a
+// number, its dot and the digit behind it, and the letters of words.
 #[inline(always)]
 fn plain_move(state: &State, byte: u8) -> Option<Move>
     requires { state.now.depth ≤ max_depth }
@@ -177,6 +177,15 @@ fn plain_move(state: &State, byte: u8) -> Option<Move>
         }
         (Mode::Value, b'1'..=b'9') => Some(Move::To(Mode::InNumber(NumberPart::InWhole))),
         (Mode::First, b'1'..=b'9') => Some(Move::To(Mode::InNumber(NumberPart::InWhole))),
+        (Mode::InNumber(NumberPart::AfterMinus), b'1'..=b'9') => {
+            Some(Move::To(Mode::InNumber(NumberPart::InWhole)))
+        }
+        (Mode::Value | Mode::First, b'-') => {
+            Some(Move::To(Mode::InNumber(NumberPart::AfterMinus)))
+        }
+        (Mode::Value | Mode::First | Mode::InNumber(NumberPart::AfterMinus), b'0') => {
+            Some(Move::To(Mode::InNumber(NumberPart::AfterZero)))
+        }
         (Mode::InText(TextPart::InChars, false), b'"') => Some(Move::To(Mode::Behind)),
         (Mode::InText(TextPart::InChars, true), b'"') => Some(Move::To(Mode::AfterName)),
         (Mode::AfterName, b':') => Some(Move::To(Mode::Value)),
@@ -189,7 +198,7 @@ fn plain_move(state: &State, byte: u8) -> Option<Move>
         (Mode::Value | Mode::First, b'f') => Some(Move::To(Mode::InWord(WordPart::AfterF))),
         (Mode::Value | Mode::First, b'n') => Some(Move::To(Mode::InWord(WordPart::AfterN))),
         (Mode::InWord(part), _) => letter_move(part, byte),
-        (Mode::InNumber(NumberPart::InWhole), b'.') => {
+        (Mode::InNumber(NumberPart::InWhole | NumberPart::AfterZero), b'.') => {
             Some(Move::To(Mode::InNumber(NumberPart::AfterDot)))
         }
         (Mode::Name | Mode::FirstName, b'"') => {
@@ -200,6 +209,9 @@ fn plain_move(state: &State, byte: u8) -> Option<Move>
             move_after_value(top(state), byte)
         }
         (Mode::InNumber(NumberPart::InFraction), b',' | b']' | b'}') => {
+            move_after_value(top(state), byte)
+        }
+        (Mode::InNumber(NumberPart::AfterZero), b',' | b']' | b'}') => {
             move_after_value(top(state), byte)
         }
         _ => None,
