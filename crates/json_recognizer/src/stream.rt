@@ -192,6 +192,7 @@ fn plain_move(state: &State, byte: u8) -> Option<Move>
         (Mode::Value | Mode::First, b'"') => {
             Some(Move::To(Mode::InText(TextPart::InChars, false)))
         }
+        (Mode::Value, b'\n') => Some(Move::To(Mode::Value)),
         (Mode::Value | Mode::First, b'{') => Some(Move::Opens(true)),
         (Mode::Value | Mode::First, b'[') => Some(Move::Opens(false)),
         (Mode::Value | Mode::First, b't') => Some(Move::To(Mode::InWord(WordPart::AfterT))),
@@ -204,6 +205,14 @@ fn plain_move(state: &State, byte: u8) -> Option<Move>
         (Mode::Name | Mode::FirstName, b'"') => {
             Some(Move::To(Mode::InText(TextPart::InChars, true)))
         }
+        (Mode::First, b']') => match top(state) {
+            Top::InArray => Some(Move::Shuts),
+            _ => None,
+        },
+        (Mode::FirstName, b'}') => match top(state) {
+            Top::InObject => Some(Move::Shuts),
+            _ => None,
+        },
         (Mode::Behind, b',' | b']' | b'}') => move_after_value(top(state), byte),
         (Mode::InNumber(NumberPart::InWhole), b',' | b']' | b'}') => {
             move_after_value(top(state), byte)
