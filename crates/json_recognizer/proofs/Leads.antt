@@ -9,7 +9,7 @@ use Rattle.json_recognizer.specs.Stream.{Leads, LeadsIn, AreChars}
 use Rattle.json_recognizer.specs.declared.class.Class.{Class}
 use Rattle.json_recognizer.specs.declared.class.Class.TheVariants.{AnyD}
 use Rattle.json_recognizer.specs.declared.machine.Mode.{Mode}
-use Rattle.json_recognizer.specs.declared.machine.Mode.TheVariants.{InText}
+use Rattle.json_recognizer.specs.declared.machine.Mode.TheVariants.{Value, AfterName, InText}
 use Rattle.json_recognizer.specs.declared.machine.TextPart.{TextPart}
 use Rattle.json_recognizer.specs.declared.machine.TextPart.TheVariants.{InChars, AfterBackslash, Unit4, Unit3, Unit2, Unit1, UnitD, Utf1, Utf2, UtfE0, UtfEd, UtfF0}
 
@@ -207,3 +207,11 @@ module _ (xs : List ℕ) (six : 6 ≤ length xs) where
 
   pub has_space : get_or xs 0 0 ≡ 32 → AreChars (take 1 xs)
   has_space is = one_at InChars InChars xs 0 (omega (arith, six)) (at_byte InChars InChars InChars (get_or xs 0 0) [] (spaces (get_or xs 0 0) is) (at_end InChars))
+
+-- the quote that ends a name, and the colon
+pub name_ends : (xs : List ℕ) → 2 ≤ length xs → get_or xs 0 0 ≡ 34 → get_or xs 1 0 ≡ 58 → Leads (InText InChars true) (take 2 xs) Value
+name_ends [] long quote colon = absurd (omega (arith, long))
+name_ends (x ∷ []) long quote colon = absurd (omega (arith, long))
+name_ends (x ∷ y ∷ xs) long quote colon =
+    by_one (InText InChars true) AfterName Value x (y ∷ []) (λ st. λ r. ap (λ k. step (InText InChars true) st r (class_of k)) quote)
+    (by_one AfterName Value Value y [] (λ st. λ r. ap (λ k. step AfterName st r (class_of k)) colon) (nothing Value))

@@ -142,24 +142,24 @@ module _ (more : List ℕ) (next : Next) (is_open : over_next next ≡ false) wh
 
 -- ---- a piece
 
-module _ (s₀ s : State) (piece : List ℕ) (i n j : ℕ) (so_far : (more : List ℕ) → found_at s₀ (piece ++ more) ≡ later i (found_at s (drop i piece ++ more))) (is_open : is_over s ≡ false) (behind : List ℕ) (lies : behind ≡ drop i piece)
-    (within : n ≤ length behind) (leads : Leads s.mode (take n behind) s.mode) (is : j ≡ i + n) where
-  pub passed : (more : List ℕ) → found_at s₀ (piece ++ more) ≡ later j (found_at s (drop j piece ++ more))
+module _ (s₀ s s₁ : State) (piece : List ℕ) (i n j : ℕ) (so_far : (more : List ℕ) → found_at s₀ (piece ++ more) ≡ later i (found_at s (drop i piece ++ more))) (is_open : is_over s₁ ≡ false) (same : s₁ ≡ record s { mode = s₁.mode }) (behind : List ℕ) (lies : behind ≡ drop i piece)
+    (within : n ≤ length behind) (leads : Leads s.mode (take n behind) s₁.mode) (is : j ≡ i + n) where
+  pub passed : (more : List ℕ) → found_at s₀ (piece ++ more) ≡ later j (found_at s₁ (drop j piece ++ more))
   passed more =
       let st = frames s.depth s.kinds in
       let r = max_depth - s.depth in
       let rest = drop n behind ++ more in
       let front : behind ++ more ≡ take n behind ++ rest = ap (λ xs. xs ++ more) (sym (take-append-drop n behind)) ∙ append_assoc (take n behind) (drop n behind) more in
-      let run : found_at s (take n behind ++ rest) ≡ later (length (take n behind)) (found_at s rest) = run_on rest (goes s.mode st r) is_open (take n behind) s.mode st r (leads st r) in
+      let run : found_at s (take n behind ++ rest) ≡ later (length (take n behind)) (found_at s₁ rest) = run_on rest (next_of s₁) is_open (take n behind) s.mode st r (leads st r ∙ sym (ap next_of same)) in
       let dropped : drop n behind ≡ drop j piece = ap (drop n) lies ∙ drop-drop n i piece ∙ ap (λ k. drop k piece) (sym is) in
-      so_far more ∙ ap (λ xs. later i (found_at s (xs ++ more))) (sym lies) ∙ ap (later i) (ap (found_at s) front ∙ run ∙ ap (λ k. later k (found_at s rest)) (length-take-le n behind within))
-      ∙ later_more i n (found_at s (drop n behind ++ more)) ∙ ap₂ (λ (k : ℕ) (xs : List ℕ). later k (found_at s (xs ++ more))) (sym is) dropped
+      so_far more ∙ ap (λ xs. later i (found_at s (xs ++ more))) (sym lies) ∙ ap (later i) (ap (found_at s) front ∙ run ∙ ap (λ k. later k (found_at s₁ rest)) (length-take-le n behind within))
+      ∙ later_more i n (found_at s₁ (drop n behind ++ more)) ∙ ap₂ (λ (k : ℕ) (xs : List ℕ). later k (found_at s₁ (xs ++ more))) (sym is) dropped
 
-  pub passed_one : (next : State) (found : Found) → j < length piece → ((more : List ℕ) → found_at s (get_or piece j 0 ∷ more) ≡ or_later found 1 (found_at next more))
+  pub passed_one : (next : State) (found : Found) → j < length piece → ((more : List ℕ) → found_at s₁ (get_or piece j 0 ∷ more) ≡ or_later found 1 (found_at next more))
       → (more : List ℕ) → found_at s₀ (piece ++ more) ≡ later j (or_later found 1 (found_at next (drop (j + 1) piece ++ more)))
   passed_one next found below one more =
       let dropped : drop j piece ≡ get_or piece j 0 ∷ drop (j + 1) piece = drop-cons piece j 0 below ∙ ap (λ k. get_or piece j 0 ∷ drop k piece) (sym (add-one j)) in
-      passed more ∙ ap (λ xs. later j (found_at s (xs ++ more))) dropped ∙ ap (later j) (one (drop (j + 1) piece ++ more))
+      passed more ∙ ap (λ xs. later j (found_at s₁ (xs ++ more))) dropped ∙ ap (later j) (one (drop (j + 1) piece ++ more))
 
 -- ---- what is found, by the grammar
 

@@ -10,7 +10,7 @@ ghost use Rattle.json_recognizer.specs.declared.class.Class.TheVariants.{Space};
 use crate::class::{Class, class_of};
 use crate::machine::{Mode, Move, NumberPart, TextPart, Top, WordPart};
 use crate::state::{self, State, start, top};
-use crate::text::count_text;
+use crate::text::{count_text, end_name};
 
 /// The result of searching the next bytes of a stream for the end of the document that is being read.
 #[derive(Clone, Copy, Debug, Drop)]
@@ -59,15 +59,13 @@ fn count_spaces(bytes: &[u8]) -> usize
     bytes.len()
 }
 
-// How many bytes at the front plainly lead back to the mode: they are characters and escapes of a text, more digits of a
-// number, or spaces.
+// How many bytes at the front plainly leave the mode as it is: they are more digits of a number, or spaces.
 #[inline(always)]
 fn count_staying(mode: Mode, bytes: &[u8]) -> usize
     ensures within { result ≤ length bytes.now }
     ensures stays { Leads mode (take result bytes.now) mode }
 {
     match mode {
-        Mode::InText(TextPart::InChars, _) => count_text(bytes),
         Mode::InNumber(NumberPart::InWhole) => count_digits(bytes),
         Mode::InNumber(NumberPart::InFraction) => count_digits(bytes),
         Mode::InNumber(NumberPart::InExponent) => count_digits(bytes),
@@ -75,6 +73,29 @@ fn count_staying(mode: Mode, bytes: &[u8]) -> usize
             count_spaces(bytes)
         }
         _ => 0,
+    }
+}
+
+// Passes over the bytes at the front that plainly lead on, and returns how many: more of a text, of a number or of
+// spaces, and what ends a name, with the spaces behind it.
+#[inline(always)]
+fn pass(state: &mut State, bytes: &[u8]) -> usize
+    ensures within { result ≤ length bytes.now }
+    ensures leads { Leads state.old.mode (take result bytes.now) state.new.mode }
+    ensures rest { state.new ≡ record state.old { mode = state.new.mode } }
+    ensures open { is_over state.old ≡ false → is_over state.new ≡ false }
+{
+    match state.mode {
+        Mode::InText(TextPart::InChars, is_name) => {
+            let len = count_text(bytes);
+            if is_name && end_name(&bytes[len..]) {
+                state.mode = Mode::Value;
+                let behind = len + 2;
+                return behind + count_spaces(&bytes[behind..]);
+            }
+            len
+        }
+        mode => count_staying(mode, bytes),
     }
 }
 
@@ -276,7 +297,7 @@ pub fn find_end(state: &mut State, piece: &[u8]) -> Found
 {
     let mut index = 0;
     while index < piece.len() {
-        index += count_staying(state.mode, &piece[index..]);
+        index += pass(state, &piece[index..]);
         if index == piece.len() {
             return Found::GoesOn;
         }

@@ -2,7 +2,8 @@
 ghost use Rattle.std.specs.Prelude.{◌≡◌, ◌<◌, ◌≤◌, [], ◌∷◌, length, get_or, take, map, true, ℕ};
 ghost use Rattle.std.specs.Simd.Lanes.{mask_l};
 ghost use Rattle.json_recognizer.specs.Classes.{class_of, is_plain, is_stop, is_tail, is_hex, is_short_escape};
-ghost use Rattle.json_recognizer.specs.Stream.{LeadsIn, AreChars};
+ghost use Rattle.json_recognizer.specs.Stream.{Leads, LeadsIn, AreChars};
+ghost use Rattle.json_recognizer.specs.declared.machine.Mode.TheVariants.{Value, InText};
 ghost use Rattle.json_recognizer.specs.declared.machine.TextPart.TheVariants.{InChars, Unit4, Unit2, Utf1, Utf2};
 
 use std::simd::prelude::*;
@@ -184,4 +185,16 @@ pub(crate) fn count_text(bytes: &[u8]) -> usize
         at += count_chars(&bytes[at..]);
     }
     at
+}
+
+// Whether the bytes begin with the quote that ends a name, and the colon behind it.
+#[inline(always)]
+pub(crate) fn end_name(bytes: &[u8]) -> bool
+    ensures within { result ≡ true → 2 ≤ length bytes.now }
+    ensures leads { result ≡ true → Leads (InText InChars true) (take 2 bytes.now) Value }
+{
+    if bytes.len() < 2 {
+        return false;
+    }
+    bytes[0] == b'"' && bytes[1] == b':'
 }

@@ -27,6 +27,3 @@ returns-in_default-clause-stays c = nothing c.args.mode
 
 pub returns-in_default-2-clause-stays : goal.returns-in_default-2-clause-stays
 returns-in_default-2-clause-stays c = nothing c.args.mode
-
-pub returns-in_default-3-clause-stays : goal.returns-in_default-3-clause-stays
-returns-in_default-3-clause-stays c = nothing c.args.mode

@@ -1,4 +1,4 @@
-use Rattle.std.proofs.Common.{rules, arith}
+use Rattle.std.proofs.Common.{arith}
 use Rattle.json_recognizer.proofs.Leads.{three, three_e0, three_ed}
 use Rattle.json_recognizer.proofs.text.begins_three.Goals as goal
 

@@ -1,4 +1,3 @@
-use Rattle.std.proofs.Common.{arith}
 use Rattle.json_recognizer.specs.declared.machine.TextPart.TheVariants.{InChars}
 use Rattle.json_recognizer.proofs.Leads.{has_two, has_three, has_four, has_unit, has_space, at_end}
 use Rattle.json_recognizer.proofs.text.other_len.Goals as goal
