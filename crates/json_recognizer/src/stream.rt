@@ -10,7 +10,7 @@ ghost use Rattle.json_recognizer.specs.declared.class.Class.TheVariants.{Space};
 use crate::class::{Class, class_of};
 use crate::machine::{Mode, Move, NumberPart, TextPart, Top, WordPart};
 use crate::state::{self, State, start, top};
-use crate::text::{count_text, end_name};
+use crate::text::{count_text, ends_name};
 
 /// The result of searching the next bytes of a stream for the end of the document that is being read.
 #[derive(Clone, Copy, Debug, Drop)]
@@ -88,7 +88,7 @@ fn pass(state: &mut State, bytes: &[u8]) -> usize
     match state.mode {
         Mode::InText(TextPart::InChars, is_name) => {
             let len = count_text(bytes);
-            if is_name && end_name(&bytes[len..]) {
+            if is_name && ends_name(&bytes[len..]) {
                 state.mode = Mode::Value;
                 let behind = len + 2;
                 return behind + count_spaces(&bytes[behind..]);

@@ -189,7 +189,7 @@ pub(crate) fn count_text(bytes: &[u8]) -> usize
 
 // Whether the bytes begin with the quote that ends a name, and the colon behind it.
 #[inline(always)]
-pub(crate) fn end_name(bytes: &[u8]) -> bool
+pub(crate) fn ends_name(bytes: &[u8]) -> bool
     ensures within { result ≡ true → 2 ≤ length bytes.now }
     ensures leads { result ≡ true → Leads (InText InChars true) (take 2 bytes.now) Value }
 {

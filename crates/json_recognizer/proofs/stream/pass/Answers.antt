@@ -7,8 +7,8 @@ use Rattle.json_recognizer.specs.declared.machine.TextPart.TheVariants.{InChars}
 use Rattle.json_recognizer.proofs.Leads.{further, by_each}
 use Rattle.json_recognizer.proofs.stream.pass.Goals as goal
 
-pub returns-then-end_name-clause-leads : goal.returns-then-end_name-clause-leads
-returns-then-end_name-clause-leads c =
+pub returns-then-ends_name-clause-leads : goal.returns-then-ends_name-clause-leads
+returns-then-ends_name-clause-leads c =
     let m = c.args.state.now.mode in
     let bytes = c.args.bytes.now in
     let n = c.count_text-len in
@@ -16,6 +16,6 @@ returns-then-end_name-clause-leads c =
     let behind = n.result + 2 in
     let is : m ≡ InText InChars true = search rules in
     let name = further m (InText InChars true) Value bytes n.result 2 behind (subst (λ m. Leads m (take n.result bytes) (InText InChars true)) (sym is) (n.ensures.chars true))
-    (subst (λ ys. Leads (InText InChars true) (take 2 ys) Value) (take_rest bytes n.result) (c.end_name.ensures.leads c.if-end_name.true)) refl in
+    (subst (λ ys. Leads (InText InChars true) (take 2 ys) Value) (take_rest bytes n.result) (c.ends_name.ensures.leads c.if-ends_name.true)) refl in
     further m Value Value bytes behind k.result (behind + k.result) name
     (subst (λ ys. Leads Value (take k.result ys) Value) (take_rest bytes behind) (by_each Value _ k.result k.ensures.within (λ i. λ lt. λ st. λ r. ap (step Value st r) (k.ensures.spaces i lt)))) refl
