@@ -132,6 +132,88 @@ fn a_wrong_byte_names_its_place_and_ends_the_documents(rt: HostRuntime) {
     );
 }
 
+// Asserts the same, also where the input gives so many bytes a call that each of the text's places is cut at.
+fn reads_however_cut(
+    rt: &(impl Abort + AllocGlobal),
+    text: &[u8],
+    wanted: &[&str],
+    refused: Option<(FaultKind, usize, usize, &str)>,
+) {
+    reads(rt, text, wanted, refused);
+    for piece in 4..text.len() {
+        let input = Source::new(text, usize::MAX, piece);
+        let mut documents = Documents::of_input(rt.alloc(), input);
+        are(rt, &mut documents, wanted, refused);
+    }
+}
+
+#[test]
+fn characters_beyond_ascii_and_escapes_are_cut_anywhere(rt: HostRuntime) {
+    reads_however_cut(
+        &rt,
+        b"[\"sixteen letters, \xd0\xbb\xd1\x8e\xd0\xb1 \xe8\xaa\x9e\xef\xbc\x8c\xe0\xa4\x85 \xed\x95\x9c\xf0\x9f\x98\x80 and on, and on, and on\"] 2",
+        &["[\"sixteen letters, люб 語，अ 한😀 and on, and on, and on\"]", "2"],
+        None,
+    );
+    reads_however_cut(
+        &rt,
+        b"[\"sixteen letters, \\n\\\"\\\\ \\u00e9\\ud55c\\uD55C\\ud83d\\ude00 and on, and on, and on\"]",
+        &["[\"sixteen letters, \\n\\\"\\\\ é한한😀 and on, and on, and on\"]"],
+        None,
+    );
+}
+
+#[test]
+fn a_character_that_is_no_utf_8_is_refused_at_its_first_wrong_byte(rt: HostRuntime) {
+    let at_20 = Some((
+        FaultKind::WrongByte,
+        1,
+        20,
+        "invalid JSON at line 1 column 20",
+    ));
+    let at_21 = Some((
+        FaultKind::WrongByte,
+        1,
+        21,
+        "invalid JSON at line 1 column 21",
+    ));
+    let at_22 = Some((
+        FaultKind::WrongByte,
+        1,
+        22,
+        "invalid JSON at line 1 column 22",
+    ));
+    reads_however_cut(&rt, b"[\"sixteen letters, \x80, and on\"]", &[], at_20);
+    reads_however_cut(&rt, b"[\"sixteen letters, \xc0\x80 and on\"]", &[], at_20);
+    reads_however_cut(&rt, b"[\"sixteen letters, \xc1\xbf and on\"]", &[], at_20);
+    reads_however_cut(&rt, b"[\"sixteen letters, \xd0(, and on\"]", &[], at_21);
+    reads_however_cut(
+        &rt,
+        b"[\"sixteen letters, \xe0\x9f\xbf and on\"]",
+        &[],
+        at_21,
+    );
+    reads_however_cut(
+        &rt,
+        b"[\"sixteen letters, \xed\xa0\x80 and on\"]",
+        &[],
+        at_21,
+    );
+    reads_however_cut(
+        &rt,
+        b"[\"sixteen letters, \xf0\x8f\xbf\xbf and on\"]",
+        &[],
+        at_21,
+    );
+    reads_however_cut(&rt, b"[\"sixteen letters, \xe8\xaa(, and on\"]", &[], at_22);
+    reads_however_cut(
+        &rt,
+        b"[\"sixteen letters, \xf0\x9f(\x80 and on\"]",
+        &[],
+        at_22,
+    );
+}
+
 #[test]
 fn a_text_that_ends_too_early_names_its_last_byte(rt: HostRuntime) {
     let cut = |line, column, message| Some((FaultKind::CutShort, line, column, message));
