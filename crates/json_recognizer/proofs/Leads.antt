@@ -1,11 +1,11 @@
 -- Where bytes lead, one after the other.
-use Rattle.std.proofs.Common.{rules, ◌≡◌, ℕ, zero, suc, ◌+◌, ◌<◌, ◌≤◌, List, [], ◌∷◌, ◌++◌, length, get_or, take, drop, Bool, true, map, refl, sym, ap, subst, ◌∙◌, arith, inl, inr}
+use Rattle.std.proofs.Common.{rules, ◌≡◌, ℕ, zero, suc, ◌+◌, ◌<◌, ◌≤◌, List, [], ◌∷◌, ◌++◌, length, get_or, take, drop, Bool, true, map, refl, sym, ap, ap₂, subst, ◌∙◌, arith, inl, inr}
 use Rattle.std.proofs.lemmas.Bool.{cases_lt}
 use Rattle.std.proofs.lemmas.List.{map-append, take-append-drop, drop-take, take-take}
 use Rattle.std.proofs.Math.Seq.{drop-cons}
 use Rattle.json_recognizer.specs.Classes.{class_of, is_plain, is_tail, is_hex, is_short_escape}
 use Rattle.json_recognizer.specs.Machine.{Next, goes, refused, goes_from, step, after_all}
-use Rattle.json_recognizer.specs.Stream.{Leads, LeadsIn, AreChars}
+use Rattle.json_recognizer.specs.Stream.{Leads, LeadsIn, AreChars, IsWord}
 use Rattle.json_recognizer.specs.declared.class.Class.{Class}
 use Rattle.json_recognizer.specs.declared.class.Class.TheVariants.{AnyD}
 use Rattle.json_recognizer.specs.declared.machine.Mode.{Mode}
@@ -215,3 +215,22 @@ name_ends (x ∷ []) long quote colon = absurd (omega (arith, long))
 name_ends (x ∷ y ∷ xs) long quote colon =
     by_one (InText InChars true) AfterName Value x (y ∷ []) (λ st. λ r. ap (λ k. step (InText InChars true) st r (class_of k)) quote)
     (by_one AfterName Value Value y [] (λ st. λ r. ap (λ k. step AfterName st r (class_of k)) colon) (nothing Value))
+
+-- ---- words
+
+pub true_word : IsWord (116 ∷ 114 ∷ 117 ∷ 101 ∷ [])
+unfolding after_all
+true_word = (λ st. λ r. refl, λ st. λ r. refl)
+
+pub null_word : IsWord (110 ∷ 117 ∷ 108 ∷ 108 ∷ [])
+unfolding after_all
+null_word = (λ st. λ r. refl, λ st. λ r. refl)
+
+false_word : IsWord (102 ∷ 97 ∷ 108 ∷ 115 ∷ 101 ∷ [])
+unfolding after_all
+false_word = (λ st. λ r. refl, λ st. λ r. refl)
+
+pub is_false : (xs : List ℕ) → 5 ≤ length xs → take 4 xs ≡ 102 ∷ 97 ∷ 108 ∷ 115 ∷ [] → get_or xs 4 0 ≡ 101 → IsWord (take 5 xs)
+is_false xs long four last =
+    let e : take 1 (drop 4 xs) ≡ get_or xs 4 0 ∷ [] = ap (take 1) (drop-cons xs 4 0 (omega (arith, long))) in
+    subst IsWord (sym (take_both xs 4 1 ∙ ap₂ (λ (ys zs : List ℕ). ys ++ zs) four (e ∙ ap (λ x. x ∷ []) last))) false_word

@@ -155,11 +155,13 @@ module _ (s₀ s s₁ : State) (piece : List ℕ) (i n j : ℕ) (so_far : (more 
       so_far more ∙ ap (λ xs. later i (found_at s (xs ++ more))) (sym lies) ∙ ap (later i) (ap (found_at s) front ∙ run ∙ ap (λ k. later k (found_at s₁ rest)) (length-take-le n behind within))
       ∙ later_more i n (found_at s₁ (drop n behind ++ more)) ∙ ap₂ (λ (k : ℕ) (xs : List ℕ). later k (found_at s₁ (xs ++ more))) (sym is) dropped
 
-  pub passed_one : (next : State) (found : Found) → j < length piece → ((more : List ℕ) → found_at s₁ (get_or piece j 0 ∷ more) ≡ or_later found 1 (found_at next more))
-      → (more : List ℕ) → found_at s₀ (piece ++ more) ≡ later j (or_later found 1 (found_at next (drop (j + 1) piece ++ more)))
-  passed_one next found below one more =
-      let dropped : drop j piece ≡ get_or piece j 0 ∷ drop (j + 1) piece = drop-cons piece j 0 below ∙ ap (λ k. get_or piece j 0 ∷ drop k piece) (sym (add-one j)) in
-      passed more ∙ ap (λ xs. later j (found_at s₁ (xs ++ more))) dropped ∙ ap (later j) (one (drop (j + 1) piece ++ more))
+-- and a byte more
+pub taken_one : (s₀ s next : State) (piece : List ℕ) (i : ℕ) (found : Found) → ((more : List ℕ) → found_at s₀ (piece ++ more) ≡ later i (found_at s (drop i piece ++ more))) → i < length piece
+    → ((more : List ℕ) → found_at s (get_or piece i 0 ∷ more) ≡ or_later found 1 (found_at next more))
+    → (more : List ℕ) → found_at s₀ (piece ++ more) ≡ later i (or_later found 1 (found_at next (drop (i + 1) piece ++ more)))
+taken_one s₀ s next piece i found so_far below one more =
+    let dropped : drop i piece ≡ get_or piece i 0 ∷ drop (i + 1) piece = drop-cons piece i 0 below ∙ ap (λ k. get_or piece i 0 ∷ drop k piece) (sym (add-one i)) in
+    so_far more ∙ ap (λ xs. later i (found_at s (xs ++ more))) dropped ∙ ap (later i) (one (drop (i + 1) piece ++ more))
 
 -- ---- what is found, by the grammar
 

@@ -2,14 +2,15 @@
 use Rattle.std.specs.Prelude.{◌≡◌, ℕ, ◌+◌, ◌<◌, ◌≤◌, List, [], ◌∷◌, map, take, length, Bool, true, false, ◌&&◌, cond}
 use Rattle.json_recognizer.specs.Classes.{class_of}
 use Rattle.json_recognizer.specs.Grammar.{IsDocument, Begins, max_depth}
-use Rattle.json_recognizer.specs.Machine.{Next, goes, refused, step, is_final, after_all}
+use Rattle.json_recognizer.specs.Machine.{Next, goes, refused, step, move, top_of, is_final, after_all}
 use Rattle.json_recognizer.specs.State.{frames, next_of}
 use Rattle.json_recognizer.specs.declared.class.Class.{Class}
 use Rattle.json_recognizer.specs.declared.class.Class.TheVariants.{Space, White, OpenBracket, OpenBrace, Quote}
 use Rattle.json_recognizer.specs.declared.machine.Mode.{Mode}
-use Rattle.json_recognizer.specs.declared.machine.Mode.TheVariants.{Value, Behind, InText}
+use Rattle.json_recognizer.specs.declared.machine.Mode.TheVariants.{Value, First, Behind, InText}
 use Rattle.json_recognizer.specs.declared.machine.TextPart.{TextPart}
 use Rattle.json_recognizer.specs.declared.machine.TextPart.TheVariants.{InChars}
+use Rattle.json_recognizer.specs.declared.machine.Move.{Move}
 use Rattle.json_recognizer.specs.declared.state.State.{State}
 use Rattle.json_recognizer.specs.declared.stream.Found.{Found}
 use Rattle.json_recognizer.specs.declared.stream.Found.TheVariants.{GoesOn, Ends, Refused}
@@ -42,6 +43,14 @@ LeadsIn p text q = (is_name : Bool) → Leads (InText p is_name) text (InText q 
 -- they are whole characters and escapes of a text
 abbrev pub AreChars : List ℕ → Type 0
 AreChars text = LeadsIn InChars text InChars
+
+-- they are `true`, `false` or `null`
+abbrev pub IsWord : List ℕ → Type 0
+IsWord text = Leads Value text Behind × Leads First text Behind
+
+-- the byte makes this move, and ends no number before it
+abbrev pub LeadsPlainly : State → ℕ → Move → Type 0
+LeadsPlainly s x next = (move s.mode (top_of (frames s.depth s.kinds)) (class_of x) ≡ next) × ((is_final s.mode (frames s.depth s.kinds) && ends_number (class_of x)) ≡ false)
 
 -- found so many bytes further on
 abbrev pub later : ℕ → Found → Found

@@ -11,6 +11,7 @@ mod state;
 mod stream;
 mod text;
 mod wanted;
+mod words;
 
 pub use buffer::lines::{count_blanks, place_after};
 pub use buffer::piece::{Kind, LineColumn};

@@ -2,15 +2,16 @@
 ghost use Rattle.std.specs.Prelude.{◌≡◌, ◌<◌, ◌≤◌, ◌&&◌, ◌∷◌, ◌++◌, length, get_or, take, true, false, cond, Bool, List, ℕ, IfSome};
 ghost use Rattle.json_recognizer.specs.Classes.{class_of, is_digit};
 ghost use Rattle.json_recognizer.specs.Grammar.{max_depth};
-ghost use Rattle.json_recognizer.specs.Machine.{is_final, move, top_of, move_behind, move_word};
+ghost use Rattle.json_recognizer.specs.Machine.{is_final, move, top_of, move_behind};
 ghost use Rattle.json_recognizer.specs.State.{frames};
-ghost use Rattle.json_recognizer.specs.Stream.{is_over, ends_number, found_at, found_in, end_or, or_later, IsWithin, Leads};
+ghost use Rattle.json_recognizer.specs.Stream.{is_over, ends_number, found_at, found_in, end_or, or_later, IsWithin, Leads, LeadsPlainly};
 ghost use Rattle.json_recognizer.specs.declared.class.Class.TheVariants.{Space};
 
 use crate::class::{Class, class_of};
-use crate::machine::{Mode, Move, NumberPart, TextPart, Top, WordPart};
+use crate::machine::{Mode, Move, NumberPart, TextPart, Top};
 use crate::state::{self, State, start, top};
 use crate::text::{count_text, ends_name};
+use crate::words::{letter_move, word_len};
 
 /// The result of searching the next bytes of a stream for the end of the document that is being read.
 #[derive(Clone, Copy, Debug, Drop)]
@@ -77,7 +78,7 @@ fn count_staying(mode: Mode, bytes: &[u8]) -> usize
 }
 
 // Passes over the bytes at the front that plainly lead on, and returns how many: more of a text, of a number or of
-// spaces, and what ends a name, with the spaces behind it.
+// spaces, a word in an array or object, and what ends a name, with the spaces behind it.
 #[inline(always)]
 fn pass(state: &mut State, bytes: &[u8]) -> usize
     ensures within { result ≤ length bytes.now }
@@ -94,6 +95,14 @@ fn pass(state: &mut State, bytes: &[u8]) -> usize
                 return behind + count_spaces(&bytes[behind..]);
             }
             len
+        }
+        Mode::Value | Mode::First => {
+            let word = word_len(bytes);
+            if word > 0 && state.depth > 0 {
+                state.mode = Mode::Behind;
+                return word;
+            }
+            count_staying(state.mode, bytes)
         }
         mode => count_staying(mode, bytes),
     }
@@ -166,27 +175,8 @@ fn move_after_value(top: Top, byte: u8) -> Option<Move>
     }
 }
 
-// The move of a letter of `true`, `false` or `null` that comes behind others.
-#[inline(always)]
-fn letter_move(part: WordPart, byte: u8) -> Option<Move>
-    ensures { IfSome result (λ next. move_word part (class_of byte) ≡ next) }
-{
-    match (part, byte) {
-        (WordPart::AfterT, b'r') => Some(Move::To(Mode::InWord(WordPart::AfterTr))),
-        (WordPart::AfterTr, b'u') => Some(Move::To(Mode::InWord(WordPart::AfterTru))),
-        (WordPart::AfterF, b'a') => Some(Move::To(Mode::InWord(WordPart::AfterFa))),
-        (WordPart::AfterFa, b'l') => Some(Move::To(Mode::InWord(WordPart::AfterFal))),
-        (WordPart::AfterFal, b's') => Some(Move::To(Mode::InWord(WordPart::AfterFals))),
-        (WordPart::AfterN, b'u') => Some(Move::To(Mode::InWord(WordPart::AfterNu))),
-        (WordPart::AfterNu, b'l') => Some(Move::To(Mode::InWord(WordPart::AfterNul))),
-        (WordPart::AfterTru | WordPart::AfterFals, b'e') => Some(Move::To(Mode::Behind)),
-        (WordPart::AfterNul, b'l') => Some(Move::To(Mode::Behind)),
-        _ => None,
-    }
-}
-
 // The move of the byte, for the bytes that come most often: quotes, colons, commas and brackets, the first byte of a
-// number, its dot and the digit behind it, and the letters of words.
+// number, its dot and the digit behind it, and the letters of words behind their first.
 #[inline(always)]
 fn plain_move(state: &State, byte: u8) -> Option<Move>
     requires { state.now.depth ≤ max_depth }
@@ -216,9 +206,6 @@ fn plain_move(state: &State, byte: u8) -> Option<Move>
         (Mode::Value, b'\n') => Some(Move::To(Mode::Value)),
         (Mode::Value | Mode::First, b'{') => Some(Move::Opens(true)),
         (Mode::Value | Mode::First, b'[') => Some(Move::Opens(false)),
-        (Mode::Value | Mode::First, b't') => Some(Move::To(Mode::InWord(WordPart::AfterT))),
-        (Mode::Value | Mode::First, b'f') => Some(Move::To(Mode::InWord(WordPart::AfterF))),
-        (Mode::Value | Mode::First, b'n') => Some(Move::To(Mode::InWord(WordPart::AfterN))),
         (Mode::InWord(part), _) => letter_move(part, byte),
         (Mode::InNumber(NumberPart::InWhole | NumberPart::AfterZero), b'.') => {
             Some(Move::To(Mode::InNumber(NumberPart::AfterDot)))
@@ -260,6 +247,21 @@ fn found_behind(state: &State) -> Found
     }
 }
 
+// Makes this move, that of a byte more.
+#[inline(always)]
+fn take_move(state: &mut State, next: Move) -> Found
+    requires { state.old.depth ≤ max_depth }
+    ensures found { (x : ℕ) → LeadsPlainly state.old x next → (more : List ℕ) → found_at state.old (x ∷ more) ≡ or_later result 1 (found_at state.new more) }
+    ensures within { IsWithin result 1 }
+    ensures open { result ≡ Found.GoesOn → is_over state.new ≡ false }
+    ensures depth { state.new.depth ≤ max_depth }
+{
+    if !state::make(state, next) {
+        return Found::Refused(0);
+    }
+    found_behind(state)
+}
+
 // Takes one byte more.
 #[inline(always)]
 fn take_byte(state: &mut State, byte: u8) -> Found
@@ -269,12 +271,6 @@ fn take_byte(state: &mut State, byte: u8) -> Found
     ensures open { result ≡ Found.GoesOn → is_over state.new ≡ false }
     ensures depth { state.new.depth ≤ max_depth }
 {
-    if let Some(next) = plain_move(state, byte) {
-        if !state::make(state, next) {
-            return Found::Refused(0);
-        }
-        return found_behind(state);
-    }
     let class = class_of(byte);
     if ends_before(state, class) {
         return Found::Ends(0);
@@ -297,14 +293,22 @@ pub fn find_end(state: &mut State, piece: &[u8]) -> Found
 {
     let mut index = 0;
     while index < piece.len() {
-        index += pass(state, &piece[index..]);
-        if index == piece.len() {
-            return Found::GoesOn;
-        }
-        match take_byte(state, piece[index]) {
-            Found::GoesOn => index += 1,
-            Found::Ends(len) => return Found::Ends(index + len),
-            Found::Refused(len) => return Found::Refused(index + len),
+        if let Some(next) = plain_move(state, piece[index]) {
+            match take_move(state, next) {
+                Found::GoesOn => index += 1,
+                Found::Ends(len) => return Found::Ends(index + len),
+                Found::Refused(len) => return Found::Refused(index + len),
+            }
+        } else {
+            let passed = pass(state, &piece[index..]);
+            index += passed;
+            if passed == 0 {
+                match take_byte(state, piece[index]) {
+                    Found::GoesOn => index += 1,
+                    Found::Ends(len) => return Found::Ends(index + len),
+                    Found::Refused(len) => return Found::Refused(index + len),
+                }
+            }
         }
     }
     Found::GoesOn
