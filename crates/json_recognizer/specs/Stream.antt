@@ -44,7 +44,7 @@ LeadsIn p text q = (is_name : Bool) → Leads (InText p is_name) text (InText q 
 abbrev pub AreChars : List ℕ → Type 0
 AreChars text = LeadsIn InChars text InChars
 
--- they are `true`, `false` or `null`
+-- they are a whole value, such as `true`, where one is wanted
 abbrev pub IsWord : List ℕ → Type 0
 IsWord text = Leads Value text Behind × Leads First text Behind
 

@@ -1,4 +1,4 @@
-use Rattle.std.proofs.Common.{◌++◌, ◌+◌, ◌≤◌, ◌∙◌, ap, sym, refl, subst, length, drop, arith}
+use Rattle.std.proofs.Common.{◌++◌, ◌+◌, ◌≤◌, ◌∙◌, sym, refl, subst, drop, arith}
 use Rattle.std.proofs.lemmas.List.{take_rest}
 use Rattle.json_recognizer.specs.Grammar.{max_depth}
 use Rattle.json_recognizer.specs.State.{frames}
