@@ -152,7 +152,10 @@ fn characters_beyond_ascii_and_escapes_are_cut_anywhere(rt: HostRuntime) {
     reads_however_cut(
         &rt,
         b"[\"sixteen letters, \xd0\xbb\xd1\x8e\xd0\xb1 \xe8\xaa\x9e\xef\xbc\x8c\xe0\xa4\x85 \xed\x95\x9c\xf0\x9f\x98\x80 and on, and on, and on\"] 2",
-        &["[\"sixteen letters, люб 語，अ 한😀 and on, and on, and on\"]", "2"],
+        &[
+            "[\"sixteen letters, люб 語，अ 한😀 and on, and on, and on\"]",
+            "2",
+        ],
         None,
     );
     reads_however_cut(
