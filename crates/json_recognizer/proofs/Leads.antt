@@ -3,11 +3,11 @@ use Rattle.std.proofs.Common.{rules, ◌≡◌, ℕ, zero, suc, ◌+◌, ◌<◌
 use Rattle.std.proofs.lemmas.Bool.{cases_lt}
 use Rattle.std.proofs.lemmas.List.{map-append, take-append-drop, drop-take, take-take}
 use Rattle.std.proofs.Math.Seq.{drop-cons}
-use Rattle.json_recognizer.specs.Classes.{class_of, is_plain, is_tail, is_hex, is_short_escape}
+use Rattle.json_recognizer.specs.Classes.{class_of, is_blank, is_plain, is_tail, is_hex, is_short_escape}
 use Rattle.json_recognizer.specs.Machine.{Next, goes, refused, goes_from, step, after_all}
 use Rattle.json_recognizer.specs.Stream.{Leads, LeadsIn, AreChars, IsWord}
 use Rattle.json_recognizer.specs.declared.class.Class.{Class}
-use Rattle.json_recognizer.specs.declared.class.Class.TheVariants.{AnyD}
+use Rattle.json_recognizer.specs.declared.class.Class.TheVariants.{Space, White, AnyD}
 use Rattle.json_recognizer.specs.declared.machine.Mode.{Mode}
 use Rattle.json_recognizer.specs.declared.machine.Mode.TheVariants.{Value, AfterName, InText}
 use Rattle.json_recognizer.specs.declared.machine.TextPart.{TextPart}
@@ -50,6 +50,10 @@ chars_further xs behind a b j lies first second is = further_in InChars InChars 
 pub nothing : (m : Mode) → Leads m [] m
 unfolding after_all
 nothing m st r = refl
+
+-- where spaces and other blanks leave the mode as it is, so does each of them
+pub blanks_stay : (m : Mode) (st : List Bool) (r : ℕ) (c : Class) → step m st r Space ≡ goes m st r → step m st r White ≡ goes m st r → is_blank c ≡ true → step m st r c ≡ goes m st r
+blanks_stay m st r c spaces others h = grind arith
 
 -- each of them leaves the mode as it is
 pub by_each : (m : Mode) (xs : List ℕ) (n : ℕ) → n ≤ length xs → ((k : ℕ) → k < n → (st : List Bool) (r : ℕ) → step m st r (class_of (get_or xs k 0)) ≡ goes m st r) → Leads m (take n xs) m

@@ -1,11 +1,10 @@
 //! Where a document of a stream ends, or its first wrong byte.
 ghost use Rattle.std.specs.Prelude.{◌≡◌, ◌<◌, ◌≤◌, ◌&&◌, ◌∷◌, ◌++◌, length, get_or, take, true, false, cond, Bool, List, ℕ, IfSome};
-ghost use Rattle.json_recognizer.specs.Classes.{class_of, is_digit};
+ghost use Rattle.json_recognizer.specs.Classes.{class_of, is_blank, is_digit};
 ghost use Rattle.json_recognizer.specs.Grammar.{max_depth};
 ghost use Rattle.json_recognizer.specs.Machine.{is_final, move, top_of, move_behind};
 ghost use Rattle.json_recognizer.specs.State.{frames};
 ghost use Rattle.json_recognizer.specs.Stream.{is_over, ends_number, found_at, found_in, end_or, or_later, IsWithin, Leads, LeadsPlainly};
-ghost use Rattle.json_recognizer.specs.declared.class.Class.TheVariants.{Space};
 
 use crate::class::{Class, class_of};
 use crate::machine::{Mode, Move, NumberPart, TextPart, Top};
@@ -46,21 +45,28 @@ fn count_digits(bytes: &[u8]) -> usize
     bytes.len()
 }
 
-// How many bytes at the front are spaces.
 #[inline(always)]
-fn count_spaces(bytes: &[u8]) -> usize
+fn is_blank(byte: u8) -> bool
+    ensures { result ≡ true → is_blank (class_of byte) ≡ true }
+{
+    matches!(byte, b' ' | b'\n' | b'\t' | b'\r')
+}
+
+// How many bytes at the front are blanks.
+#[inline(always)]
+fn count_blanks(bytes: &[u8]) -> usize
     ensures within { result ≤ length bytes.now }
-    ensures spaces { (k : ℕ) → k < result → class_of (get_or bytes.now k 0) ≡ Space }
+    ensures blanks { (k : ℕ) → k < result → is_blank (class_of (get_or bytes.now k 0)) ≡ true }
 {
     for (index, byte) in bytes.iter().enumerate() {
-        if *byte != b' ' {
+        if !is_blank(*byte) {
             return index;
         }
     }
     bytes.len()
 }
 
-// How many bytes at the front plainly leave the mode as it is: they are more digits of a number, or spaces.
+// How many bytes at the front plainly leave the mode as it is: they are more digits of a number, or blanks.
 #[inline(always)]
 fn count_staying(mode: Mode, bytes: &[u8]) -> usize
     ensures within { result ≤ length bytes.now }
@@ -71,14 +77,14 @@ fn count_staying(mode: Mode, bytes: &[u8]) -> usize
         Mode::InNumber(NumberPart::InFraction) => count_digits(bytes),
         Mode::InNumber(NumberPart::InExponent) => count_digits(bytes),
         Mode::Value | Mode::First | Mode::Behind | Mode::Name | Mode::FirstName => {
-            count_spaces(bytes)
+            count_blanks(bytes)
         }
         _ => 0,
     }
 }
 
 // Passes over the bytes at the front that plainly lead on, and returns how many: more of a text, of a number or of
-// spaces, a word in an array or object, and what ends a name, with the spaces behind it.
+// blanks, a word in an array or object, and what ends a name, with the blanks behind it.
 #[inline(always)]
 fn pass(state: &mut State, bytes: &[u8]) -> usize
     ensures within { result ≤ length bytes.now }
@@ -92,7 +98,7 @@ fn pass(state: &mut State, bytes: &[u8]) -> usize
             if is_name && ends_name(&bytes[len..]) {
                 state.mode = Mode::Value;
                 let behind = len + 2;
-                return behind + count_spaces(&bytes[behind..]);
+                return behind + count_blanks(&bytes[behind..]);
             }
             len
         }
@@ -203,7 +209,6 @@ fn plain_move(state: &State, byte: u8) -> Option<Move>
         (Mode::Value | Mode::First, b'"') => {
             Some(Move::To(Mode::InText(TextPart::InChars, false)))
         }
-        (Mode::Value, b'\n') => Some(Move::To(Mode::Value)),
         (Mode::Value | Mode::First, b'{') => Some(Move::Opens(true)),
         (Mode::Value | Mode::First, b'[') => Some(Move::Opens(false)),
         (Mode::InWord(part), _) => letter_move(part, byte),

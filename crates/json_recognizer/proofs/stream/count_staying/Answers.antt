@@ -1,5 +1,5 @@
 use Rattle.std.proofs.Common.{rules}
-use Rattle.json_recognizer.proofs.Leads.{by_each, nothing}
+use Rattle.json_recognizer.proofs.Leads.{by_each, blanks_stay, nothing}
 use Rattle.json_recognizer.proofs.stream.count_staying.Goals as goal
 
 pub returns-in-InNumber-InWhole-clause-stays : goal.returns-in-InNumber-InWhole-clause-stays
@@ -19,8 +19,8 @@ returns-in-InNumber-InExponent-clause-stays c =
 
 pub returns-in-Value-clause-stays : goal.returns-in-Value-clause-stays
 returns-in-Value-clause-stays c =
-    let n = c.count_spaces in
-    by_each c.args.mode c.args.bytes.now n.result n.ensures.within (λ k. λ lt. λ st. λ r. let space = n.ensures.spaces k lt in search rules)
+    let n = c.count_blanks in
+    by_each c.args.mode c.args.bytes.now n.result n.ensures.within (λ k. λ lt. λ st. λ r. blanks_stay c.args.mode st r _ (search rules) (search rules) (n.ensures.blanks k lt))
 
 pub returns-in_default-clause-stays : goal.returns-in_default-clause-stays
 returns-in_default-clause-stays c = nothing c.args.mode

@@ -1,6 +1,5 @@
-use Rattle.std.proofs.Common.{rules, ◌≡◌, ◌+◌, true, take, refl, sym, ap, subst}
+use Rattle.std.proofs.Common.{rules, ◌≡◌, ◌+◌, true, take, refl, sym, subst}
 use Rattle.std.proofs.lemmas.List.{take_rest}
-use Rattle.json_recognizer.specs.Machine.{step}
 use Rattle.json_recognizer.specs.Stream.{Leads}
 use Rattle.json_recognizer.specs.declared.machine.Mode.TheVariants.{Value, InText}
 use Rattle.json_recognizer.specs.declared.machine.TextPart.TheVariants.{InChars}
@@ -12,10 +11,10 @@ returns-then-ends_name-clause-leads c =
     let m = c.args.state.now.mode in
     let bytes = c.args.bytes.now in
     let n = c.count_text-len in
-    let k = c.count_spaces in
+    let k = c.count_blanks in
     let behind = n.result + 2 in
     let is : m ≡ InText InChars true = search rules in
     let name = further m (InText InChars true) Value bytes n.result 2 behind (subst (λ m. Leads m (take n.result bytes) (InText InChars true)) (sym is) (n.ensures.chars true))
     (subst (λ ys. Leads (InText InChars true) (take 2 ys) Value) (take_rest bytes n.result) (c.ends_name.ensures.leads c.if-ends_name.true)) refl in
     further m Value Value bytes behind k.result (behind + k.result) name
-    (subst (λ ys. Leads Value (take k.result ys) Value) (take_rest bytes behind) (by_each Value _ k.result k.ensures.within (λ i. λ lt. λ st. λ r. ap (step Value st r) (k.ensures.spaces i lt)))) refl
+    (subst (λ ys. Leads Value (take k.result ys) Value) (take_rest bytes behind) (by_each Value _ k.result k.ensures.within (λ i. λ lt. λ st. λ r. let blank = k.ensures.blanks i lt in search rules))) refl
