@@ -145,7 +145,7 @@ impl<'a> Mark<'a> for &'a Value {
     }
 }
 
-/// A node as a `Spot` has its whole location, too. The `Spot`s of its children share the steps of this location instead
+/// A node as a `Spot`: its value with its location. The `Spot`s of its children share the steps of this location instead
 /// of copying them.
 impl<'a> Mark<'a> for Spot<'a> {
     ghost located = { true };
