@@ -179,8 +179,9 @@ pub fn flattened_from_each<'a, M: Mark<'a>>(alloc: Global, marks: &[M]) -> Resul
     Ok(found)
 }
 
-/// The values that a filter tests when it is applied to one node, if it has a relative query with at least one segment,
-/// such as `@.a`: the node itself if it is no array, else the non-array values left after flattening nested arrays.
+/// The values that a filter such as `[?(@.a)]` tests when it is applied to one node: the node itself if it is no array,
+/// else the non-array values left after flattening nested arrays. This holds for each filter that has a relative query
+/// with at least one segment, as `@.a` is.
 ///
 /// ```text
 /// let found = steps_on_marks::flattened_from_mark(alloc, &&document)?;

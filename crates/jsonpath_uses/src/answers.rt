@@ -50,7 +50,8 @@ pub fn value_at<'a>(
 }
 
 /// The values that the path selects, in the path's order, as the text of a JSON array: for `$[*].name`, say, names.
-/// Errors: `Path` if `path` is no path, `Serde` for a number that is no `i64` or `u64`, such as 1.5, or `OutOfMemory`.
+/// Errors: `Path` if `path` is no path; `Serde` if a selected value has a number that is neither an `i64` nor a `u64`,
+/// such as 1.5; or `OutOfMemory`.
 pub fn column_text(alloc: Global, json: &Value, path: &str) -> Result<String, JsonPathError>
     ensures { IfOk result (λ text. (values : List Data) × Selects path.now (document_of (view json.now)) (map document_of values) × (list_text values ≡ Some (string_bytes text))) }
 {

@@ -27,7 +27,7 @@ pub fn set_parser_in_pair<'a, V: HeldValue>(
     Ok(())
 }
 
-/// Sets the path of a `Selector` or `SelectorMut` by `set_path`. Errors: `Path` if the text is no path, or
+/// Sets the path of a `Selector` or `SelectorMut`: it calls `set_path`. Errors: `Path` if the text is no path, or
 /// `OutOfMemory`; the selector then has the path that it had before.
 pub fn set_path_in_pair<P: OfNode + Drop, V: HeldValue>(
     alloc: Global,

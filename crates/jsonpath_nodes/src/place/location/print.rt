@@ -32,7 +32,8 @@ fn write_guarded<W: fmt::Write>(name: &str, f: &mut fmt::Formatter<W>) -> fmt::R
     Ok(())
 }
 
-/// Prints the step as in a path, in brackets: a name between single quotes, or an index.
+/// Prints the step as in a path, in brackets: an index, or a name between single quotes, with a backslash before each
+/// single quote and each backslash in it.
 impl fmt::Display for LocStep {
     ghost output = { λ step. Some (encode_utf8_all (step_chars (owned_step step))) };
 
