@@ -63,7 +63,7 @@ pub struct Edit<'a> {
     /// For a renaming it is the new name, in quotes; for a removal it is `null` and not used.
     pub value: Vec<u8>,
     /// For `--add` and `--add-text`, the member that the path names. For `--rename`, only the field `name` is used: it
-    /// is the name with which the path ends. `None` for other edits.
+    /// is the old name, with which the path ends. `None` for other edits.
     pub member: Option<NamedMember>,
 }
 
