@@ -5,7 +5,7 @@ use Rattle.std.proofs.lemmas.List.{map-append, take-append-drop, drop-take, take
 use Rattle.std.proofs.Math.Seq.{drop-cons}
 use Rattle.json_recognizer.specs.Classes.{class_of, is_blank, is_plain, is_tail, is_hex, is_short_escape}
 use Rattle.json_recognizer.specs.Machine.{Next, goes, refused, goes_from, step, after_all}
-use Rattle.json_recognizer.specs.Stream.{Leads, LeadsIn, AreChars, IsWord}
+use Rattle.json_recognizer.specs.plan.Leads.{Leads, LeadsIn, AreChars, IsWord}
 use Rattle.json_recognizer.specs.declared.class.Class.{Class}
 use Rattle.json_recognizer.specs.declared.class.Class.TheVariants.{Space, White, AnyD}
 use Rattle.json_recognizer.specs.declared.machine.Mode.{Mode}

@@ -6,7 +6,8 @@ use Rattle.json_recognizer.specs.Classes.{class_of}
 use Rattle.json_recognizer.specs.Grammar.{IsDocument, Begins, max_depth}
 use Rattle.json_recognizer.specs.Machine.{Next, goes, refused, step, is_final, after_all, goes_from}
 use Rattle.json_recognizer.specs.State.{frames, next_of}
-use Rattle.json_recognizer.specs.Stream.{is_over_in, is_over, ends_number, later, found_by, found_from, found_at, found_in, or_later, Leads, IsFound}
+use Rattle.json_recognizer.specs.Stream.{is_over_in, is_over, ends_number, later, found_by, found_from, found_at, found_in, or_later, IsFound}
+use Rattle.json_recognizer.specs.plan.Leads.{Leads}
 use Rattle.json_recognizer.specs.declared.class.Class.{Class}
 use Rattle.json_recognizer.specs.declared.class.Class.TheVariants.{Space, White, OpenBracket, OpenBrace, Quote}
 use Rattle.json_recognizer.specs.declared.machine.NumberPart.TheVariants.{AfterZero, InWhole, InFraction, InExponent}

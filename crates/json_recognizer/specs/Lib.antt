@@ -7,3 +7,4 @@ pub mod Machine
 pub mod State
 pub mod Stream
 pub mod Wanted
+pub mod plan

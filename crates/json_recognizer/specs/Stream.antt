@@ -1,16 +1,13 @@
 -- What a text is to the reader of a stream: where its first document ends, or which byte is the first that no document goes on with.
-use Rattle.std.specs.Prelude.{◌≡◌, ℕ, ◌+◌, ◌<◌, ◌≤◌, List, [], ◌∷◌, map, take, length, Bool, true, false, ◌&&◌, cond}
+use Rattle.std.specs.Prelude.{ℕ, ◌+◌, ◌<◌, ◌≤◌, List, [], ◌∷◌, take, length, Bool, true, false, ◌&&◌, cond}
 use Rattle.json_recognizer.specs.Classes.{class_of}
 use Rattle.json_recognizer.specs.Grammar.{IsDocument, Begins, max_depth}
-use Rattle.json_recognizer.specs.Machine.{Next, goes, refused, step, move, top_of, is_final, after_all}
+use Rattle.json_recognizer.specs.Machine.{Next, goes, refused, step, is_final}
 use Rattle.json_recognizer.specs.State.{frames, next_of}
 use Rattle.json_recognizer.specs.declared.class.Class.{Class}
 use Rattle.json_recognizer.specs.declared.class.Class.TheVariants.{Space, White, OpenBracket, OpenBrace, Quote}
 use Rattle.json_recognizer.specs.declared.machine.Mode.{Mode}
-use Rattle.json_recognizer.specs.declared.machine.Mode.TheVariants.{Value, First, Behind, InText}
-use Rattle.json_recognizer.specs.declared.machine.TextPart.{TextPart}
-use Rattle.json_recognizer.specs.declared.machine.TextPart.TheVariants.{InChars}
-use Rattle.json_recognizer.specs.declared.machine.Move.{Move}
+use Rattle.json_recognizer.specs.declared.machine.Mode.TheVariants.{Value, Behind}
 use Rattle.json_recognizer.specs.declared.state.State.{State}
 use Rattle.json_recognizer.specs.declared.stream.Found.{Found}
 use Rattle.json_recognizer.specs.declared.stream.Found.TheVariants.{GoesOn, Ends, Refused}
@@ -31,26 +28,6 @@ ends_number OpenBracket = true
 ends_number OpenBrace = true
 ends_number Quote = true
 ends_number c = false
-
--- the bytes lead from one mode to another, whatever is open
-abbrev pub Leads : Mode → List ℕ → Mode → Type 0
-Leads m₀ text m = (st : List Bool) (r : ℕ) → after_all m₀ st r (map class_of text) ≡ goes m st r
-
--- within a text, from one part to another
-abbrev pub LeadsIn : TextPart → List ℕ → TextPart → Type 0
-LeadsIn p text q = (is_name : Bool) → Leads (InText p is_name) text (InText q is_name)
-
--- they are whole characters and escapes of a text
-abbrev pub AreChars : List ℕ → Type 0
-AreChars text = LeadsIn InChars text InChars
-
--- they are a whole value, such as `true`, where one is wanted
-abbrev pub IsWord : List ℕ → Type 0
-IsWord text = Leads Value text Behind × Leads First text Behind
-
--- the byte makes this move, and ends no number before it
-abbrev pub LeadsPlainly : State → ℕ → Move → Type 0
-LeadsPlainly s x next = (move s.mode (top_of (frames s.depth s.kinds)) (class_of x) ≡ next) × ((is_final s.mode (frames s.depth s.kinds) && ends_number (class_of x)) ≡ false)
 
 -- found so many bytes further on
 abbrev pub later : ℕ → Found → Found

@@ -4,7 +4,8 @@ ghost use Rattle.json_recognizer.specs.Classes.{class_of, is_blank, is_digit};
 ghost use Rattle.json_recognizer.specs.Grammar.{max_depth};
 ghost use Rattle.json_recognizer.specs.Machine.{is_final, move, top_of, move_behind};
 ghost use Rattle.json_recognizer.specs.State.{frames};
-ghost use Rattle.json_recognizer.specs.Stream.{is_over, ends_number, found_at, found_in, end_or, or_later, IsWithin, Leads, LeadsPlainly};
+ghost use Rattle.json_recognizer.specs.Stream.{is_over, ends_number, found_at, found_in, end_or, or_later, IsWithin};
+ghost use Rattle.json_recognizer.specs.plan.Leads.{Leads, LeadsPlainly};
 
 use crate::class::{Class, class_of};
 use crate::machine::{Mode, Move, NumberPart, TextPart, Top};

@@ -2,7 +2,7 @@
 ghost use Rattle.std.specs.Prelude.{◌≡◌, ◌<◌, ◌≤◌, [], ◌∷◌, length, get_or, take, map, true, ℕ};
 ghost use Rattle.std.specs.Simd.Lanes.{mask_l};
 ghost use Rattle.json_recognizer.specs.Classes.{class_of, is_plain, is_stop, is_tail, is_hex, is_short_escape};
-ghost use Rattle.json_recognizer.specs.Stream.{Leads, LeadsIn, AreChars};
+ghost use Rattle.json_recognizer.specs.plan.Leads.{Leads, LeadsIn, AreChars};
 ghost use Rattle.json_recognizer.specs.declared.machine.Mode.TheVariants.{Value, InText};
 ghost use Rattle.json_recognizer.specs.declared.machine.TextPart.TheVariants.{InChars, Unit4, Unit2, Utf1, Utf2};
 

@@ -2,7 +2,7 @@
 ghost use Rattle.std.specs.Prelude.{◌≡◌, ◌<◌, ◌≤◌, [], ◌∷◌, length, take, true, IfSome};
 ghost use Rattle.json_recognizer.specs.Classes.{class_of};
 ghost use Rattle.json_recognizer.specs.Machine.{move_word};
-ghost use Rattle.json_recognizer.specs.Stream.{IsWord};
+ghost use Rattle.json_recognizer.specs.plan.Leads.{IsWord};
 
 use crate::machine::{Mode, Move, WordPart};
 

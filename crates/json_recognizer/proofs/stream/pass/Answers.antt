@@ -1,6 +1,6 @@
 use Rattle.std.proofs.Common.{rules, ◌≡◌, ◌+◌, true, take, refl, sym, subst}
 use Rattle.std.proofs.lemmas.List.{take_rest}
-use Rattle.json_recognizer.specs.Stream.{Leads}
+use Rattle.json_recognizer.specs.plan.Leads.{Leads}
 use Rattle.json_recognizer.specs.declared.machine.Mode.TheVariants.{Value, InText}
 use Rattle.json_recognizer.specs.declared.machine.TextPart.TheVariants.{InChars}
 use Rattle.json_recognizer.proofs.Leads.{further, by_each}

@@ -1,5 +1,5 @@
 use Rattle.std.proofs.Common.{◌≤◌, ◌-◌, length, take}
-use Rattle.json_recognizer.specs.Stream.{AreChars}
+use Rattle.json_recognizer.specs.plan.Leads.{AreChars}
 use Rattle.json_recognizer.proofs.text.count_others.Given as goal
 
 abbrev pub invariant-loop-at : goal.invariant-loop-at

@@ -1,5 +1,5 @@
 use Rattle.std.proofs.Common.{sym, subst, arith}
-use Rattle.json_recognizer.specs.Stream.{IsWord}
+use Rattle.json_recognizer.specs.plan.Leads.{IsWord}
 use Rattle.json_recognizer.proofs.Leads.{true_word, null_word, is_false}
 use Rattle.json_recognizer.proofs.words.word_len.Goals as goal
 

@@ -1,0 +1,2 @@
+-- How the search of a text goes about it: the plan of the code. No contract of a public call cites it.
+pub mod Leads
