@@ -2,7 +2,7 @@
 ghost use Rattle.std.specs.Prelude.{◌≡◌, ◌<◌, ◌≤◌, ◌&&◌, ◌∷◌, ◌++◌, length, get_or, take, true, false, cond, Bool, List, ℕ, IfSome};
 ghost use Rattle.json_recognizer.specs.Classes.{class_of, is_blank, is_digit};
 ghost use Rattle.json_recognizer.specs.Grammar.{max_depth};
-ghost use Rattle.json_recognizer.specs.Machine.{is_final, move, top_of, move_behind};
+ghost use Rattle.json_recognizer.specs.Machine.{is_final, step, goes, move, top_of, move_behind};
 ghost use Rattle.json_recognizer.specs.State.{frames};
 ghost use Rattle.json_recognizer.specs.Stream.{is_over, ends_number, found_at, found_in, end_or, or_later, IsWithin};
 ghost use Rattle.json_recognizer.specs.plan.Leads.{Leads, LeadsPlainly};
@@ -71,7 +71,7 @@ fn count_blanks(bytes: &[u8]) -> usize
 #[inline(always)]
 fn count_staying(mode: Mode, bytes: &[u8]) -> usize
     ensures within { result ≤ length bytes.now }
-    ensures stays { Leads mode (take result bytes.now) mode }
+    ensures stays { (k : ℕ) → k < result → (st : List Bool) (r : ℕ) → step mode st r (class_of (get_or bytes.now k 0)) ≡ goes mode st r }
 {
     match mode {
         Mode::InNumber(NumberPart::InWhole) => count_digits(bytes),

@@ -18,3 +18,9 @@ returns-then-ends_name-clause-leads c =
     (subst (λ ys. Leads (InText InChars true) (take 2 ys) Value) (take_rest bytes n.result) (c.ends_name.ensures.leads c.if-ends_name.true)) refl in
     further m Value Value bytes behind k.result (behind + k.result) name
     (subst (λ ys. Leads Value (take k.result ys) Value) (take_rest bytes behind) (by_each Value _ k.result k.ensures.within (λ i. λ lt. λ st. λ r. let blank = k.ensures.blanks i lt in search rules))) refl
+
+pub returns-else-word-gt0-clause-leads : goal.returns-else-word-gt0-clause-leads
+returns-else-word-gt0-clause-leads c = by_each c.args.state.now.mode c.args.bytes.now c.count_staying.result c.count_staying.ensures.within c.count_staying.ensures.stays
+
+pub returns-in_default-clause-leads : goal.returns-in_default-clause-leads
+returns-in_default-clause-leads c = by_each c.args.state.now.mode c.args.bytes.now c.count_staying-in_default.result c.count_staying-in_default.ensures.within c.count_staying-in_default.ensures.stays
