@@ -27,8 +27,9 @@ struct Progress<'r, 'w, W> {
     has_failed: bool,
 }
 
-/// Writes the output that the command line asks for of all files, and flushes it. Exit status: 4 if a file, a write or
-/// memory failed, else 3 after a document with an error, else 0 if there was a match, else 1; 0 for a closed pipe.
+/// Writes the output that the command line asks for, of one file after another, and flushes it. Returns the exit status
+/// of the program, the first of these that applies: 4 if memory ran out; 0 if the reader of the output closed the pipe;
+/// 4 if a write or a file failed; 3 if a document had an error; 0 if there was a match; else 1.
 pub fn run_over_files<'r>(rt: &'r HostRuntime, wanted: &'r Wanted<'_>) -> u8 {
     let is_pipe_closed = Cell::new(false);
     let writer = Checked::new(FaultTellingWriter {

@@ -9,8 +9,9 @@ ghost use Rattle.jpath_edits.specs.ExactAt.{exact_child, exact_at};
 use json::Value as Exact;
 use jsonpath_nodes::{PathStep, Steps};
 
-/// The value to which these steps lead in an exact tree, the tree of a JSON text with each number as it is written;
-/// `None` if there is none. Of a repeated name, the last value counts. The call allocates no memory.
+/// The value at a location in an exact tree, which is the tree of a JSON text with each number as it is written; `None`
+/// if no value is there. `steps` are the location's names and indexes. If an object has a name several times, its last
+/// value counts. The call allocates no memory.
 pub fn exact_value_at_steps<'v, 'a>(
     root: &'v Exact<'a>,
     steps: Steps<'_, '_>,
@@ -23,10 +24,10 @@ pub fn exact_value_at_steps<'v, 'a>(
     }
 }
 
-/// The value to which these steps lead in an exact tree, which is the tree of a JSON text with each number as it is
-/// written; `None` if there is no such value. Of a repeated name, the last value counts. Precondition: each number of
-/// the tree is written as JSON allows, as in any tree read from a text. The same then holds for the returned value, so
-/// that it can be printed.
+/// The value at a location in an exact tree, which is the tree of a JSON text with each number as it is written; `None`
+/// if no value is there. `steps` are the location's names and indexes. If an object has a name several times, its last
+/// value counts. Precondition: each number of the tree is written as JSON allows, as in any tree read from a text. This
+/// then also holds for the returned value, which can thus be printed.
 pub fn printable_value_at_steps<'v, 'a>(
     root: &'v Exact<'a>,
     steps: Steps<'_, '_>,

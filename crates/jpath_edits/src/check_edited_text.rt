@@ -41,11 +41,14 @@ fn document_with_change(
     }
 }
 
-/// Whether the edited text `written`, read again, is the original document, read from `text`, with the change made at
-/// `places`, each once, in document order: parents first, names by bytes, indexes by number. False if `written` is not
-/// UTF-8. `image` is the original document as `serde_json` reads it, `None` if `serde_json` rejects a number there. If
-/// it rejects a number of the document or of the new value, all numbers count as equal. Errors: `EditNests` if the
-/// edited text or the new value can't be read, or `OutOfMemory`.
+/// Checks an edit. Returns whether the edited text `written`, read again, is the original document with `change` made
+/// at the locations `places`, except at the root and inside another changed value. `text` is the text of the original
+/// document. `places` has each location once, in document order: parents first, names by bytes, indexes by number.
+/// Returns false if `written` is not UTF-8.
+///
+/// `image` is the original document as `serde_json` reads it, `None` if `serde_json` rejects a number there. If it
+/// rejects a number of the document or of the new value, all numbers count as equal. Errors: `EditNests` if the edited
+/// text or the new value can't be read, or `OutOfMemory`.
 pub fn are_bytes_of_changed_document(
     alloc: Global,
     text: &str,

@@ -62,8 +62,8 @@ pub trait Disk {
     fn facts(&mut self, place: Place) -> io::Result<FileFacts>
         ensures { MatchResult result (λ facts. Tells (IsKnown place facts) (state self.old) (state self.new)) (λ _. state self.new ≡ state self.old) };
 
-    /// The greatest number of bytes that a file may have (`ulimit -f`), or that of a `u64` without a limit. Writing more
-    /// would end the program.
+    /// The greatest number of bytes that the system lets a file have (`ulimit -f`), or `u64::MAX` if there is no such
+    /// limit. Writing more would end the program.
     fn size_limit(&mut self) -> u64
         ensures { state self.new ≡ state self.old };
 

@@ -29,7 +29,7 @@ pub struct FileFacts {
 }
 
 impl FileFacts {
-    /// The facts of a file, taken from its `Metadata`.
+    /// Takes the facts of a file (its owner, rights, size, times and so on) from the file's `Metadata`.
     pub fn of_metadata(found: &Metadata) -> FileFacts
         ensures regular { IsTrue result.is_regular ↔ IsFile (file_type found.now) }
         ensures size { result.size ≡ metadata_len found.now }
@@ -49,7 +49,7 @@ impl FileFacts {
         }
     }
 
-    /// Whether the two files with these facts belong to the same owner and group.
+    /// Whether `self` and `other`, the facts of two files, have the same owner and the same group.
     pub fn has_same_owner(&self, other: &FileFacts) -> bool
         ensures { IsTrue result ↔ ((self.now.owner ≡ other.now.owner) × (self.now.group ≡ other.now.group)) }
     {

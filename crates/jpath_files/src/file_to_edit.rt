@@ -28,7 +28,7 @@ pub enum Way {
 #[derive(Drop)]
 pub struct FileToEdit<'r> {
     pub disk: HostDisk<'r>,
-    /// The facts of the file (owner, size, times and so on) when it was opened.
+    /// What the system knew of the file (its owner, size, times and so on) when the file was opened to be edited.
     pub found: FileFacts,
     pub way: Way,
 }

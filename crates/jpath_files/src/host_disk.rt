@@ -32,7 +32,8 @@ pub struct HostDisk<'r> {
     model: DiskModel,
 }
 
-/// What the system knows of the file at this path: its owner, size, times and so on.
+/// What the system knows of the file at this path: its owner, size, times and so on. An error if there is no such file,
+/// or the system call fails.
 pub(crate) fn facts_at(rt: &HostRuntime, path: &PathBuf) -> io::Result<FileFacts> {
     Ok(FileFacts::of_metadata(&fs::metadata(rt, path)?))
 }

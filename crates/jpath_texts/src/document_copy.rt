@@ -90,8 +90,9 @@ fn copy_members_if_numbers_fit(
 }
 
 /// Copies an exact tree, which keeps each number as written, to a `serde_json` value, with each number replaced as
-/// `numbers` says. It must be `Ranked`, with the keys of all these numbers in its list, or `Alike`, which makes each
-/// number 0. Errors: `HugeExponent` if `Ranked` and an exponent doesn't fit in 128 bits, or `OutOfMemory`.
+/// `numbers` says. `numbers` must be `Ranked`, with the keys of all the tree's numbers in its list, or `Alike`, which
+/// makes each number 0. Errors: `HugeExponent` if `numbers` is `Ranked` and an exponent doesn't fit in 128 bits, or
+/// `OutOfMemory`.
 pub fn copy_with_numbers(
     alloc: Global,
     exact: &Exact<'_>,

@@ -87,8 +87,8 @@ impl Compared {
         Ok(compared)
     }
 
-    /// Notes, for one more path, whether its filters compare numbers, and the number literals in them. The only error
-    /// is `OutOfMemory`.
+    /// Adds to `self` what the filters of one more path compare: whether they compare numbers, and the number literals
+    /// in them. The only error is `OutOfMemory`.
     pub fn add_query(&mut self, query: &Query<'_>) -> Result<(), TokenError>
         ensures any { OnOk result (self.new.is_any ≡ (self.old.is_any || query.now.compares)) }
         ensures kept { OnOk result (KeepsLiterals self.old.literals.items self.new.literals.items) }

@@ -246,12 +246,13 @@ pub enum EditWords<'a> {
     Set(&'a str, &'a str),
     /// `--set-text PATH TEXT`: puts a text in place of each value that the path selects.
     SetText(&'a str, &'a str),
-    /// `--add PATH JSON`: makes the value of a JSON text the value of the member that the path names, and adds the
-    /// member if its object has none of that name. The path has only names and indexes that are not negative, a name
-    /// last.
+    /// `--add PATH JSON`: sets the member that PATH names to the value of a JSON text. If the object has no member of
+    /// that name, adds it; if the document has no object where the member belongs, nothing changes. PATH has only names
+    /// and indexes that are not negative, and ends with a name.
     Add(&'a str, &'a str),
-    /// `--add-text PATH TEXT`: makes a text the value of the member that the path names, and adds the member if its
-    /// object has none of that name. The path has only names and indexes that are not negative, a name last.
+    /// `--add-text PATH TEXT`: sets the member that PATH names to a text. If the object has no member of that name,
+    /// adds it; if the document has no object where the member belongs, nothing changes. PATH has only names and
+    /// indexes that are not negative, and ends with a name.
     AddText(&'a str, &'a str),
     /// `--append PATH JSON`: adds the value of a JSON text at the end of each array that the path selects.
     Append(&'a str, &'a str),

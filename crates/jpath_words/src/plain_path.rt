@@ -8,7 +8,8 @@ use std::alloc::{AllocError, Global};
 // How much a whole number is in units of a decimal.
 const ONE: i128 = 1_000_000_000_000_000_000;
 
-/// A member that a path names: the location of the object around it, and its name.
+/// Says which member of an object is meant: `above` is the location of the object in a document, `name` is the name of
+/// the member. A document need not have this object or member.
 #[derive(Drop)]
 pub struct NamedMember {
     pub above: Location,

@@ -26,8 +26,8 @@ use std::slice;
 /// What `jpath` writes for each document: lines, an array, a count, a table, or the edited text.
 #[derive(Drop)]
 pub enum Task<'a> {
-    /// Writes lines for each value that one of the paths selects, path by path, with the value, its location or both,
-    /// the names of its members or its length.
+    /// Writes lines for each value that the paths select, path by path, with duplicates. `Shown` says what the lines
+    /// show: the value, its location, both, its members or items, or its length.
     Lines(Vec<Query<'a>>, Shown),
     /// Writes one JSON array for each document, with all values that the paths select, path by path, with duplicates.
     Array(Vec<Query<'a>>),
@@ -78,7 +78,7 @@ pub struct Wanted<'a> {
     pub look: Look,
     pub files: Vec<&'a str>,
     pub has_names: bool,
-    /// Whether each value begins with the byte 30 (RS).
+    /// Whether the byte 30 (RS) is written before each value, as in a JSON text sequence.
     pub is_sequence: bool,
     pub line_end: LineEnd,
     pub keeps_going: bool,
@@ -88,8 +88,9 @@ pub struct Wanted<'a> {
 }
 
 impl<'a> Wanted<'a> {
-    /// Whether blanks between documents, and a byte order mark before the first, are written as they are. True exactly
-    /// if there are edits and the edited documents are not laid out over lines anew.
+    /// Whether `jpath` copies to the output the blanks between documents, and a byte order mark before the first. True
+    /// exactly if it makes edits and the edited documents keep their layout, that is, are not laid out over several
+    /// lines.
     pub fn keeps_blanks_between_documents(&self) -> bool
         ensures { result ≡ is_edit self.now.task && not (is_over_lines self.now.look.layout) }
     {
@@ -133,8 +134,8 @@ impl<T: Drop> From<AllocFailed<T>> for Refused {
 }
 
 /// Everything that the command line of `jpath` asks for: compiled paths, the task, the layout of lines and the files.
-/// Errors: `Words` if options contradict each other, or one or the path is missing; `Told` if a path or an edit's value
-/// is wrong, which is printed here; `Checked` if all is right and `--check` is set; or `OutOfMemory`.
+/// Errors: `Words` if options contradict each other, or if an option or the path is missing; `Told` if a path or an
+/// edit's value is wrong, which is printed here; `Checked` if all is right and `--check` is set; or `OutOfMemory`.
 pub fn wanted_of_words<'a>(
     rt: &(impl Eprint + Alloc<A = Global>),
     words: &Words<'a>,
@@ -241,8 +242,8 @@ fn line_end(flags: &Flags) -> LineEnd
     }
 }
 
-/// Whether `jpath` writes its lines in colours: as `--color` says or, if that is `auto`, if the output is a terminal
-/// and NO_COLOR is not set.
+/// Whether `jpath` writes its output in colours. This is as the option `--color` says or, if it says `auto`, true
+/// exactly if the output is a terminal and the environment variable NO_COLOR is not set.
 pub fn wants_color(flags: &Flags, is_terminal: bool, has_no_color: bool) -> bool
     ensures { result ≡ colored_by flags.now.color is_terminal has_no_color }
 {

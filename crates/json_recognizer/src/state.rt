@@ -15,8 +15,9 @@ use crate::moves::move_of;
 pub struct State {
     pub mode: Mode,
     pub depth: usize,
-    /// The first `depth` elements say what each open array or object is, from the outermost: true for an object, false
-    /// for an array. The others mean nothing.
+    /// For each array or object that is open at this point of the JSON text, from the outermost one: true for an
+    /// object, false for an array. `depth` says how many are open, 127 at most: only the first `depth` elements count,
+    /// and the others mean nothing.
     pub kinds: [bool; 127],
 }
 

@@ -44,7 +44,7 @@ pub enum Wanted {
     NotANumber,
 }
 
-/// Prints, as a sentence of an error message, why the byte is wrong.
+/// Prints, as part of an error message, why a byte is wrong in a JSON text, for example `a colon is wanted`.
 impl Display for Wanted {
     ghost output = { λ wanted. Some (wanted_words wanted) };
 

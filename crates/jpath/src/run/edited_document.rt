@@ -9,7 +9,8 @@ use json::Scratch;
 use std::alloc::{AllocError, Global};
 use std::str;
 
-/// What is kept from one document to the next: memory for reading, and which edits were made.
+/// What `jpath` keeps from one document of its input to the next: memory that reading the next document uses again, and
+/// a note of each edit that has changed a document, or for which a message said why it has not.
 #[derive(Drop)]
 pub struct Kept {
     pub scratch: Scratch,
@@ -17,7 +18,7 @@ pub struct Kept {
 }
 
 impl Kept {
-    /// Nothing is kept yet: no edit was made.
+    /// The state before the first document is read: no memory to use again, and no edit noted.
     pub fn new(alloc: Global) -> Kept {
         Kept {
             scratch: Scratch::new(alloc),
@@ -37,15 +38,16 @@ impl Kept {
     }
 
     /// Whether the edit at this index, counted from 0 in the order of the command line, has changed no document so far,
-    /// and no message has said why.
+    /// and no message was printed that says why.
     pub fn has_made_nothing(&self, at: usize) -> bool {
         self.made_or_told.as_slice().get(at) != Some(&true)
     }
 }
 
-/// Appends to `out` the text of the document after all edits, made one after another: in its own layout or, if `look`
-/// puts it over several lines, laid out anew, with a line end. Returns the sum of the edits' `Edited::targets`. If an
-/// edit would replace or remove the root, or a new name is in use already, a message on standard error says so. Errors:
+/// Makes all edits in a document, one after another, and appends the text of the edited document to `out`. The text
+/// keeps its layout. But if `look` asks for several lines, the document is printed anew in that layout, with a line
+/// end. Returns the sum of the edits' `Edited::targets`. If an edit would replace or remove the root, or if the new
+/// name of a renaming is in use already, a message is printed on standard error; this is no error. Errors:
 /// `NotADocument` if `text` is no JSON document, `HugeExponent`, `EditNests`, `EditDiffers` or `OutOfMemory`; `out` may
 /// then end with a part of the text.
 pub fn add_edited_document(

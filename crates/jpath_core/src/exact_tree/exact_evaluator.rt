@@ -33,10 +33,10 @@ pub struct ExactOutcome {
     pub has_fraction: bool,
 }
 
-/// Whether a path can be evaluated on the exact tree of most documents, without an image (a copy with `serde_json`'s
-/// numbers): it begins at the root, and has only single names, `[*]`, and filters whose conditions use only literals
-/// and members of the value that the filter tests, such as `@.a`. Some documents need an image all the same; other
-/// paths always do.
+/// Whether a path is so simple that on most documents it can be evaluated on the exact tree, which is the tree of the
+/// JSON text with each number as it is written. Such a path begins at the root. It has only single names, `[*]`, and
+/// filters whose conditions use only literals and members of the value that the filter tests, such as `@.a`. For other
+/// paths, and for some documents, a copy of the tree with `serde_json`'s numbers has to be made first.
 pub fn may_answer_by_exact_tree(query: &Query<'_>) -> bool {
     let path = query.path().tree();
     for step in &path.steps {
@@ -52,11 +52,12 @@ pub fn may_answer_by_exact_tree(query: &Query<'_>) -> bool {
     path.absolute
 }
 
-/// Selects by a path in an exact tree (a JSON text's tree, each number as written), and appends each value to `out`, in
-/// the order in which the path finds them, a line for each, in the form `line`, but for `line.shown`; nothing if `line`
-/// is `None`. Returns how many values there are and whether fractions were compared; or `None` if the path or the
-/// document can be evaluated only on an image (a copy with `serde_json`'s numbers). The only error is that memory ran
-/// out. After it, or after `None`, `out` may end with a part of the lines.
+/// Evaluates a path on an exact tree, the tree of a JSON text with each number as it is written. Appends a line with
+/// each selected value to `out`, in the order in which the path finds the values. `line` describes these lines, except
+/// for its field `shown`, which is not used; if `line` is `None`, nothing is appended. Returns how many values there
+/// are and whether fractions were compared. Returns `None` if the path or the document has to be evaluated on a copy of
+/// the tree with `serde_json`'s numbers instead. The only error is that memory ran out. After the error or `None`,
+/// `out` may end with a part of the lines.
 pub fn add_lines_by_exact_tree(
     alloc: Global,
     exact: &Exact<'_>,

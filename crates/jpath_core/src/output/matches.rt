@@ -27,9 +27,10 @@ use jsonpath_paths::laws::one_tree_per_text;
 use std::alloc::{AllocError, Global};
 use std::mem;
 
-/// Appends to `out` what `line` shows of each value that one path selects in a document, in the order in which the
-/// path's steps find them (`*` finds members in the order of their names' bytes), and returns the number of these
-/// values. The only error is `OutOfMemory`; `out` may then end with a part of the lines.
+/// Appends to `out` the lines for each value that a path selects in a document. `line` says what these lines show of
+/// the value (the value itself, its location, its members or its length) and how. The values come in the order in which
+/// the path's steps find them (`*` finds members in the order of their names' bytes), with duplicates. Returns the
+/// number of these values. The only error is `OutOfMemory`; `out` may then end with a part of the lines.
 pub fn add_lines_for_path(
     alloc: Global,
     document: &Document<'_>,
@@ -72,9 +73,10 @@ pub(crate) fn count_matches_of_path(
     Ok(select_in_document(alloc, document, query)?.len())
 }
 
-/// Appends to `out` one JSON array of the values that the paths select, path by path and for each path in the order of
-/// `select_in_document`, with all that `line` puts before and after it. Returns how many values there are. The only
-/// error is `OutOfMemory`; `out` may then end with a part.
+/// Appends to `out` one JSON array of the values that the paths select: path by path, and for each path in the order in
+/// which its steps find them, with duplicates. Also writes what `line` asks for before the array (the byte 30, the
+/// file's name) and after it (a line end). Returns how many values there are. The only error is `OutOfMemory`; `out`
+/// may then end with a part of this.
 pub fn add_array(
     alloc: Global,
     document: &Document<'_>,

@@ -12,11 +12,11 @@ use json::Value as Exact;
 use serde_json::Value;
 use std::alloc::Global;
 
-/// Appends to `out` a row of a table for each value that the path `rows` selects in a document, in the order of
-/// `select_in_document`, and returns the number of rows. Each column is a path, which is applied to the row's value as
-/// its root. The column's field, in the order of `columns`, is the first value that this path selects: a text without
-/// quotes, any other value as compact JSON, or an empty field if it selects nothing. Error: `OutOfMemory`; `out` may
-/// then end with a part of the rows, or have lost all its content.
+/// Appends to `out` a row of a table for each value that the path `rows` selects in a document, in the order in which
+/// the path's steps find them, and returns the number of rows. Each column is a path, which is applied to the row's
+/// value as its root. The column's field, in the order of `columns`, is the first value that this path selects: a text
+/// without quotes, any other value as compact JSON, or an empty field if it selects nothing. Error: `OutOfMemory`;
+/// `out` may then end with a part of the rows, or have lost all its content.
 pub fn add_rows(
     alloc: Global,
     document: &Document<'_>,

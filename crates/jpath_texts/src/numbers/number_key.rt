@@ -24,8 +24,8 @@ pub struct NumberKey {
 }
 
 impl NumberKey {
-    /// Makes the `NumberKey` of a number, by which it is compared with others; the number is given as it is written in
-    /// JSON; `None` if its exponent doesn't fit in 128 bits. The only error is out of memory.
+    /// Reads a number from its JSON text, and returns its `NumberKey`, by which it is compared with other numbers.
+    /// Returns `None` if the number's exponent doesn't fit in 128 bits. The only error is out of memory.
     pub fn read(alloc: Global, text: &str) -> Result<Option<NumberKey>, AllocError>
         ensures { IfOk result (λ o. IfSome o (IsKeyOf text.now)) }
     {

@@ -89,9 +89,10 @@ impl Numbers {
         }
     }
 
-    /// The token list of a path (its syntax tree as a list), with each number that a filter compares changed as `self`
-    /// changes a document's numbers: `Scaled` multiplies it by its power of ten, `Ranked` puts the index of its
-    /// `NumberKey` in the list, the other variants keep it. The only error is `OutOfMemory`.
+    /// Copies the token list of a path (its syntax tree written out as a list), and changes each number that a filter
+    /// compares as `self` changes the numbers of a document: `Scaled` multiplies the number by the same power of ten;
+    /// `Ranked` replaces it by the index, from 0, that its `NumberKey` has among the keys; the other variants keep it.
+    /// The only error is `OutOfMemory`.
     pub fn tokens_with_literals_placed(
         &self,
         alloc: Global,

@@ -56,8 +56,9 @@ pub fn fill_paths<'a>(
     })
 }
 
-/// `words` with each path text replaced by that of `filled`, which must be made of `words`, and without `--arg` and
-/// `--argjson`. `rest` then has only the files. Errors: `Words` if there is no path, or `OutOfMemory`.
+/// Copies `words`, the parsed command line, and replaces each path text by the one that `filled` has for it. `filled`
+/// must have been made from `words`. The copy has no `--arg` and no `--argjson`, and only the files in its field
+/// `rest`. Errors: `Words` if there is no path, or `OutOfMemory`.
 pub fn words_with_paths<'a>(
     alloc: Global,
     words: &Words<'a>,

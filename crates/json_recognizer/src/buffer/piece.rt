@@ -12,7 +12,8 @@ pub enum Kind {
     Blanks,
 }
 
-/// A position in a stream: line and column, from 1 (but `place_of_refusal` can return column 0), the column in bytes.
+/// A position in a stream: line and column, both counted from 1, the column in bytes. Only `place_of_refusal` can
+/// return column 0.
 #[derive(Clone, Copy, Debug, Drop, PartialEq, Eq)]
 pub struct LineColumn {
     pub line: usize,

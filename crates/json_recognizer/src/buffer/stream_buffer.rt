@@ -205,7 +205,8 @@ impl StreamBuffer {
         self.begin_piece_at(end);
     }
 
-    /// Skips the blanks at the front of the stream's current piece; the piece itself has to be searched for anew.
+    /// Skips the blanks at the front of the stream's current piece, which is a document or wrong bytes. The search for
+    /// the end of this piece then begins anew, after these blanks.
     pub fn pass_blanks(&mut self)
         requires { IsSound self.old }
         ensures ready { IsReady self.new }
