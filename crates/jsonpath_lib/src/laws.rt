@@ -31,10 +31,10 @@ pub use jsonpath_select::laws::{
 };
 use serde_json::Value;
 
-/// Lemma: let a path select one fixed location, and no other, in each document that has this location, and nothing in
-/// any other document. Then deleting by the path does the same as putting null at this one location, and removing by
-/// the path the same as removing the value at it. If the location is the root, all four change nothing.
-/// `putting_at_one_location` says what an update of one location leaves.
+/// Lemma: let a path select one fixed location alone in each document that has this location, and nothing in any other
+/// document. Then deleting by the path is the same as putting null at this location, and removing by the path is the
+/// same as removing the value at this location. If the location is the root, none of these changes anything. The lemma
+/// `putting_at_one_location` says what such an update of one location leaves.
 ///
 /// ```text
 /// laws::deletes_and_removes_selected_location();
@@ -51,10 +51,10 @@ pub fn deletes_and_removes_selected_location()
     putting_at_one_location();
 }
 
-/// Lemma: let a path select one fixed location, and no other, in each document that has this location, and nothing in
-/// any other document; and let a closure always return the same result. Then replacing by the path and the closure does
-/// the same as updating this one location: `Some` replaces the value, `None` removes it. At the root nothing changes.
-/// The lemma's call does not call `closure`.
+/// Lemma: let a path select one fixed location alone in each document that has this location, and nothing in any other
+/// document; and let a closure always return the same result. Then replacing by the path and the closure is the same as
+/// updating this location: `Some` replaces the value there, `None` removes it. If the location is the root, nothing
+/// changes. Calling this lemma does not call `closure`.
 ///
 /// ```text
 /// laws::replaces_selected_location(on);

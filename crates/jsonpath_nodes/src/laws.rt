@@ -24,8 +24,8 @@ ghost use Rattle.jsonpath_nodes.specs.step.Separate.{ApartHasNoRepeatFlat, OneIs
 
 use serde_json::{Map, Value};
 
-/// Lemma: contracts describe a `Value` by a document, which has its content, with each number as `serde_json` read it.
-/// This description is complete: values with different content have different documents.
+/// Lemma: contracts (proved specifications) describe a `Value` by its document, which has the same content, with each
+/// number as `serde_json` read it. Values with different content have different documents.
 ///
 /// ```text
 /// laws::documents_keep_data_apart();
@@ -75,8 +75,8 @@ pub fn equal_locations_are_same()
     ensures { (l m : Location) → location_cmp l m ≡ Equal → l ≡ m }
 {}
 
-/// Lemma: for a list of nodes and a list of locations, with the i-th node at the i-th location for each i, the
-/// locations that are stored in the nodes are the second list.
+/// Lemma: let a list of nodes and a list of locations be equally long, and each node be at the location with the same
+/// index. Then the locations that the nodes store are, in order, those of the second list.
 ///
 /// ```text
 /// laws::spots_show_their_locations();
@@ -109,9 +109,9 @@ pub fn putting_at_one_location()
     ensures nowhere { ChangesNothing }
 {}
 
-/// Lemma: if a closure always returns the same result, updating the locations of a list by it, one after another,
-/// applies this result at each in turn: `Some` puts the value there, `None` removes what is there. The lemma's call
-/// does not call the closure.
+/// Lemma: let a closure always return the same result. Then updating the locations of a list by the closure, one after
+/// another, does the same as applying this result at each location in turn: `Some` puts the value there, `None` removes
+/// what is there. Calling this lemma does not call the closure.
 ///
 /// ```text
 /// let on = &mut |_old: Value| Some(Value::Bool(true));
@@ -144,11 +144,10 @@ pub fn nulling_and_taking_ignore_order()
     ensures { SetsAlone }
 {}
 
-/// Lemma: the set of nodes that a step or `..` selects, and the set of values that a filter tests, depend only on the
-/// set of locations from which the step, `..` or the filter starts, not on their order or on repeats. The same holds
-/// for the set of those locations that meet a condition, and for whether any of them does. Two lists with the same set
-/// for the set of those locations that meet a condition, and for whether any of them does. Two lists with the same set
-/// of locations become equal when they are put in document order (parents before children, members by their names'
+/// Lemma: what is found from a list of locations depends, as a set, only on the set of these locations, not on their
+/// order or on repeats. This holds for the nodes that a step or `..` selects from them, for the values that a filter
+/// tests, for the locations that meet a condition, and for whether there is such a location. Two lists with the same
+/// set of locations become equal when they are put in document order (parents before children, members by their names'
 /// bytes, items by index), each location once.
 /// ```text
 /// laws::steps_ignore_order_and_repeats();
@@ -185,9 +184,9 @@ pub fn replacements_stay_in_place()
     ensures { RunsInPlace }
 {}
 
-/// Lemma: let no location of a list be equal to another or below it. Then the values that a filter after `..` tests,
-/// such as `..[?(@.a)]`, whose `@` is followed by a segment, are found by searching the descendants of each location in
-/// turn. Each value is found once: no two of these searches find the same one.
+/// Lemma: let no location of a list be equal to another or below it. Then no value is tested twice by a filter after
+/// `..` that is applied at these locations and has a relative query with at least one segment, such as `..[?(@.a)]`.
+/// The values that it tests are those found below the first location, then those found below the second, and so on.
 ///
 /// ```text
 /// laws::candidates_of_disjoint_in_descents();
@@ -196,12 +195,13 @@ pub fn candidates_of_disjoint_in_descents()
     ensures { DisjointInOneDescent }
 {}
 
-/// Lemma: locations are disjoint if no two are equal and none is below another. Distinct locations of equal depth are
-/// disjoint. No location is at or below two disjoint ones. Disjoint locations are also apart, a weaker property: no two
-/// are equal, and none can be reached from another by indexes alone. A step that is applied at disjoint locations and
-/// selects no child of a value twice leads to disjoint locations. So does `*`, if no object to which it is applied has
-/// a name twice: the lemma assumes that its names ascend. The values that a filter tests, when it is applied at
-/// disjoint locations, are at disjoint locations, and so are those of them that meet its condition.
+/// Lemma: locations are called disjoint if no two are equal and none is below another. Different locations of equal
+/// depth are disjoint. No location is at or below two disjoint ones. Disjoint locations are also apart, a weaker
+/// property: no two are equal, and none can be reached from another by indexes alone.
+///
+/// From disjoint locations, a step that selects no child of a value twice leads to disjoint locations. So does `*`, if
+/// the member names of each object to which it is applied ascend, so that none is repeated. The values that a filter
+/// tests from disjoint locations are at disjoint locations, too, and so are those of them that meet its condition.
 ///
 /// ```text
 /// laws::steps_keep_locations_disjoint();
@@ -215,11 +215,11 @@ pub fn steps_keep_locations_disjoint()
     ensures candidates { CandidatesStayDisjoint }
 {}
 
-/// Lemma: let locations be called apart if no two are equal and none can be reached from another by indexes alone; a
-/// single location counts as apart. A filter's candidates are the values at the locations where it starts, each array
-/// replaced by its items, and these again if they are arrays, until no array is left. If the filter starts from
-/// locations that are apart, no candidate is found twice. From whatever locations it starts, the locations of its
-/// candidates are apart once repeats are dropped.
+/// Lemma: locations are called apart if no two are equal and none can be reached from another by indexes alone; a
+/// single location is apart. The candidates of a filter are the values that it tests: those at the locations where it
+/// starts, each array replaced by its items, and these again if they are arrays, until no array is left. If a filter
+/// starts from locations that are apart, no candidate is found twice. From whatever locations it starts, the locations
+/// of its candidates, each taken once, are apart.
 ///
 /// ```text
 /// laws::apart_locations_meet_candidates_once();
@@ -231,11 +231,11 @@ pub fn apart_locations_meet_candidates_once()
     ensures no_repeat { ApartHasNoRepeat }
 {}
 
-/// Lemma: locations are apart if no two are equal and none can be reached from another by indexes alone. Each of these
-/// steps leads to locations that are apart: a name or a list of different names, if it starts from any distinct
-/// locations; `..` before a name, if it starts from a single location; an index, a slice, or a list of different
-/// indexes none of which is negative, if it starts from locations that are apart. If locations are apart, those of them
-/// that meet a filter's condition are, too.
+/// Lemma: locations are called apart if no two are equal and none can be reached from another by indexes alone. From
+/// different locations, a name or a list of different names leads to locations that are apart. So does `..` before a
+/// name from a single location. From locations that are apart, an index, a slice, or a list of different indexes that
+/// are not negative leads to locations that are apart. If locations are apart, so are those of them that meet a
+/// filter's condition.
 ///
 /// ```text
 /// laws::steps_keep_locations_apart();
@@ -250,10 +250,10 @@ pub fn steps_keep_locations_apart()
     ensures kept { KeptStandApart }
 {}
 
-/// Lemma: the list of all locations at or below a location of a document has no repeats. A step that is applied at
-/// distinct locations and selects no child of a value twice leads to distinct locations. So does `*`, if no object to
-/// which it is applied has a name twice: the lemma assumes that its names ascend. If locations are distinct, those that
-/// meet a filter's condition are, too.
+/// Lemma about lists of locations without repeats. The list of all locations at or below one location of a document has
+/// no repeats. If a list has none, neither has the list that results from it by a step that selects no child of a value
+/// twice. The same holds for `*`, if the member names of each object to which it is applied ascend, so that none is
+/// repeated. The same holds for the locations of the list that meet a filter's condition.
 ///
 /// ```text
 /// laws::steps_lead_without_repeats();

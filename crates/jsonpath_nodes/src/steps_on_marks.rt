@@ -160,9 +160,10 @@ pub fn stride_from_each<'a, M: Mark<'a>>(
     }
 }
 
-/// From each node, in order: the node itself if it is no array, else the non-array values left after flattening it; a
-/// value that is found from two nodes is listed twice. A filter that uses `@` with a segment, such as `[?(@.a)]`, has
-/// exactly this list as its candidates (the values that it tests), provided that no value is in the list twice.
+/// For each node in order, returns the node itself if it is no array, else the non-array values that are left if each
+/// array is replaced by its items again and again. A value that is found from two nodes is listed twice. If no value is
+/// listed twice, this list has exactly the values that a filter with a relative query of at least one segment, such as
+/// `[?(@.a)]`, tests from these nodes.
 ///
 /// ```text
 /// let found = steps_on_marks::flattened_from_each(alloc, &[&document])?;
@@ -179,9 +180,9 @@ pub fn flattened_from_each<'a, M: Mark<'a>>(alloc: Global, marks: &[M]) -> Resul
     Ok(found)
 }
 
-/// The values that a filter such as `[?(@.a)]` tests when it is applied to one node: the node itself if it is no array,
-/// else the non-array values left after flattening nested arrays. This holds for each filter that has a relative query
-/// with at least one segment, as `@.a` is.
+/// The values that a filter tests when it is applied to one node, if the filter has a relative query with at least one
+/// segment, such as `@.a`: the node itself if it is no array, else the non-array values that are left if each array is
+/// replaced by its items again and again.
 ///
 /// ```text
 /// let found = steps_on_marks::flattened_from_mark(alloc, &&document)?;
@@ -196,9 +197,10 @@ pub fn flattened_from_mark<'a, M: Mark<'a>>(alloc: Global, mark: &M) -> Result<V
     Ok(found)
 }
 
-/// The values that a filter after `..` tests when it is applied to one node, if it has a relative query with at least
-/// one segment, such as `@.a`: what `..*` selects from the node, with each array replaced by its items (nested arrays
-/// flattened), and each value once, where it comes first.
+/// The values that a filter after `..` tests when it is applied to one node, if the filter has a relative query with at
+/// least one segment, such as `@.a`. These are the node's descendants that are not arrays, each once. Their order is
+/// that of `..*`, with each array replaced by its items (and these again, if they are arrays); of a value found twice,
+/// the first occurrence counts.
 ///
 /// ```text
 /// let found = steps_on_marks::candidates_below_mark(alloc, &&document)?;

@@ -60,12 +60,12 @@ pub trait Tree: Copy + Drop {
     fn compare_numbers(left: &Self::Number, right: &Self::Number) -> Ordering
         ensures { result ≡ fraction_order (fraction_of left.now) (fraction_of right.now) };
 
-    /// A handle to the array that the value is; `None` if it is none.
+    /// This value as a handle to an array; `None` if the value is no array.
     fn as_array(self) -> Option<Self::Array>
         ensures some { IfSome result (λ a. content self ≡ array (items a)) }
         ensures none { IfNone result (as_array (content self) ≡ None) };
 
-    /// A handle to the object that the value is; `None` if it is none.
+    /// This value as a handle to an object; `None` if the value is no object.
     fn as_object(self) -> Option<Self::Object>
         ensures some { IfSome result (λ o. content self ≡ object (members o)) }
         ensures none { IfNone result (as_object (content self) ≡ None) };
@@ -83,20 +83,22 @@ pub trait Tree: Copy + Drop {
         ensures key { IfSome result (λ p. name_bytes p.0 ≡ name.now) }
         ensures value { option_map (λ p. content p.1) result ≡ get_member name.now (members object) };
 
-    /// Begins to go over the items of an array, in their order.
+    /// Starts an iteration over the items of an array, in their order, and returns its state.
     fn each_item(array: Self::Array) -> Self::ItemsLeft
         ensures { items_left result ≡ items array };
 
-    /// Takes the next item from `left`; `None` if none is left.
+    /// Returns the next item of an iteration over an array, whose state is `left`; `None` if no item is left.
     fn next_item(left: &mut Self::ItemsLeft) -> Option<Self>
         ensures { MatchOption result (items_left left.old ≡ no_items) (λ v. items_left left.old ≡ item (content v) (items_left left.new)) };
 
-    /// Begins to go over the members of an object, in the order of their names' bytes, each name once.
+    /// Starts an iteration over the members of an object, in the order of their names' bytes, each name once, and
+    /// returns its state.
     fn each_member(object: Self::Object) -> Self::MembersLeft
         ensures all { members_left result ≡ members object }
         ensures ordered { NamesAscend (members object) };
 
-    /// Takes the next member from `left`, its name and its value; `None` if none is left.
+    /// Returns the next member, its name and its value, of an iteration over an object, whose state is `left`; `None`
+    /// if no member is left.
     fn next_member(left: &mut Self::MembersLeft) -> Option<(Self::Name, Self)>
         ensures { MatchOption result (members_left left.old ≡ no_members) (λ p. members_left left.old ≡ member (name_bytes p.0) (content p.1) (members_left left.new)) };
 }

@@ -45,8 +45,8 @@ impl<'a> PathCompiled<'a> {
 impl Clone for PathCompiled<'_> {
     ghost is_clone = { λ it copy. copy ≡ it };
 
-    /// Returns another `PathCompiled` that shares this one's compiled path. The call allocates no memory, and fails
-    /// only if there are too many clones to count.
+    /// Returns another `PathCompiled` that shares the compiled path of this one. The call allocates no memory. It
+    /// returns an error only if there would be more clones than the shared path's reference count can count.
     fn clone(&self) -> Result<Self, AllocError> {
         let path = self.path.clone()?;
         Ok(PathCompiled { path })

@@ -23,12 +23,12 @@ use std::fmt;
 pub struct PathsFault {
     /// The index, from 0, of the first text of the list that is no path; `None` if memory ran out.
     pub index: Option<usize>,
-    /// `Path`, with a message, for the first text that is no path; or `OutOfMemory`.
+    /// The error itself: `Path`, with a message, for the first text that is no path; or `OutOfMemory`.
     pub fault: JsonPathError,
 }
 
-/// Prints the word `path`, the index of the wrong text in the list of path texts, a colon and the error's text; if the
-/// error has no index, the error's text alone.
+/// Prints the word `path`, the index (from 0) of the wrong text in the list of path texts, a colon and the error's
+/// text; if the error has no index, the error's text alone.
 impl fmt::Display for PathsFault {
     ghost output = { λ fault. Some (paths_fault_text fault.index fault.fault) };
 

@@ -59,7 +59,8 @@ pub struct DocumentFault {
     pub line: usize,
     /// The column of the error, in bytes from 1, as `serde_json` counts; 0 for a document cut short after a line end.
     pub column: usize,
-    /// `Serde`, whose message ends with the line and column, as `serde_json`'s messages do; or `OutOfMemory`.
+    /// The error itself: `Serde`, whose message ends with the line and column, as `serde_json`'s messages do; or
+    /// `OutOfMemory`.
     pub error: JsonPathError,
 }
 

@@ -34,14 +34,14 @@ use std::fmt;
 pub struct MaskFault {
     /// The index, from 0, of the first of the path texts that has a syntax error; `None` if memory ran out.
     pub index: Option<usize>,
-    /// `Path`, with a message, for the first text that is no path; or `OutOfMemory`.
+    /// The error itself: `Path`, with a message, for the first text that is no path; or `OutOfMemory`.
     pub fault: JsonPathError,
     /// The document that was to be changed, as it was before the call.
     pub value: Value,
 }
 
-/// Prints the word `path`, the index of the wrong text in the list of path texts, a colon and the error's text; if the
-/// error has no index, the error's text alone.
+/// Prints the word `path`, the index (from 0) of the wrong text in the list of path texts, a colon and the error's
+/// text; if the error has no index, the error's text alone.
 impl fmt::Display for MaskFault {
     ghost output = { λ fault. Some (paths_fault_text fault.index fault.fault) };
 

@@ -97,7 +97,7 @@ impl Location {
     }
 }
 
-/// A clone of a location has the same steps. The only error is out of memory.
+/// Clones a location: the clone has the same steps. `clone` returns a `Result`; its only error is out of memory.
 impl Clone for Location {
     ghost is_clone = { λ location copy. copy ≡ location };
 
@@ -110,7 +110,8 @@ impl Clone for Location {
     }
 }
 
-/// A clone of a step is equal to it. Cloning a name allocates memory; the only error is out of memory.
+/// Clones a step of a location: the clone is equal to it. `clone` returns a `Result`; its only error is out of memory,
+/// when the step is a name.
 impl Clone for LocStep {
     ghost is_clone = { λ step copy. owned_step copy ≡ owned_step step };
 

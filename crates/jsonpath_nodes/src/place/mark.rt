@@ -77,11 +77,13 @@ pub trait Mark<'a>: Drop + Sized {
     fn add_flattened(&self, alloc: Global, out: &mut Vec<Self>) -> Result<(), NoMemory>
         ensures { OnOk result (MarksGain located stand content flat (stand self.now) (content self.now) out.old.items out.new.items) };
 
-    /// For a filter after `..` that has a relative query with at least one segment, such as `@.a`, appends to `out` the
-    /// values that it tests when it is applied to this node: the node's descendants that are not arrays, each once. The
-    /// order is that of `..*`, with each array replaced by its items (nested arrays flattened); a value comes where it
-    /// is found first. For proofs, the postconditions also say that in each object at or below this node the member
-    /// names are in ascending order, as in every `Value`.
+    /// Appends to `out` the values that a filter after `..` tests when it is applied to this node, if the filter has a
+    /// relative query with at least one segment, such as `@.a`. These are the node's descendants that are not arrays,
+    /// each once. Their order is that of `..*`, with each array replaced by its items (and these again, if they are
+    /// arrays); of a value found twice, the first occurrence counts.
+    ///
+    /// For proofs, the postconditions also say that in each object at or below this node the member names are in
+    /// ascending order, as in every `Value`.
     fn add_candidates_below(&self, alloc: Global, out: &mut Vec<Self>) -> Result<(), NoMemory>
         ensures gains { OnOk result (MarksGain located stand content candidates_below (stand self.now) (content self.now) out.old.items out.new.items) }
         ensures document { OnOk result (IsOrderedDocument (content self.now)) };

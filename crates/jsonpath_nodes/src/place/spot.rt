@@ -209,8 +209,8 @@ impl<'a> Spot<'a> {
     }
 }
 
-/// A clone of a node has the same value and shares its location. Cloning fails only if the reference count of this
-/// location would overflow.
+/// Clones a node: the clone has the same value and shares the steps of its location. `clone` returns a `Result`; it
+/// fails only if the reference count of these steps would overflow.
 impl<'a> Clone for Spot<'a> {
     ghost is_clone = { λ spot copy. sight_of copy ≡ sight_of spot };
 

@@ -196,10 +196,10 @@ impl ValueWalker {
         Ok(found)
     }
 
-    /// The values that a filter tests when it is applied to the given nodes, if it has a relative query with at least
-    /// one segment, such as `@.a`: each of the nodes that is no array, and for each that is an array, the non-array
-    /// values left after flattening it and the arrays nested in it. Each location is returned once, at its first
-    /// occurrence. Named as in the Rust crate `jsonpath_lib`.
+    /// The values that a filter tests when it is applied to the given nodes, if the filter has a relative query with at
+    /// least one segment, such as `@.a`. A node that is no array is tested itself. In place of an array its items are
+    /// tested, and in place of an item that is an array again its items, until no array is left. Each location is
+    /// returned once, at its first occurrence. Named as in the Rust crate `jsonpath_lib`.
     ///
     /// ```text
     /// let candidates = ValueWalker::walk_dedup_all(alloc, &root)?;
@@ -215,9 +215,10 @@ impl ValueWalker {
         candidates::first_of_each_location(alloc, found)
     }
 
-    /// The values that a filter after `..` tests when it is applied to the nodes, if it has a relative query with at
-    /// least one segment, such as `@.a`: of the descendants of the nodes, those that are not arrays. They are found by
-    /// flattening the arrays in the list that `..*` selects; each location is returned once, at its first occurrence.
+    /// The values that a filter after `..` tests when it is applied to the nodes, if the filter has a relative query
+    /// with at least one segment, such as `@.a`. These are the descendants of the nodes that are not arrays. Their
+    /// order is that of `..*`, with each array replaced by its items (and these again, if they are arrays). Each
+    /// location is returned once, at its first occurrence.
     ///
     /// ```text
     /// let candidates = ValueWalker::candidates_below(alloc, &root)?;

@@ -52,9 +52,9 @@ impl fmt::Display for LocStep {
     }
 }
 
-/// Prints the location as a normalized path, which selects just the node at that location: `$['store']['book'][0]`.
-/// Single quotes and backslashes in a name are escaped by a backslash. The text doesn't compile if the location has an
-/// index of 2^63 or more, which no path can have.
+/// Prints the location as a normalized path, such as `$['store']['book'][0]`. Single quotes and backslashes in a name
+/// are escaped by a backslash. This text is a path that selects just the node at that location. But if the location has
+/// an index of 2^63 or more, the text is no path, since no path can have such an index.
 impl fmt::Display for Location {
     ghost output = { λ location. Some (location_text location) };
 
