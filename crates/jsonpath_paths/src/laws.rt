@@ -65,8 +65,8 @@ pub fn one_tree_per_token_list()
     ensures { (p q : Path) → IsPath p → IsPath q → path_tokens p ≡ path_tokens q → p ≡ q }
 {}
 
-/// Lemma: a text parses to a syntax tree exactly if `tree_of_text`, a function for proofs, computes this tree from it.
-/// So a proof can show just by evaluating it which tree a constant text such as `$.a` has.
+/// Lemma: a text parses to a syntax tree exactly if `tree_of_text`, a function for proofs, computes this tree from the
+/// text. So a proof can show which tree a constant text such as `$.a` has, just by evaluating the function.
 ///
 /// ```text
 /// laws::spelled_tree();
@@ -76,8 +76,9 @@ pub fn spelled_tree()
     ensures only { (text : List ℕ) (p : Path) → Spells text p → tree_of_text text ≡ Some p }
 {}
 
-/// Lemma: a text has a syntax error at a position exactly if `place_of_text`, a function for proofs, computes it, so at
-/// one position at most. So a proof can show just by evaluating it where a constant text has its error.
+/// Lemma: a text has its syntax error at a position exactly if `place_of_text`, a function for proofs, computes this
+/// position from the text. So a text has one such position at most, and a proof can show where a constant text has its
+/// error, just by evaluating the function.
 ///
 /// ```text
 /// laws::error_position();

@@ -5,9 +5,9 @@ use serde::Deserialize;
 use std::alloc::{AllocError, Global};
 use std::fmt;
 
-/// A test of the program `jsonpath_run`: the arguments and the standard input of a run, and the exit status, the output
-/// and the error text that it must have (empty for a run that succeeds). If `error` is `None`, any error text whose
-/// first line is `serde error: ` is accepted.
+/// A test case of the program `jsonpath_run`: the command-line arguments and the standard input with which it is run,
+/// and the exit status, the standard output and the error text that this run must have. The error text is empty for a
+/// run that must succeed. If `error` is `None`, any error text whose first line is `serde error: ` is accepted.
 #[derive(Drop, Deserialize)]
 pub struct Row {
     pub words: Vec<String>,
@@ -36,7 +36,7 @@ pub struct Outcome {
 }
 
 impl Outcome {
-    /// Whether this run has the exit status, the output and the error text that the test row expects.
+    /// Whether this run has the exit status, the output and the error text that the test case `row` expects.
     pub fn is_of(&self, row: &Row) -> bool {
         let is_error = match &row.error {
             Some(error) => self.error.as_str() == error.as_str(),
@@ -55,8 +55,9 @@ impl fmt::Display for Outcome {
     }
 }
 
-/// Calls the function `run` of `jsonpath_run` with the arguments and the input of a test row, and returns what it wrote
-/// and its status, also if the run fails. The only error is that memory ran out here.
+/// Runs a test case of the program `jsonpath_run`: calls the function `run` of that crate with the arguments and the
+/// input of `row`, and returns what it wrote and its exit status, also if it returns an error. The only error of this
+/// call is that memory ran out here.
 pub fn outcome_of(alloc: Global, row: &Row) -> Result<Outcome, AllocError> {
     let words = row
         .words

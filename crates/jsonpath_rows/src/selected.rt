@@ -8,24 +8,26 @@ use jsonpath_select::{
 use serde_json::Value;
 use std::alloc::Global;
 
-/// A way to select by a path in a document: by an object such as a `Selector`, or by the path's token list (its syntax
-/// tree written out as a list). All have to give the same answer.
+/// One of the ways in which a test selects by a path in a document: by an object such as a `Selector`, or by the path's
+/// token list (its syntax tree written out as a list). All of them have to give the same answer.
 #[derive(Clone, Copy)]
 pub enum Method {
-    /// To select values by a `JsonSelector`.
+    /// The test selects values by a `JsonSelector`, an object with a path and a document.
     JsonSelector,
-    /// To select values by a `Selector`.
+    /// The test selects values by a `Selector`, an object with a path and a document.
     Selector,
-    /// To select nodes (values with their locations) by a `Selector`.
+    /// The test selects nodes (values with their locations) by a `Selector`, an object with a path and a document.
     SelectorSpots,
-    /// To select by `tokens_fit` and `select_tokens` on the path's token list.
+    /// The test passes the path's token list, which is its syntax tree written out as a list, first to `tokens_fit`,
+    /// which checks it, and then to `select_tokens`, which selects by it.
     TokenList,
-    /// To select nodes by a `Selector`; `select_path_in_any_order` has to select the same set.
+    /// The test selects nodes by a `Selector`, and also by the function `select_path_in_any_order`, which has to select
+    /// the same set of locations.
     Set,
 }
 
 impl Method {
-    /// The name of this way to select, such as `Selector`, for an error message.
+    /// The name, for an error message, of this way in which a test selects, such as `Selector`.
     pub fn name(self) -> &'static str {
         match self {
             Method::JsonSelector => "JsonSelector",
@@ -37,8 +39,9 @@ impl Method {
     }
 }
 
-/// Whether selecting in the way `way` gives the output or the error that a test row expects. `None` if the row is not
-/// about the command `select` with one path. The only error is `OutOfMemory`.
+/// Runs a test case in the way that `way` says, and returns whether the selected values or the error are those that the
+/// test case `row` expects. `None` if the test case is not about the command `select` with one path. The only error is
+/// `OutOfMemory`.
 pub fn is_selected(alloc: Global, row: &Row, way: Method) -> Result<Option<bool>, JsonPathError> {
     let [command, path] = row.words.as_slice() else {
         return Ok(None);

@@ -29,9 +29,9 @@ pub enum JsonPathError {
     /// A path is set in the selector (a `Selector`, say), but no value. Printed as `json value not set`.
     EmptyValue,
     /// A text is no path. The message is `Eof` if the text ends too early or its last token or character is wrong, else
-    /// `Position:` and the byte position after the wrong token or character. An error of `Parser` has as message the
-    /// path text and a line of `^`, one for each byte up to that position or, in place of `Eof`, for each byte.
-    /// Printed as `path error: `, a line end, the message and a line end.
+    /// `Position:` and the byte position after the wrong token or character. Only an error of `Parser` has another
+    /// message: the path text and a line of `^`, one for each byte up to that position, or for each byte of the text
+    /// where others have `Eof`. Printed as `path error: `, a line end, the message and a line end.
     Path(String),
     /// A text is no JSON, a value can't be deserialized to the wanted type, or a number to be printed or deserialized
     /// is neither an `i64` nor a `u64`. Printed as `serde error: `, a line end, the message and a line end.
@@ -71,9 +71,10 @@ impl fmt::Debug for JsonPathError {
 impl Error for JsonPathError {}
 
 impl JsonPathError {
-    /// The byte position just after the wrong token or character of a syntax error; `None` for any other error. It is
-    /// `None`, too, if that token or character is the text's last or the text ends too early, unless the error comes
-    /// from `Parser`, whose message has a row of `^`: for such an error the result is the text's length.
+    /// The byte position just after the wrong token or character of a syntax error; `None` for any other error. If that
+    /// token or character is the text's last, or the text ends too early, this position is the text's length. It is
+    /// returned then only for an error of `Parser`, whose message shows it by a row of `^`; for every other syntax
+    /// error with that reason, the result is `None`.
     ///
     /// ```text
     /// match compile_path(alloc, "$.a[b]") {
@@ -90,10 +91,10 @@ impl JsonPathError {
         }
     }
 
-    /// Shows a syntax error in `path`, the text that was compiled. Returns it, a line end, and a `^` for each of its
-    /// bytes up to the end of the wrong token, or for all its bytes if it ends too early; an error of `Parser` already
-    /// has this as its message. `None` if this error is no syntax error. The call itself fails only if memory runs
-    /// out.
+    /// Shows where a syntax error is in `path`, the text that was compiled. Returns this text, a line end, and a `^`
+    /// for each byte of the text up to the end of the wrong token, or for all its bytes if the text ends too early. An
+    /// error of `Parser` has all this as its message already. Returns `None` if this error is no syntax error. The call
+    /// itself fails only if memory runs out.
     ///
     /// ```text
     /// let refused = compile_path(alloc, "$.a[b]")

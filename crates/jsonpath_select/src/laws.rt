@@ -92,8 +92,8 @@ pub fn dotted_names_select_one_location()
     longest_front();
 }
 
-/// Lemma: if a path text selects just one given location in a document, it selects just the value there; if the
-/// document doesn't have this location and the text selects no location, it selects no value.
+/// Lemma: if a path text selects one given location alone in a document, the only value that it selects is the value
+/// there. If the document doesn't have this location, and the text selects no location, it selects no value.
 ///
 /// ```text
 /// laws::one_location_answers_one_value();

@@ -18,8 +18,8 @@ use jsonpath_lib::{
 use serde_json::Value;
 use std::alloc::Global;
 
-/// Selects by `$.price`: a list of the value of the member `price` if `json` is an object that has one, else an empty
-/// list. The only error is `OutOfMemory`.
+/// Selects by `$.price`. If `json` is an object with a member `price`, returns a list with the value of this member
+/// alone, else an empty list. The only error is `OutOfMemory`.
 pub fn price<'a>(alloc: Global, json: &'a Value) -> Result<Vec<&'a Value>, JsonPathError>
     ensures { IfOk result (λ found. map (λ v. document_of (view v.now)) found.items
         ≡ option_to_list (get (codes "price") (document_of (view json.now)))) }
@@ -29,9 +29,9 @@ pub fn price<'a>(alloc: Global, json: &'a Value) -> Result<Vec<&'a Value>, JsonP
     select(alloc, json, "$.price")
 }
 
-/// A list of the value at the location, or an empty list if `json` has no such location. The only error is
-/// `OutOfMemory`. Compiles the location's text as a path; a path has no index from 2^63 on, so no index of the location
-/// may be that large.
+/// Returns a list with the value at the location alone, or an empty list if `json` has no such location. The location's
+/// text is compiled as a path for this. A path can have no index of 2^63 or more, so the location must have none
+/// either. The only error is `OutOfMemory`.
 pub fn value_at<'a>(
     alloc: Global,
     json: &'a Value,

@@ -181,28 +181,32 @@ pub fn try_replace_in<E, F: FnMut(&Value) -> Result<Option<Value>, E>>(
     path.try_replace_in(alloc, value, fun)
 }
 
-/// The text of a compiled path. The contracts (proved specifications) of its methods refer to this text as `spelling`.
+/// Returns the text from which a path was compiled. In the contracts (proved specifications) of a compiled path's
+/// methods, this text has the name `spelling`.
 pub fn spelling_of<P: AnyPath>(path: &P) -> &str
     ensures { result.now ≡ P.spelling path.now }
 {
     path.parts().text
 }
 
-/// The text of a `Node`, a compiled path that owns its text. Contracts refer to this text as `spelling`.
+/// Returns the text from which a `Node`, a compiled path that owns its text, was compiled. In contracts (proved
+/// specifications) this text has the name `spelling`.
 pub fn spelling_of_node(path: &Node) -> &str
     ensures { result.now ≡ path.now }
 {
     spelling_of(path)
 }
 
-/// The text of a compiled path behind an `Rc`. Contracts (proved specifications) refer to this text as `spelling`.
+/// Returns the text from which a path was compiled, for a compiled path behind an `Rc`. In contracts (proved
+/// specifications) this text has the name `spelling`.
 pub fn spelling_of_shared<P: AnyPath>(path: &Rc<P>) -> &str
     ensures { result.now ≡ P.spelling path.now.value }
 {
     spelling_of(path)
 }
 
-/// The text from which a kept path, a `Compiled` or a `PathCompiled`, was compiled. Contracts refer to it as `spelling`.
+/// Returns the text from which a `KeptPath`, a compiled path such as a `Compiled` or a `PathCompiled`, was compiled. In
+/// contracts (proved specifications) this text has the name `spelling`.
 pub fn spelling_of_kept<P: AnyPath>(path: &KeptPath<P>) -> &str
     ensures { result.now ≡ path.now }
 {

@@ -45,8 +45,8 @@ pub enum Expected {
 /// ```
 #[derive(Debug, PartialEq, Eq, Drop)]
 pub struct ExpectedTokens {
-    /// The tokens that a path could go on with, each once: a word last, those before it by kind in a fixed order. Empty
-    /// if the path could only have ended there.
+    /// The tokens that a path could go on with: first kinds of token such as `[`, in a fixed order, each at most once;
+    /// last a word (an unquoted name or number), if one could come. Empty if the path could only have ended there.
     pub tokens: Vec<Expected>,
     /// Whether the path could have ended where the error is, that is, whether the text before it is itself a path.
     pub end: bool,

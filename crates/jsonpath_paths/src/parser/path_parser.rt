@@ -112,9 +112,10 @@ impl<'a> PathParser<'a> {
         }
     }
 
-    /// Passes the tokens of this path's syntax tree to `handler`, in order, each with a function that returns the part
-    /// of the path text at a span. Always returns `Ok`, even if the handler has failed. Nothing is parsed: the name is
-    /// that of the Rust crate `jsonpath_lib`.
+    /// Passes this path's token list, which is its syntax tree written out as a list, to `handler`, token by token.
+    /// With each token it passes a function that returns the part of the path text at a span. Always returns `Ok`, also
+    /// if the handler could not receive some token; the handler's `failed` then returns true. The call parses nothing:
+    /// its name is that of the Rust crate `jsonpath_lib`.
     ///
     /// ```text
     /// let path = PathParser::compile(alloc, "$..a")?;
@@ -206,8 +207,8 @@ impl<'a> PathParser<'a> {
 
 impl<'a> ParserNodeVisitor for PathParser<'a> {}
 
-/// A copy of a compiled path has the same text, syntax tree and token list (the tree written out as a list). The only
-/// error is `OutOfMemory`.
+/// Clones a compiled path: the clone has the same text, syntax tree and token list (the tree written out as a list).
+/// `clone` returns a `Result`; its only error is out of memory.
 impl<'a> Clone for PathParser<'a> {
     ghost is_clone = { λ parser copy. copy ≡ parser };
 

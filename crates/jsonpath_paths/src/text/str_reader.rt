@@ -244,7 +244,8 @@ impl<'a> StrReader<'a> {
     }
 }
 
-/// A copy of a reader has the same text and the same position in it. Copying allocates no memory.
+/// Clones a reader: the clone has the same text and the same position in it. `clone` allocates no memory and always
+/// returns `Ok`.
 impl<'a> Clone for StrReader<'a> {
     ghost use Rattle.std.specs.Prelude.{⊤};
 

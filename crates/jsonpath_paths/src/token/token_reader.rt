@@ -54,9 +54,9 @@ impl<'a> TokenReader<'a> {
         }
     }
 
-    /// Returns the next token without taking it; `next_token` then returns the same. If no token begins at the reader's
-    /// position, returns the error of `next_token`; the reader's `to_error` then reports the position at which no token
-    /// begins.
+    /// Returns the next token without taking it: `next_token` then returns the same token. If no token begins at the
+    /// reader's position, returns the error that `next_token` returns there; the reader's `to_error` then reports this
+    /// position.
     ///
     /// ```text
     /// let mut reader = TokenReader::new("==1");
@@ -131,7 +131,8 @@ impl<'a> TokenReader<'a> {
     }
 }
 
-/// A copy of a reader has the same text and the same position in it. Copying allocates no memory.
+/// Clones a reader: the clone has the same text and the same position in it. `clone` allocates no memory and always
+/// returns `Ok`.
 impl<'a> Clone for TokenReader<'a> {
     ghost use Rattle.std.specs.Prelude.{⊤};
 

@@ -384,7 +384,8 @@ impl<'a> Tokenizer<'a> {
     }
 }
 
-/// A copy of a tokenizer has the same text and the same position in it. Copying allocates no memory.
+/// Clones a tokenizer: the clone has the same text and the same position in it. `clone` allocates no memory and always
+/// returns `Ok`.
 impl<'a> Clone for Tokenizer<'a> {
     ghost use Rattle.std.specs.Prelude.{⊤};
 

@@ -26,9 +26,9 @@ use std::fmt;
 pub enum TokenError {
     /// The path text ends too early, or its last token or character is the wrong one.
     Eof,
-    /// A byte position in the text: from `Tokenizer` and from `next_token` and `peek_token` of `TokenReader`, where the
-    /// wrong character begins; from `PathParser`, where the wrong token or character ends; from `to_error` of
-    /// `TokenReader`, how far the text was read or peeked.
+    /// A syntax error at this byte position of the text. From `PathParser`, the wrong token or character ends there.
+    /// From `Tokenizer`, and from `next_token` and `peek_token` of `TokenReader`, the wrong character begins there.
+    /// From `to_error` of `TokenReader`, the text was read or peeked up to there.
     Position(usize),
     /// Memory ran out.
     OutOfMemory,
@@ -365,14 +365,14 @@ impl FilterToken {
 /// ```
 #[derive(Debug, PartialEq, Eq, Drop)]
 pub enum ParseToken {
-    /// Begins a path from the document's root, `$`.
+    /// The token that begins a path from the document's root, `$`.
     Absolute,
-    /// Begins a path from the value that a filter tests, `@`.
+    /// The token that begins a path from the value that a filter tests, `@`.
     Relative,
-    /// Begins a step after a single dot: the step selects among the children of each node.
+    /// The token that begins a step after a single dot: the step selects among the children of each node.
     In,
-    /// Begins a step after `..`: it selects among the children of each node that the steps before it have selected, and
-    /// among the children of all descendants of these nodes.
+    /// The token that begins a step after `..`: the step selects among the children of each node that the steps before
+    /// it have selected, and among the children of all descendants of these nodes.
     Leaves,
     /// `*`: the step selects all children.
     All,
@@ -384,7 +384,7 @@ pub enum ParseToken {
     Array,
     /// The `]` that ends a step.
     ArrayEof,
-    /// A comparison or a connective of a filter, which follows the tokens of its two sides.
+    /// A comparison or a connective of a filter. In the token list it comes after the tokens of its two sides.
     Filter(FilterToken),
     /// A slice that a step selects: its start, end and step, each of which may be missing.
     Range(Option<i64>, Option<i64>, Option<u64>),

@@ -7,8 +7,8 @@ use crate::token::tokens::ParseToken;
 use crate::tree::parser_node::{Condition, Inner, ParserNode, ParserStep, Term, node_of_steps};
 use std::alloc::{AllocError, Global};
 
-/// A copy of a token is equal to it. Copying a token that has a list, of names or of indexes, allocates memory; the
-/// only error is `OutOfMemory`.
+/// Clones a token: the clone is equal to it. `clone` returns a `Result`; its only error is out of memory, when the
+/// token has a list of names or of indexes.
 impl Clone for ParseToken {
     ghost is_clone = { λ token copy. copy ≡ token };
 
@@ -33,7 +33,7 @@ impl Clone for ParseToken {
     }
 }
 
-/// A copy of a syntax tree is the same tree. The only error is `OutOfMemory`.
+/// Clones a syntax tree: the clone is the same tree. `clone` returns a `Result`; its only error is out of memory.
 impl Clone for ParserNode {
     ghost is_clone = { λ node copy. path_of copy ≡ path_of node };
 

@@ -53,8 +53,9 @@ pub struct ParserStep {
 pub enum Inner {
     /// A step other than a filter: one token for its names, its indexes, its slice, or all children.
     Token(ParseToken),
-    /// A filter: of the values that it tests, the step selects those that meet this condition. It tests the values
-    /// found before it; but if an `@` of the condition has a step, as in `@.a`, not an array itself but its items.
+    /// A filter: of the values that it tests, the step selects those that meet this condition. The tested values are
+    /// those that the steps before it have selected. But if a path of the condition that begins with `@` has a step, as
+    /// in `@.a`, the items of an array are tested instead of the array.
     Filter(Condition),
 }
 

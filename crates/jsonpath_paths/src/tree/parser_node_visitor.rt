@@ -13,8 +13,8 @@ use crate::tree::parser_node::{Condition, Inner, ParserNode, ParserStep, Term};
 use crate::tree::parser_token_handler::ParserTokenHandler;
 use crate::tree::token_list::root_token;
 
-/// A walk over a syntax tree that passes the tree's token list (the tree written out as a list of `ParseToken`s), token
-/// by token, to a receiver.
+/// A walk over a syntax tree. It passes the tree's token list (the tree written out as a list of `ParseToken`s), token
+/// by token, to a `ParserTokenHandler`.
 ///
 /// ```text
 /// struct Walker;
@@ -22,9 +22,10 @@ use crate::tree::token_list::root_token;
 /// impl ParserNodeVisitor for Walker {}
 /// ```
 pub trait ParserNodeVisitor {
-    /// Passes the token list of the syntax tree `node` to `handler`, in order, even after `handler` has failed. With
-    /// each token it passes `reader`, which turns a span of the path text into a `V`, mostly a `&str`. What `reader`
-    /// returns for a span has to satisfy the handler's `takes`, a predicate that only proofs use.
+    /// Passes the token list of the syntax tree `node` (the tree written out as a list) to `handler`, token by token,
+    /// also if the handler could not receive an earlier token. With each token it passes `reader`, a function that
+    /// turns a span of the path text into a `V`, mostly a `&str`. Precondition: whatever `reader` returns for a span
+    /// satisfies the handler's `takes`, a predicate that only proofs use.
     fn visit<V, H: ParserTokenHandler<V>, R: Fn(&StrRange) -> V>(
         &self,
         node: &ParserNode,

@@ -39,17 +39,18 @@ pub trait ParserTokenHandler<V> {
     /// For proofs: the tokens that this receiver has received, in their order.
     ghost tokens: { Self → List ParseToken };
 
-    /// For proofs: whether this receiver has failed. Once it has, its `tokens` (for proofs, the tokens that it has
-    /// received) mean nothing.
+    /// For proofs: whether this receiver of tokens has failed to receive some token. Once it has, the list `tokens` of
+    /// what it has received means nothing.
     ghost has_failed: { Self → Bool };
 
-    /// For proofs: the values that this receiver allows `reader`, the function that it is given with each token, to
-    /// return for a span of the path text; by default, any.
+    /// For proofs: the values that this receiver of tokens allows for a span of the path text. The function `reader`,
+    /// which is passed to it with each token, must return only such values for that span. By default, all values are
+    /// allowed.
     ghost takes: { Self → StrRange → V → Type 0 } = { λ _ _ _. Unit {0} };
 
     /// Receives the next token of a path, or fails, for example when memory runs out; `failed` then returns true. It
-    /// may call `reader` on the spans of the token; the caller has to ensure for each span of the token that the
-    /// receiver's predicate `takes`, which proofs alone use, holds for the span and what `reader` returns for it.
+    /// may call `reader` on each span of the token, to get the part of the path text there. Precondition: what `reader`
+    /// returns for such a span satisfies the receiver's `takes`, a predicate that only proofs use.
     fn handle<R: Fn(&StrRange) -> V>(&mut self, token: &ParseToken, reader: &R)
         requires may { MayRead (R.pre reader.now) token.now }
         requires reads { (s : Bor StrRange) (v : V) → R.post reader.now s v → takes self.old s.now v }
@@ -57,7 +58,7 @@ pub trait ParserTokenHandler<V> {
         ensures given { has_failed self.new ≡ false → tokens self.new ≡ tokens self.old ++ token.now ∷ [] }
         ensures still_takes { (s : StrRange) (v : V) → takes self.old s v → takes self.new s v };
 
-    /// Whether this receiver has failed to receive some token.
+    /// Whether this receiver of tokens has failed to receive some token, for example since memory ran out.
     fn failed(&self) -> bool
         ensures { result ≡ has_failed self.now };
 }

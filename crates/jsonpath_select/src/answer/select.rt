@@ -40,11 +40,13 @@ pub fn select_path<'a>(
     spots_by_parts(alloc, json, path.parts())
 }
 
-/// The nodes that the path with this token list (its syntax tree written out as a list) selects in the value, in the
-/// order in which its steps find them, with duplicates. They borrow only the value. The only error is `OutOfMemory`.
+/// The nodes that a path selects in the value. The path is given not by its text but by its token list (its syntax tree
+/// written out as a list). The nodes come in the order in which the path's steps find them, with duplicates, and borrow
+/// only the value. The only error is `OutOfMemory`.
 ///
-/// Precondition, which holds if `tokens_fit` returned true: the tokens are the token list of some path, however deeply
-/// nested, and the text has a name, quoted or not, at the span of each name in them. The text need not be a path.
+/// Precondition, which holds if `tokens_fit` returned true for the same text and tokens: `tokens` is the token list of
+/// some path, however deeply nested, and `text` has a name, quoted or not, at each span in `tokens`. Only these names
+/// are read from `text`, so it need not be a path.
 ///
 /// ```text
 /// let document = read_document(alloc, br#"{"a": 1}"#)?;

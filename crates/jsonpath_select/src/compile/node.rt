@@ -71,7 +71,8 @@ impl Node {
     }
 }
 
-/// A copy of a compiled path has the same text, syntax tree and token list. The only error is out of memory.
+/// Clones a compiled path: the clone has the same text, syntax tree and token list (the tree written out as a list).
+/// `clone` returns a `Result`; its only error is out of memory.
 impl Clone for Node {
     ghost is_clone = { λ node copy. copy ≡ node };
 

@@ -7,7 +7,7 @@ use crate::compile::node::Node;
 use jsonpath_paths::laws::one_tree_per_text;
 use jsonpath_paths::{Condition, Inner, ParseToken, ParserNode, ParserStep, Term};
 
-/// A receiver of the tokens of a compiled path, one after another.
+/// Receives the tokens of a compiled path, one after another.
 ///
 /// ```text
 /// impl NodeVisitor for Tokens {
@@ -50,7 +50,8 @@ pub trait NodeVisitor {
     /// For proofs: the tokens that this receiver has received, in their order.
     ghost tokens: { Self → List ParseToken };
 
-    /// For proofs: whether this receiver has failed. Once it has, its `tokens` mean nothing.
+    /// For proofs: whether this receiver of tokens has failed to receive some token. Once it has, the list `tokens` of
+    /// what it has received means nothing.
     ghost has_failed: { Self → Bool };
 
     /// Receives the next token of a compiled path, or fails, as when memory runs out; `failed` then returns true.
@@ -65,12 +66,12 @@ pub trait NodeVisitor {
         ensures tokens { tokens self.new ≡ tokens self.old }
     {}
 
-    /// Whether this receiver has failed to receive some token.
+    /// Whether this receiver of tokens has failed to receive some token, for example since memory ran out.
     fn failed(&self) -> bool
         ensures { result ≡ has_failed self.now };
 
-    /// Passes the token list of the compiled path `node`, its syntax tree written out as a list, to this receiver,
-    /// token by token, even after the receiver has failed.
+    /// Passes the token list of the compiled path `node` (its syntax tree written out as a list) to this receiver,
+    /// token by token, also if it has failed to receive an earlier token.
     final fn visit(&mut self, node: &Node)
         ensures stays_failed { has_failed self.old ≡ true → has_failed self.new ≡ true }
         ensures given { has_failed self.new ≡ false → (p : Path) → Spells node.now p → tokens self.new ≡ tokens self.old ++ path_tokens p }

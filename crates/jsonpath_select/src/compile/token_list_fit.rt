@@ -30,9 +30,9 @@ pub enum Entry {
     Logical,
 }
 
-/// Whether the tokens are some path's token list, that is, its syntax tree written out as a list (the path may nest
-/// deeper than the parser allows), and the part of the text at each of their spans is a name, quoted or not. The text
-/// need not be a path. The only error is `OutOfMemory`.
+/// Whether the text and the tokens can be passed to `select_tokens`. True exactly if `tokens` is the token list of some
+/// path (its syntax tree written out as a list), however deeply nested, and `text` has a name, quoted or not, at each
+/// span in `tokens`. The text need not be a path. The only error is `OutOfMemory`.
 ///
 /// ```text
 /// let tokens = [ParseToken::Absolute, ParseToken::In, ParseToken::Key(StrRange::new(2, 1))];

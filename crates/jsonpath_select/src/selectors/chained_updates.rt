@@ -39,8 +39,9 @@ impl<P: AnyPath> HeldPair<P, Value> {
         }
     }
 
-    /// Removes the selected values below the root; the other items of an array keep their order. Errors: `EmptyPath` if
-    /// there is no path, else `EmptyValue` if there is no document, else `OutOfMemory`; nothing has changed then.
+    /// Removes the selected values below the root from the selector's document; the other items of an array keep their
+    /// order. Errors: `EmptyPath` if there is no path, else `EmptyValue` if there is no document, else `OutOfMemory`;
+    /// nothing has changed then.
     ///
     /// ```text
     /// let mut held = SelectorMut::new();
@@ -61,8 +62,9 @@ impl<P: AnyPath> HeldPair<P, Value> {
         }
     }
 
-    /// Replaces each selected value by a copy of `new`, except the root and values inside another replaced value.
-    /// Errors: `EmptyPath` (no path), `EmptyValue` (a path, no document), else `OutOfMemory`; nothing has changed then.
+    /// Replaces each selected value of the selector's document by a copy of `new`, except the root and values inside
+    /// another replaced value. Errors: `EmptyPath` (no path), `EmptyValue` (a path, no document), else `OutOfMemory`;
+    /// nothing has changed then.
     ///
     /// ```text
     /// let mut held = SelectorMut::new();

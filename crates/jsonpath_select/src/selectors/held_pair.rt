@@ -175,7 +175,8 @@ impl<P: AnyPath, V: HeldValue> HeldPair<P, V> {
         path.count(alloc, value.lent())
     }
 
-    /// Whether the path selects a value. Errors: `EmptyPath` (no path), `EmptyValue` (a path, no value), `OutOfMemory`.
+    /// Whether the selector's path selects any value. Errors: `EmptyPath` (no path), `EmptyValue` (a path, no value to
+    /// search), `OutOfMemory`.
     ///
     /// ```text
     /// let mut held = SelectorMut::new();

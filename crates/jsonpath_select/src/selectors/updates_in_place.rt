@@ -13,9 +13,9 @@ use serde_json::Value;
 use std::alloc::Global;
 
 impl<P: AnyPath> HeldPair<P, Value> {
-    /// Replaces each selected value by null, except the root and values inside another replaced value, as `delete`
-    /// does. Errors: `EmptyPath` (no path), `EmptyValue` (a path, no document), `OutOfMemory`; nothing has changed
-    /// then.
+    /// Replaces each selected value of the selector's document by null, except the root and values inside another
+    /// replaced value, as `delete` does. Errors: `EmptyPath` (no path), `EmptyValue` (a path, no document),
+    /// `OutOfMemory`; nothing has changed then.
     ///
     /// ```text
     /// let mut held = SelectorMut::new();
@@ -34,8 +34,9 @@ impl<P: AnyPath> HeldPair<P, Value> {
         path.delete_in(alloc, value)
     }
 
-    /// Removes the selected values below the root, all at once, as `remove` does. Errors: `EmptyPath` if there is no
-    /// path, else `EmptyValue` if there is no document, else `OutOfMemory`; nothing has changed then.
+    /// Removes the selected values below the root from the selector's document, all at once, as `remove` does. Errors:
+    /// `EmptyPath` if there is no path, else `EmptyValue` if there is no document, else `OutOfMemory`; nothing has
+    /// changed then.
     ///
     /// ```text
     /// let mut held = SelectorMut::new();
@@ -54,9 +55,9 @@ impl<P: AnyPath> HeldPair<P, Value> {
         path.remove_in(alloc, value)
     }
 
-    /// Replaces each selected value by a copy of `new`, all at once, except the root and values inside another replaced
-    /// value, as `set` does. Errors: `EmptyPath` (no path), `EmptyValue` (a path, no document), `OutOfMemory`; nothing
-    /// has changed then.
+    /// Replaces each selected value of the selector's document by a copy of `new`, all at once, except the root and
+    /// values inside another replaced value, as `set` does. Errors: `EmptyPath` (no path), `EmptyValue` (a path, no
+    /// document), `OutOfMemory`; nothing has changed then.
     ///
     /// ```text
     /// let mut held = SelectorMut::new();
