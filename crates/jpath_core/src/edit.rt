@@ -21,8 +21,8 @@ use jsonpath_nodes::laws::spots_show_their_locations;
 use jsonpath_nodes::{Location, compute_paths};
 use std::alloc::Global;
 
-/// The result of an edit of a document: the edited text, how many values, members or items the edit is about, and
-/// whether its path selects the root.
+/// The result of an edit of a document: the edited text, how many values, members or items were to be changed, and
+/// whether the edit's path selects the root.
 #[derive(Drop)]
 pub struct Edited {
     /// The text of the edited document.
@@ -35,14 +35,15 @@ pub struct Edited {
     pub selects_root: bool,
 }
 
-/// The text of a document after `change` is made at each value that one path selects in the document as it was. The
-/// root is not changed, nor is a value inside another changed value. `text` is the text from which the document was
-/// read. To replace a value, its own text is replaced. To remove it, the whole member or item is removed: the blanks
-/// before it, its name and colon, and the comma after it (or before it, if nothing is left after it). If an object has
-/// the name several times, each of these members is removed. Every other byte of the text stays.
+/// The text of a document after `change` is made at each value that one path selects in the original document. The root
+/// is not changed, nor is a value inside another changed value. `text` is the text from which the document was read. To
+/// replace a value, its own text is replaced. To remove it, the whole member or item is removed: the blanks before it,
+/// its name and colon, and the comma after it (or before it, if nothing is left after it). If an object has the name of
+/// a removed member several times, each of these members is removed. Every other byte of the text stays.
 ///
 /// The edited text is read again before it is returned. Errors: `EditNests` if it nests too deep to be read, or if the
-/// new value is no JSON; `EditDiffers` if what is read is another document, a library fault; or `OutOfMemory`.
+/// new value is no JSON; `EditDiffers` if what is read is another document, which would be a fault of this library; or
+/// `OutOfMemory`.
 pub fn edit_text(
     alloc: Global,
     text: &str,

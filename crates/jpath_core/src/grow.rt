@@ -15,7 +15,7 @@ use jsonpath_nodes::Location;
 use std::alloc::Global;
 use std::slice;
 
-/// A member to be made: the location of the object around it, its name, and the JSON text of its value.
+/// A member to be added to an object: the location of the object, the member's name, and the JSON text of its value.
 #[derive(Clone, Copy, Drop)]
 pub struct NewMember<'m> {
     pub above: &'m Location,

@@ -24,8 +24,8 @@ pub fn order_of_numbers_decides()
     ensures { OrderOfNumbersDecides }
 {}
 
-/// Lemma: a text whose control characters are escaped, as in a printed location, has no control character, so neither
-/// a tab nor a line end. A text that has none from the start is printed as it is.
+/// Lemma: if the control characters of a text are escaped, as they are when a location is printed, the result has no
+/// control character, so neither a tab nor a line end. A text without control characters is printed as it is.
 pub fn escapes_hold()
     ensures { EscapesHold }
 {}

@@ -26,8 +26,9 @@ pub fn select_in_document<'v>(
     select_in_image(alloc, &document.image, &document.numbers, query)
 }
 
-/// The nodes that `query` selects with `image` as `$`, in the order of `select_in_document`. `image` is the copy of a
-/// document, or a value in it; `numbers` says how it represents the document's numbers. The only error: `OutOfMemory`.
+/// The nodes that `query` selects with `image` as `$`, in the order in which its steps find them, with duplicates.
+/// `image` is the copy of a document on which paths are run, or a value in it; `numbers` says how it represents the
+/// document's numbers. The only error: `OutOfMemory`.
 pub fn select_in_image<'v>(
     alloc: Global,
     image: &'v Value,

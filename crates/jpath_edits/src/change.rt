@@ -18,7 +18,8 @@ use std::alloc::Global;
 pub enum Change<'c> {
     /// Replaces each selected value by this JSON text.
     Put(&'c str),
-    /// Removes each selected member or item, with the blanks before it and one comma, after or before it.
+    /// Removes each selected member or item, together with the blanks before it and one comma: the one after it or, if
+    /// there is none, the one before it.
     Take,
 }
 

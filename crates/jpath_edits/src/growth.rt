@@ -41,7 +41,8 @@ pub enum Growth<'c, 'v> {
 pub struct Grown {
     /// The edited text.
     pub text: Vec<u8>,
-    /// How many members or items were added, or how many members were renamed, each member of a repeated name counted.
+    /// How many members or items were added, or how many members were renamed. If an object has the old name several
+    /// times, each of these members is counted.
     pub count: usize,
 }
 

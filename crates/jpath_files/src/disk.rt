@@ -17,8 +17,8 @@ pub enum Call<'a> {
     SetLen(u64),
     SyncFile,
     OpenFolder,
-    /// Removes whatever file is at the path chosen for the new file, be it the new file or another one. An error if
-    /// there is none.
+    /// Removes the file at the path that was chosen for the new file, which is to replace the edited file. This may
+    /// also be a file that another program has put there. An error if there is no file.
     Remove,
     /// Creates the new file beside the edited file and opens it; fails if a file already exists at its path. Its owner
     /// alone may read and write it.

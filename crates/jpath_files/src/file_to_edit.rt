@@ -33,10 +33,11 @@ pub struct FileToEdit<'r> {
     pub way: Way,
 }
 
-/// Opens a file to be edited in place, as `way` says, and locks it; for a symbolic link, the file that it leads to. If
-/// another edit has locked the file, waits until that is done, some ten seconds at most. Errors: `NotRegular`;
-/// `HardLinks` if it has several and `way` is `NewFile`; `Locked` if it is still locked after that time; `NoLock`; or
-/// `Failed` if it can't be opened or memory ran out.
+/// Opens a file to be edited in place, as `way` says, and locks it. If the path is a symbolic link, opens the file that
+/// it leads to. If another edit has locked the file, waits until that is done, some ten seconds at most. Errors:
+/// `NotRegular` if it is no regular file; `HardLinks` if it has several hard links and `way` is `NewFile`; `Locked` if
+/// it is still locked after that time; `NoLock` if it can't be locked; or `Failed` if it can't be opened or memory ran
+/// out.
 pub fn open_to_edit<'r>(
     rt: &'r HostRuntime,
     name: &str,

@@ -17,7 +17,7 @@ pub struct HeldOutput<W> {
 }
 
 impl<W: Output> HeldOutput<W> {
-    /// An empty output buffer; what is put into it later will be written to this writer.
+    /// Makes an output buffer, empty at first, whose bytes will be written to this writer.
     pub fn new(alloc: Global, writer: W) -> HeldOutput<W>
         ensures writer { result.writer ≡ writer }
         ensures nothing { result.bytes.items ≡ [] }
@@ -28,9 +28,9 @@ impl<W: Output> HeldOutput<W> {
         }
     }
 
-    /// Appends a text to the output buffer: all of it, or nothing if memory runs out. If the buffer is empty, the two
-    /// are swapped and no byte is copied; else `text` keeps its bytes. So the caller has to clear `text` before reusing
-    /// it.
+    /// Appends a text to the output buffer: all of it, or nothing if memory runs out. If the buffer is empty, the
+    /// contents of the buffer and of `text` are swapped, and no byte is copied; else `text` keeps its bytes. So the
+    /// caller has to clear `text` before reusing it.
     pub fn hold_text(&mut self, text: &mut Vec<u8>) -> Result<(), AllocError>
         ensures ok { OnOk result (W.written self.new.writer ++ self.new.bytes.items ≡ (W.written self.old.writer ++ self.old.bytes.items) ++ text.old.items) }
         ensures err { OnErr result (W.written self.new.writer ++ self.new.bytes.items ≡ W.written self.old.writer ++ self.old.bytes.items) }

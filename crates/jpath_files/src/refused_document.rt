@@ -47,8 +47,8 @@ impl Display for Reason {
     }
 }
 
-/// The error of a document of a file: the file's name, the line and column, and the reason. `Display` prints the line
-/// that reports it on standard error.
+/// The error of a document of a file: the file's name, the line and column, and the reason. `Display` prints it as the
+/// line that `jpath` writes to standard error.
 #[derive(Clone, Copy, Debug, Drop)]
 pub struct RefusedDocument<'n> {
     /// The name of the file that has the document.
@@ -68,9 +68,9 @@ impl Display for RefusedDocument<'_> {
 }
 
 impl<'n> RefusedDocument<'n> {
-    /// Makes the error of a document, or of wrong bytes in place of one; `bytes` is the document or the wrong bytes,
-    /// and begins at `place` in the file. The error's position is, for `NotADocument`, the first wrong byte, or the end
-    /// of `bytes` if they end within a document; in any other case, the first byte that is no blank.
+    /// Makes the error of a document of a file. `bytes` is the document, or wrong bytes in place of one, and begins at
+    /// `place` in the file. For `NotADocument`, the error's position is that of the first wrong byte, or the end of
+    /// `bytes` if they end within a document. For any other error, it is that of the first byte that is no blank.
     pub fn of_piece(
         name: &'n str,
         bytes: &[u8],

@@ -316,7 +316,7 @@ impl<'a> ArgumentWords<'a> {
     }
 }
 
-/// When output is coloured, as the argument of `--color` says.
+/// The argument of the option `--color`, which says when the output is coloured.
 #[derive(Clone, Copy, Debug, Drop, PartialEq, Eq)]
 pub enum Color {
     Auto,
@@ -362,7 +362,8 @@ pub struct Words<'a> {
     /// The texts of the options `-e`, in the order of the command line: paths, or with `--rows` also `NAME=PATH`.
     pub paths: Vec<&'a str>,
     pub rows: Option<&'a str>,
-    /// The options that set a name to be replaced in paths: first each `--arg`, then each `--argjson`.
+    /// The options that say by what a placeholder `{NAME}` in paths is replaced: first each `--arg`, then each
+    /// `--argjson`.
     pub arguments: Vec<ArgumentWords<'a>>,
     /// The edit options, each with the words after it, in the order of the command line.
     pub edits: Vec<EditWords<'a>>,

@@ -41,8 +41,8 @@ pub enum Task<'a> {
     Edits(Vec<Edit<'a>>),
 }
 
-/// The table that `jpath` writes: the path whose selected values are its rows, and the paths and names of its columns:
-/// two lists of equal length, both in the order of the options `-e`.
+/// The table that `jpath` writes. Each value that one path selects is a row. The columns have paths and names: these
+/// are two lists of equal length, both in the order of the options `-e`.
 #[derive(Drop)]
 pub struct Table<'a> {
     pub rows: Query<'a>,
@@ -72,8 +72,8 @@ pub struct Edit<'a> {
 #[derive(Drop)]
 pub struct Wanted<'a> {
     pub task: Task<'a>,
-    /// What the filters of all paths compare: whether they compare numbers, and with which number literals. Nothing
-    /// for edits, since each `Edit` has its own.
+    /// What the filters of all paths compare: whether they compare numbers, and with which number literals. It is empty
+    /// if there are edits, since each `Edit` has its own.
     pub compared: Compared,
     pub look: Look,
     pub files: Vec<&'a str>,

@@ -85,7 +85,7 @@ pub fn spots_show_their_locations()
     ensures { (doc : Document) (ls : List Location) (spots : List Spot) → StandAt doc ls spots → map location_of spots ≡ ls }
 {}
 
-/// Lemma: putting null at a list of locations puts it at each location that exists, is below the root, and has no
+/// Lemma: putting null at all locations of a list puts it at each of them that exists, is below the root, and has no
 /// ancestor in the list other than the root. Nothing else changes. Putting null at each location in turn does the same.
 ///
 /// ```text

@@ -34,7 +34,7 @@ pub trait Tree: Copy + Drop {
     type MembersLeft: Drop;
     /// The type of the numbers that comparisons use.
     type Number: Drop;
-    /// The error of a value that can't be compared.
+    /// The error that is returned for a value that can't be compared.
     type Error: Drop;
 
     ghost content: { Self → Document };

@@ -148,9 +148,9 @@ pub fn rooted_is_same_for_all_candidates()
     ensures kept { RootedKeepsAllOrNone }
 {}
 
-/// Lemma: whether some left value and some right value satisfy a comparison other than `!=` can be decided separately
-/// for each kind of value, without comparing all pairs: `<` and `<=` by the least left and the greatest right value,
-/// `>` and `>=` by the greatest left and the least right, `==` by a set of the right values.
+/// Lemma: to decide whether some left value and some right value satisfy a comparison other than `!=`, not all pairs
+/// have to be compared. For each kind of value, `<` and `<=` are decided by the least left and the greatest right
+/// value, `>` and `>=` by the greatest left and the least right value, and `==` by a set of the right values.
 ///
 /// ```text
 /// laws::extremes_and_sets_decide_pairs();
@@ -159,10 +159,10 @@ pub fn extremes_and_sets_decide_pairs()
     ensures { EndsDecidePairs }
 {}
 
-/// Lemma: the set of nodes that a path selects, and the locations at which a filter's condition holds, stay the same if
-/// duplicates are dropped after each step, also inside conditions, and if before a step with `..` the nodes that have
-/// an ancestor in the same list are dropped. Whether a condition holds depends on the location and the document alone,
-/// so it can be decided once for each location.
+/// Lemma: the set of nodes that a path selects stays the same if duplicates are dropped after each step, and if before
+/// a step with `..` the nodes that have an ancestor in the same list are dropped. If this is done in the paths of a
+/// filter's condition, too, the condition still holds at the same locations. Whether it holds depends on the location
+/// and the document alone, so it can be decided once for each location.
 ///
 /// ```text
 /// laws::dropping_repeats_keeps_the_set();

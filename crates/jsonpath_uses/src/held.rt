@@ -60,7 +60,7 @@ pub fn select_by_second_path<'a>(
 }
 
 /// Sets a path in a `Selector`, once, and returns the values that it selects in `one` and those in `other`, each in the
-/// path's order, with duplicates. Errors: `Path` if the text is no path, or `OutOfMemory`.
+/// order in which the path finds them, with duplicates. Errors: `Path` if the text is no path, or `OutOfMemory`.
 pub fn select_in_two_documents<'a>(
     alloc: Global,
     path: &str,

@@ -27,7 +27,8 @@ pub fn select<'v>(
     path.select(alloc, json)
 }
 
-/// The nodes (values with locations) that the path selects, in the path's order, with duplicates. Error: `OutOfMemory`.
+/// The nodes (values with locations) that the path selects, in the order in which it finds them, with duplicates.
+/// Error: `OutOfMemory`.
 pub fn select_spots<'v>(
     alloc: Global,
     json: &'v Value,
@@ -51,8 +52,8 @@ pub fn select_locations(
     path.select_locations(alloc, json)
 }
 
-/// The values that the path selects, in the path's order, with duplicates, as a JSON array's text. Errors:
-/// `OutOfMemory`, or `Serde` if one contains a number that is neither an `i64` nor a `u64`, such as 1.5.
+/// The values that the path selects, in the order in which it finds them, with duplicates, as a JSON array's text.
+/// Errors: `OutOfMemory`, or `Serde` if one contains a number that is neither an `i64` nor a `u64`, such as 1.5.
 pub fn select_as_str(
     alloc: Global,
     json: &Value,
@@ -64,8 +65,9 @@ pub fn select_as_str(
     path.select_as_str(alloc, json)
 }
 
-/// The values that the path selects, in the path's order, with duplicates, each made a `T`. Errors: `OutOfMemory`, or
-/// `Serde` if one can't be made a `T` or contains a number that is neither an `i64` nor a `u64`, such as 1.5.
+/// The values that the path selects, in the order in which it finds them, with duplicates, each made a `T`. Errors:
+/// `OutOfMemory`, or `Serde` if one can't be made a `T` or contains a number that is neither an `i64` nor a `u64`, such
+/// as 1.5.
 pub fn select_as<T: DeserializeOwned>(
     alloc: Global,
     json: &Value,
@@ -146,8 +148,9 @@ pub fn set_in(
     path.set_in(alloc, value, new)
 }
 
-/// Replaces the value at each location that the path selects below the root, parents first, by the closure's result, or
-/// removes it at `None`. The only error is `OutOfMemory`; then nothing has changed and the closure was not called.
+/// Replaces the value at each location that the path selects below the root, in document order (parents first), by the
+/// closure's result, or removes it at `None`. The only error is `OutOfMemory`; then nothing has changed and the closure
+/// was not called.
 pub fn replace_in<F: FnMut(Value) -> Option<Value>>(
     alloc: Global,
     value: &mut Value,
@@ -164,9 +167,10 @@ pub fn replace_in<F: FnMut(Value) -> Option<Value>>(
     path.replace_in(alloc, value, fun)
 }
 
-/// Replaces the value at each location that the path selects below the root, parents first, by the closure's result, or
-/// removes it at `None`. The closure's first error, as `Refused`, ends the updates; those before it remain. Another
-/// error, `Unasked`, is `OutOfMemory` alone; it comes before the closure is called, and nothing has changed.
+/// Replaces the value at each location that the path selects below the root, in document order (parents first), by the
+/// closure's result, or removes it at `None`. The closure's first error, as `Refused`, ends the updates; those before
+/// it remain. The only other error is `Unasked` with `OutOfMemory`: then the closure was not called, and nothing has
+/// changed.
 pub fn try_replace_in<E, F: FnMut(&Value) -> Result<Option<Value>, E>>(
     alloc: Global,
     value: &mut Value,

@@ -47,8 +47,8 @@ impl From<IoFailed> for Stop {
     }
 }
 
-/// Visits the documents of a file and writes the output for each. It has what the command line asks for, the file's
-/// name, the output so far, and whether a document had an error.
+/// A visitor of the documents of a file, which writes the output for each of them. It has what the command line asks
+/// for, the file's name, the output so far, and whether a document had an error.
 #[derive(Drop)]
 pub struct DocumentVisitor<'r, 'w, T, W> {
     pub rt: &'r T,

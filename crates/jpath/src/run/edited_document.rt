@@ -47,9 +47,11 @@ impl Kept {
 /// Makes all edits in a document, one after another, and appends the text of the edited document to `out`. The text
 /// keeps its layout. But if `look` asks for several lines, the document is printed anew in that layout, with a line
 /// end. Returns the sum of the edits' `Edited::targets`. If an edit would replace or remove the root, or if the new
-/// name of a renaming is in use already, a message is printed on standard error; this is no error. Errors:
-/// `NotADocument` if `text` is no JSON document, `HugeExponent`, `EditNests`, `EditDiffers` or `OutOfMemory`; `out` may
-/// then end with a part of the text.
+/// name of a renaming is in use already, a message is printed on standard error; this is no error.
+///
+/// Errors: `NotADocument` if `text` is no JSON document; `HugeExponent` if a number can't be compared; `EditNests` if
+/// an edited text nests too deep; `EditDiffers` if it is not the edited document, a fault of the program; or
+/// `OutOfMemory`. `out` may then end with a part of the text.
 pub fn add_edited_document(
     rt: &(impl Eprint + Alloc<A = Global>),
     edits: &[Edit<'_>],

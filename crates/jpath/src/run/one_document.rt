@@ -15,9 +15,11 @@ use std::str;
 
 /// Appends to `out` the output for one document, as the command line asks for it: lines, an array, a table, the edited
 /// text, or nothing for `--count` and `--quiet`. `name` is the file's name, `bytes` the document's text. Returns how
-/// many matches it has; for edits the sum of their `Edited::targets`. Errors: `NotADocument` if `bytes` is no JSON
-/// document, `HugeExponent`, `EditNests`, `EditDiffers` or `OutOfMemory`; `out` may then end with a part of the output,
-/// or have lost all its content.
+/// many matches it has; for edits the sum of their `Edited::targets`.
+///
+/// Errors: `NotADocument` if `bytes` is no JSON document; `HugeExponent` if a number can't be compared; `EditNests` if
+/// an edited text nests too deep; `EditDiffers` if it is not the edited document, a fault of the program; or
+/// `OutOfMemory`. `out` may then end with a part of the output, or have lost all its content.
 pub fn add_output_for_document(
     rt: &(impl Eprint + Alloc<A = Global>),
     wanted: &Wanted<'_>,

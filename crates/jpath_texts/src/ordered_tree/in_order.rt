@@ -54,8 +54,8 @@ fn are_named_trees_ordered(members: &Vec<(&str, Exact<'_>)>) -> bool
     true
 }
 
-/// The tree with the members of each object in the order of their names' bytes; if an object has a name several times,
-/// its last value alone is kept. The only error is out of memory.
+/// Sorts the members of each object in an exact tree, the tree of a JSON text with numbers as written, by their names'
+/// bytes. If an object has a name several times, only its last value is kept. The only error is out of memory.
 pub fn put_in_order<'a>(alloc: Global, value: Exact<'a>) -> Result<Exact<'a>, AllocError>
     ensures ordered { IfOk result (λ made. is_ordered (value_view made) ≡ true) }
     ensures tree { IfOk result (λ made. value_view made ≡ in_order (value_view value.entry)) }

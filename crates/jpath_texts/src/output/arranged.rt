@@ -31,8 +31,9 @@ pub(crate) fn rearranged<'t>(
     Ok(None)
 }
 
-/// Writes a JSON value to `writer`, each name of an object once, with its last value: where it occurs first or, if
-/// `is_sorted`, in the order of the names' bytes. The only error is that memory ran out; then nothing is written.
+/// Writes a JSON value to `writer`. If an object has a name several times, the name is written once, where it occurs
+/// first, with its last value. If `is_sorted`, the members of each object are written in the order of their names'
+/// bytes. The only error is that memory ran out; then nothing is written.
 pub fn write_arranged(
     alloc: Global,
     value: &Exact<'_>,

@@ -13,9 +13,9 @@ use json::Value as Exact;
 use std::alloc::{AllocError, Global};
 
 /// Appends an item of a JSON array to `out`, in colours or over several lines as `look` says, after a comma if
-/// `has_comma`. Each name of an object is written once, with its last value: where it occurs first or, if
-/// `look.is_sorted`, in the order of the names' bytes. The only error is that memory ran out; `out` may then end with a
-/// part of the item.
+/// `has_comma`. If an object in it has a name several times, the name is written once, where it occurs first, with its
+/// last value. If `look.is_sorted`, the members of each object are written in the order of their names' bytes. The only
+/// error is that memory ran out; `out` may then end with a part of the item.
 pub fn add_array_item(
     alloc: Global,
     out: &mut Vec<u8>,

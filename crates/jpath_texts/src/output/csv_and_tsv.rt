@@ -18,7 +18,7 @@ pub enum Separated {
 }
 
 /// Appends the header of a table to `out`: a row of CSV or TSV with these column names. The only error is that memory
-/// ran out; `out` then has what it had before, with or without a part of the row, or nothing.
+/// ran out; `out` may then end with a part of the row, or have lost all its content.
 pub fn add_header(
     alloc: Global,
     names: &[&str],
@@ -34,8 +34,8 @@ pub fn add_header(
     add_row(alloc, fields.as_slice(), separated, out)
 }
 
-/// Appends a row of CSV or TSV with these fields to `out`. The only error is out of memory; what `out` has is then
-/// unspecified: what it had before, with or without a part of the row, or nothing.
+/// Appends a row of CSV or TSV with these fields to `out`. The only error is that memory ran out; `out` may then end
+/// with a part of the row, or have lost all its content.
 pub fn add_row(
     alloc: Global,
     fields: &[Vec<u8>],

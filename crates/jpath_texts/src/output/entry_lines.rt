@@ -19,9 +19,9 @@ use std::alloc::{AllocError, Global};
 
 /// Appends a line to `out` for each member of a value, with its name, or for each item, with its index from 0; nothing
 /// for a value that is no object and no array. If `has_values` is set, a tab and the value of the member or item
-/// follow. A name that occurs several times in an object is written once, with its last value: where it occurs first
-/// or, if `line.look.is_sorted`, in the order of the names' bytes. The only error is that memory ran out; `out` may
-/// then end with a part of the lines.
+/// follow. If an object has a name several times, the name is written once, where it occurs first, with its last value.
+/// If `line.look.is_sorted`, members are written in the order of their names' bytes. The only error is that memory ran
+/// out; `out` may then end with a part of the lines.
 pub fn add_entry_lines(
     alloc: Global,
     value: &Exact<'_>,

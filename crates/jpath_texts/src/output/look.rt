@@ -6,11 +6,11 @@ ghost use Rattle.jpath_texts.specs.AtDepth.{is_compact, is_over_lines};
 /// Whether a JSON value is written on one line, or with its items and members on lines of their own.
 #[derive(Clone, Copy, Debug, Drop, PartialEq, Eq)]
 pub enum Layout {
-    /// On one line, without blanks.
+    /// The value is written on one line, without blanks.
     OneLine,
-    /// Over several lines, indented by this number of blanks for each level.
+    /// The value is written over several lines, indented by this number of blanks for each level.
     Blanks(usize),
-    /// Over several lines, indented by a tab for each level.
+    /// The value is written over several lines, indented by a tab for each level.
     Tabs,
 }
 

@@ -7,7 +7,8 @@ ghost use Rattle.jpath_texts.specs.Lines.{named, record_start, line_end};
 use crate::output::look::Look;
 use std::alloc::AllocError;
 
-/// What `jpath` prints for a value that a path selects: the value, its location, or both; the names in it; its length.
+/// What `jpath` prints for a value that a path selects: the value, its location, or both; its members' names or its
+/// items' indexes; or its length.
 #[derive(Clone, Copy, Debug, Drop, PartialEq, Eq)]
 pub enum Shown {
     /// Prints the selected value.
@@ -47,7 +48,7 @@ pub struct Line<'n> {
     pub shown: Shown,
     /// The name of a file to print at the front of the line, with a colon; `None` for no name.
     pub name: Option<&'n str>,
-    /// Whether the byte 30 (RS) comes first, as before each text of a JSON text sequence.
+    /// Whether the byte 30 (RS) is printed before the line, as before each text of a JSON text sequence.
     pub is_record: bool,
     /// What is printed after the line.
     pub end: LineEnd,

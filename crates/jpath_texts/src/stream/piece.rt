@@ -5,9 +5,11 @@ use json_recognizer::{Kind, LineColumn};
 /// The next piece of a stream of documents: a document, wrong bytes in place of one, or blanks at the stream's end.
 #[derive(Clone, Copy, Debug, Drop)]
 pub struct Piece<'p> {
-    /// All bytes of the piece, with the blanks before it. A malformed document ends with its first wrong byte, if any.
+    /// All bytes of a piece of a stream of documents, which is a document or wrong bytes in place of one, with the
+    /// blanks before it. A malformed document ends with its first wrong byte, if any.
     pub bytes: &'p [u8],
-    /// The line and column in the stream at which the bytes of the piece begin.
+    /// The line and column in the stream at which this piece of it, a document or wrong bytes with the blanks before,
+    /// begins.
     pub place: LineColumn,
     /// What the piece is: a document, wrong bytes in place of one, or blanks.
     pub kind: Kind,

@@ -53,15 +53,15 @@ pub trait Visitor {
 /// Why `visit_documents`, which calls a visitor for each document of a stream, has ended.
 #[derive(Clone, Copy, Debug, Drop, PartialEq, Eq)]
 pub enum How<S> {
-    /// The stream was read to its end, and each document was visited.
+    /// The visits ended because the stream was read to its end, and each document was visited.
     Whole,
-    /// The visitor wanted no more documents.
+    /// The visits ended because the visitor wanted no more documents.
     Enough,
-    /// The stream could not be read further; the field says why.
+    /// The visits ended because the stream could not be read further; the field says why.
     ReadFailed(ReadFailure),
-    /// The visitor returned this error.
+    /// The visits ended because the visitor returned this error.
     Stopped(S),
-    /// The loop over the stream was run more often than 64 bits can count.
+    /// The visits ended because the loop over the stream was run more often than 64 bits can count.
     Endless,
 }
 

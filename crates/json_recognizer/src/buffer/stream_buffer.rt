@@ -71,8 +71,8 @@ impl StreamBuffer {
         self.place
     }
 
-    /// For a current piece that is no document: whether the stream ends within the piece, so that it has no wrong byte
-    /// but is cut short.
+    /// If the stream's current piece is no document, but wrong bytes in place of one: whether the stream ends within
+    /// the piece, which is then cut short and has no wrong byte.
     pub fn is_cut_short(&self) -> bool
         ensures cut { result ≡ true → wrong_in self.now ≡ Found.GoesOn }
         ensures byte { result ≡ false → wrong_in self.now ≡ Found.Refused (self.now.seen - self.now.start) }
@@ -80,9 +80,9 @@ impl StreamBuffer {
         self.end <= self.seen
     }
 
-    /// For a current piece that is no document: the line and column in the stream of its first wrong byte. If the
-    /// stream ends within the piece, those of the piece's last byte or, if this byte is a line end, column 0 of the
-    /// next line.
+    /// If the stream's current piece is no document, but wrong bytes in place of one: the line and column in the stream
+    /// of the first wrong byte. If the stream ends within the piece, those of the piece's last byte or, if this byte is
+    /// a line end, column 0 of the next line.
     pub fn place_of_refusal(&self) -> LineColumn
         requires { IsSound self.now }
         ensures { (passed stream : List ℕ) → StandsBehind self.now passed → (wrong_in self.now ≡ Found.GoesOn → piece_of self.now ≡ stream) → ((more : List ℕ) × (stream ≡ left self.now ++ more)) → result ≡ place_of (wrong_in self.now) passed stream }

@@ -54,7 +54,8 @@ pub fn to_num(number: &Number) -> Option<Decimal>
 }
 
 impl<'a> Atom<'a> {
-    /// The atom of a value: its kind, with the content of a boolean, a text, or a number that is an `i64` or a `u64`.
+    /// Makes the `Atom` of a value, which is what comparisons use of it: its kind, with the content of a boolean, a
+    /// text, or a number that is an `i64` or a `u64`.
     ///
     /// ```text
     /// assert!(rt; matches!(Atom::of(&Value::Null), Atom::Null));

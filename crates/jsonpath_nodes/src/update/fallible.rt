@@ -13,8 +13,8 @@ use serde_json::Value;
 
 /// Updates the values at the locations one after another, in the list's order, each in the document that the earlier
 /// updates left. The closure gets a reference to the value there; `Some` replaces it, `None` removes the member or
-/// item. Its first error ends the updates and is returned: the updates before it remain, and the value for which it was
-/// returned is unchanged. The closure is not called at the root, nor at a location that doesn't exist.
+/// item. The closure's first error ends the updates and is returned: the updates before it remain, and the value for
+/// which it was returned is unchanged. The closure is not called at the root, nor at a location that doesn't exist.
 ///
 /// ```text
 /// let mut document = Value::from_str(alloc, "[1, [2, 3]]")?;

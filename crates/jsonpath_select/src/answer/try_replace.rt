@@ -31,7 +31,7 @@ pub enum TryFault<E> {
     Refused(E),
 }
 
-/// Prints the error that it contains, the library's or the closure's.
+/// Prints the error that an update by a closure has returned, be it the library's error or the closure's.
 impl<E: fmt::Display> fmt::Display for TryFault<E> {
     ghost output = { try_fault_text E.output };
 
@@ -53,7 +53,8 @@ impl<E: fmt::Display> fmt::Debug for TryFault<E> {
 
 impl<E: Error> Error for TryFault<E> {}
 
-/// Converts to the error that it contains; whether that was the library's or the closure's is lost.
+/// Converts an error of an update by a closure to the `JsonPathError` in it. Whether the library or the closure
+/// returned this error is lost.
 impl From<TryFault<JsonPathError>> for JsonPathError {
     ghost from_gives = { λ fault error. error ≡ error_behind fault };
 

@@ -23,7 +23,7 @@ pub enum ParseFault {
     /// The text that was to be compiled is no path. The message is the text, a line end, and a `^` for each byte of
     /// the text up to the end of the wrong token, or for all its bytes if it ends too early.
     Text(String),
-    /// Memory ran out. It prints `out of memory`.
+    /// Memory ran out. Printed as `out of memory`.
     OutOfMemory,
 }
 

@@ -79,7 +79,8 @@ impl<P: AnyPath, V: HeldValue> Model for HeldPair<P, V> {
     ghost view = { λ s. record { path = option_map P.spelling s.path; value = option_map V.held s.value } };
 }
 
-/// A selector, such as a `Selector` or a `SelectorMut`, with no path and no value. The call allocates no memory.
+/// The default of a selector type, such as `Selector` or `SelectorMut`: a selector with no path and no value. The call
+/// allocates no memory.
 impl<P: AnyPath, V: HeldValue> Default for HeldPair<P, V> {
     ghost is_default = { λ held. held ≡ record { path = None; value = None } };
 
