@@ -43,7 +43,7 @@ pub enum Place {
     /// The file beside the edited one (in the same folder), at the path chosen for the new file that is to replace it:
     /// the new file, or a foreign file that is there instead.
     Beside,
-    /// The new file that this edit has created and opened.
+    /// The new file that this edit has created and opened beside the edited file, in order to replace it.
     NewFile,
 }
 

@@ -22,15 +22,15 @@ pub enum Action {
 /// A question about what a compiled path selects in a document; the time of the answer is measured.
 #[derive(Clone, Copy)]
 pub enum Asked {
-    /// The values that the path selects.
+    /// Asks for the values that the path selects.
     Values,
-    /// The nodes that the path selects, each a value with its location.
+    /// Asks for the nodes that the path selects, each a value with its location.
     Spots,
-    /// The number of values that the path selects.
+    /// Asks for the number of values that the path selects.
     Count,
-    /// The first value that the path selects, if there is one.
+    /// Asks for the first value that the path selects, if there is one.
     First,
-    /// Whether the path selects any value.
+    /// Asks whether the path selects any value.
     Exists,
 }
 

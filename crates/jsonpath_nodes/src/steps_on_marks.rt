@@ -109,9 +109,9 @@ pub fn add_named_member<'a, M: Mark<'a>>(
     Ok(())
 }
 
-/// Returns what a step that is no filter (say `[0]`) selects from each node and from all its descendants, as after `..`,
-/// with duplicates. They are visited in preorder: each value before its children, items by index, members by their
-/// names' bytes. The only error is `NoMemory`.
+/// Returns what a step that is no filter (say `[0]`) selects from each node and from all its descendants, as after
+/// `..`, with duplicates. The node and its descendants are visited in preorder: each value before its children, items
+/// by index, members by their names' bytes. The only error is `NoMemory`.
 ///
 /// ```text
 /// let found = steps_on_marks::plain_step_from_all_below(alloc, &[&document], &PlainStep::Named("a"))?;
@@ -132,9 +132,9 @@ pub fn plain_step_from_all_below<'a, M: Mark<'a>>(
     Ok(found)
 }
 
-/// Returns what a `Stride`, a step other than a filter, selects from each node or, if the `Stride` has `..` (its field
-/// `leaves` is true), from each node and all its descendants, in preorder: items by index, members by their names'
-/// bytes. The only error is `NoMemory`.
+/// Returns what a `Stride`, a step other than a filter, selects from each node. If the `Stride` has `..` (its field
+/// `leaves` is true), it selects from each node and from all its descendants, which are visited in preorder: items by
+/// index, members by their names' bytes. The only error is `NoMemory`.
 ///
 /// ```text
 /// let second = Stride {

@@ -199,7 +199,7 @@ impl From<ParseFault> for JsonPathError {
     }
 }
 
-/// Converts an out-of-memory error to `OutOfMemory`.
+/// Converts an out-of-memory error to `JsonPathError::OutOfMemory`.
 impl From<NoMemory> for JsonPathError {
     ghost use Rattle.std.specs.Prelude.{◌≡◌};
     ghost use Rattle.jsonpath_select.specs.declared.error.JsonPathError.TheVariants.{OutOfMemory};
@@ -211,7 +211,7 @@ impl From<NoMemory> for JsonPathError {
     }
 }
 
-/// Converts an out-of-memory error to `OutOfMemory`.
+/// Converts an out-of-memory error to `JsonPathError::OutOfMemory`.
 impl From<AllocError> for JsonPathError {
     ghost use Rattle.std.specs.Prelude.{◌≡◌};
     ghost use Rattle.jsonpath_select.specs.declared.error.JsonPathError.TheVariants.{OutOfMemory};
@@ -223,7 +223,7 @@ impl From<AllocError> for JsonPathError {
     }
 }
 
-/// Converts an out-of-memory error to `OutOfMemory`.
+/// Converts an out-of-memory error to `JsonPathError::OutOfMemory`.
 impl<T: Drop> From<AllocFailed<T>> for JsonPathError {
     ghost use Rattle.std.specs.Prelude.{◌≡◌};
     ghost use Rattle.jsonpath_select.specs.declared.error.JsonPathError.TheVariants.{OutOfMemory};

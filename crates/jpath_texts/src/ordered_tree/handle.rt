@@ -66,8 +66,8 @@ pub struct OrderedMembersLeft<'t, 'a> {
 }
 
 impl<'t, 'a> OrderedValue<'t, 'a> {
-    /// The value as an `OrderedValue`; `None` unless each object in it has its names in the order of their bytes, each
-    /// once.
+    /// Makes an `OrderedValue`, a handle to a value of an exact tree (the tree of a JSON text, with numbers as
+    /// written). Returns `None` unless each object in the value has its names in the order of their bytes, each once.
     pub fn of(alloc: Global, value: &'t Exact<'a>) -> Option<OrderedValue<'t, 'a>>
         ensures some { is_some result ≡ is_ordered (value_view value.now) }
         ensures value { IfSome result (λ v. v.value.now ≡ value.now) }

@@ -26,14 +26,14 @@ pub enum Shown {
     Lengths,
 }
 
-/// What follows a selected value that is printed.
+/// What follows a selected value that is printed: a line feed, the byte 0, or nothing.
 #[derive(Clone, Copy, Debug, Drop, PartialEq, Eq)]
 pub enum LineEnd {
-    /// The byte 10, a line feed.
+    /// A printed value is followed by the byte 10, a line feed.
     LineFeed,
-    /// The byte 0.
+    /// A printed value is followed by the byte 0.
     Nul,
-    /// Nothing: the next value follows at once.
+    /// A printed value is followed by nothing: the next value comes at once.
     Nothing,
 }
 
@@ -44,13 +44,13 @@ pub struct Line<'n> {
     /// How the selected value is written: a string with or without its quotes and escapes, members in the order of
     /// their names or not, indented over several lines or not, in colours or not.
     pub look: Look,
-    /// What is shown of the selected value.
+    /// What the line shows of the selected value, such as its location.
     pub shown: Shown,
     /// The name of a file to print at the front of the line, with a colon; `None` for no name.
     pub name: Option<&'n str>,
     /// Whether the byte 30 (RS) is printed before the line, as before each text of a JSON text sequence.
     pub is_record: bool,
-    /// What is printed after the line.
+    /// What is printed after the line: a line feed, the byte 0, or nothing.
     pub end: LineEnd,
 }
 

@@ -33,10 +33,10 @@ pub enum FaultKind {
     Unread,
     /// A read of the input failed. The error's position is just after the last byte that was read.
     ReadFailed,
-    /// Memory ran out. The position is just after the last byte read or, if a document was being parsed, the one that
-    /// `serde_json` reports, counted from the beginning of the stream.
+    /// Memory ran out. The error's position is just after the last byte read or, if a document was being parsed, the
+    /// one that `serde_json` reports, counted from the beginning of the stream.
     OutOfMemory,
-    /// The stream has more bytes than 64 bits can count. The position is just after the last returned document.
+    /// The stream has more bytes than 64 bits can count. The error's position is just after the last returned document.
     TooLong,
 }
 

@@ -51,7 +51,8 @@ pub enum Selection<'t> {
 /// ```
 #[derive(Drop)]
 pub struct Stride<'t> {
-    /// Whether `..` comes before this step: it is then applied to each value and to all its descendants.
+    /// Whether `..` comes before this step. If so, the step is applied to each value found so far and to all
+    /// descendants of these values.
     pub leaves: bool,
     /// What this step selects among the children of each value to which it is applied.
     pub selection: Selection<'t>,

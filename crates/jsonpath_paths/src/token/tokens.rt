@@ -68,51 +68,51 @@ impl From<AllocError> for TokenError {
 /// ```
 #[derive(Clone, Copy, Debug, PartialEq, Eq)]
 pub enum Kind {
-    /// `$`
+    /// The kind of the token `$` in a path.
     Absolute,
-    /// `.`
+    /// The kind of the token `.` in a path.
     Dot,
-    /// `@`
+    /// The kind of the token `@` in a path.
     At,
-    /// `[`
+    /// The kind of the token `[` in a path.
     OpenArray,
-    /// `]`
+    /// The kind of the token `]` in a path.
     CloseArray,
-    /// `*`
+    /// The kind of the token `*` in a path.
     Asterisk,
-    /// `?`
+    /// The kind of the token `?` in a path.
     Question,
-    /// `,`
+    /// The kind of the token `,` in a path.
     Comma,
-    /// `:`
+    /// The kind of the token `:` in a path.
     Split,
-    /// `(`
+    /// The kind of the token `(` in a path.
     OpenParenthesis,
-    /// `)`
+    /// The kind of the token `)` in a path.
     CloseParenthesis,
-    /// A word: a run of characters without quotes, such as a name or a number.
+    /// The kind of a token that is a word: a run of characters without quotes, such as a name or a number.
     Key,
-    /// A text in double quotes.
+    /// The kind of a token that is a text in double quotes.
     DoubleQuoted,
-    /// A text in single quotes.
+    /// The kind of a token that is a text in single quotes.
     SingleQuoted,
-    /// `==`
+    /// The kind of the token `==` in a path.
     Equal,
-    /// `>=`
+    /// The kind of the token `>=` in a path.
     GreaterOrEqual,
-    /// `>`
+    /// The kind of the token `>` in a path.
     Greater,
-    /// `<`
+    /// The kind of the token `<` in a path.
     Little,
-    /// `<=`
+    /// The kind of the token `<=` in a path.
     LittleOrEqual,
-    /// `!=`
+    /// The kind of the token `!=` in a path.
     NotEqual,
-    /// `&&`
+    /// The kind of the token `&&` in a path.
     And,
-    /// `||`
+    /// The kind of the token `||` in a path.
     Or,
-    /// A run of blanks.
+    /// The kind of a token that is a run of blanks.
     Whitespace,
 }
 

@@ -41,9 +41,9 @@ pub type Selector<'a, 'b> = HeldPair<WalkedPath<'b>, &'a Value>;
 pub type SelectorMut = HeldPair<Node, Value>;
 
 impl<P: OfNode + Drop, V: HeldValue> HeldPair<P, V> {
-    /// Compiles a path text and replaces the selector's path. Errors: `Path`, with `Parser`'s message, exactly if the
-    /// text is outside the grammar, or `OutOfMemory`; nothing has changed then. Named as in the Rust crate
-    /// `jsonpath_lib`.
+    /// Compiles a path text and replaces the selector's path. Errors: `Path` exactly if the text is outside the
+    /// grammar, with a message that shows the text and a row of `^` up to its error; or `OutOfMemory`. The selector is
+    /// then unchanged. Named as in the Rust crate `jsonpath_lib`.
     ///
     /// ```text
     /// let document = read_document(alloc, b"[1, 2, 3]")?;
