@@ -27,7 +27,7 @@ pub enum Call<'a> {
     Give(u32, u32),
     /// Appends these bytes to the new file.
     Write(&'a [u8]),
-    /// Sets the permissions of the new file to this mode.
+    /// Sets the permissions of the new file to these permission bits.
     SetMode(u32),
     SyncNewFile,
     /// Renames the new file to the name of the edited file, which it thereby replaces.
@@ -47,8 +47,8 @@ pub enum Place {
     NewFile,
 }
 
-/// The system calls of an edit in place: on the edited file, and on the new file beside it. The contracts say what each
-/// call does to both files.
+/// The system calls of an edit in place: on the edited file, and on the new file beside it. The contracts (proved
+/// specifications) say what each call does to both files.
 pub trait Disk {
     ghost state: { Self → DiskState };
 

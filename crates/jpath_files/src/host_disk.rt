@@ -14,8 +14,9 @@ use std::path::PathBuf;
 // Who may read and write a new file before it has the mode of the old one: its owner alone.
 const OWNER_ALONE: u32 = 0o600;
 
-/// The system calls of an edit in place, on a real file that is open. The contracts of the trait `Disk` are assumed of
-/// these calls, not proved, since std's file calls have no contracts. For proofs the type records each call made.
+/// The system calls of an edit in place, on a real file that is open. The contracts (specifications) of the trait
+/// `Disk` are assumed of these calls, not proved, since std's file calls have no contracts. For proofs the type records
+/// each call made.
 #[derive(Drop)]
 pub struct HostDisk<'r> {
     rt: &'r HostRuntime,

@@ -11,15 +11,16 @@ use std::alloc::Global;
 use std::io::{self, ErrorKind};
 
 /// Puts these bytes in place of the content of a file that is open to be edited, and forces them to the disk. `found`
-/// has the facts of the file when it was opened. `way` says how: a new file, with the same owner, group and mode, is
-/// written beside the file, forced to the disk, and then replaces the file; or the bytes are written into the file
-/// itself.
+/// has the facts of the file when it was opened: its owner, size, times and so on. `way` says how: a new file, with the
+/// same owner, group and mode, is written beside the file, forced to the disk, and then replaces the file; or the bytes
+/// are written into the file itself.
 ///
 /// Errors: `TooLong`; `Changed` if the file was changed since it was opened; `OwnerLost` if a new file can't have its
 /// owner, group and mode; `Failed` if a system call failed or memory ran out; `Torn`; `Unsynced`. The file is then as
 /// it was, except after the last two: after `Torn`, it has a part of the new bytes, and its old content can't be
 /// restored; after `Unsynced`, it has all new bytes, but may lose them in a crash. A new file that has not replaced the
-/// file is removed if that is possible. The contract assumes that what the system reported of both files was true.
+/// file is removed if that is possible. The contract (proved specification) of this call assumes that what the system
+/// reported of both files was true.
 pub fn put_in_place<D: Disk>(
     alloc: Global,
     disk: &mut D,

@@ -25,8 +25,9 @@ use std::alloc::Global;
 pub struct Document<'a> {
     /// The exact tree of the document: numbers as written, members in the order of the text. It borrows the text.
     pub exact: Exact<'a>,
-    /// The image of the document, on which paths are run: the same values, with the numbers represented as the field
-    /// `numbers` says. Each name of an object is there once, with its last value, in the order of the names' bytes.
+    /// The image of the document, which is the copy of it on which paths are run: the same values, with the numbers
+    /// represented as the field `numbers` says. Each name of an object is there once, with its last value, in the order
+    /// of the names' bytes.
     pub image: Value,
     /// How the image, the copy of the document on which paths are run, represents its numbers.
     pub numbers: Numbers,
@@ -55,9 +56,9 @@ impl<'a> Document<'a> {
         Document::of_exact_tree(alloc, text, exact, compared)
     }
 
-    /// Makes a document from its exact tree, which was read from this text; `compared` says whether the filters of the
-    /// paths to be run on it compare numbers, and with which number literals. Errors: `HugeExponent` if numbers are
-    /// compared and an exponent doesn't fit in 128 bits, or `OutOfMemory`.
+    /// Makes a document from its exact tree, the tree with numbers as written that was read from this text. `compared`
+    /// says whether the filters of the paths to be run on it compare numbers, and with which number literals. Errors:
+    /// `HugeExponent` if numbers are compared and an exponent doesn't fit in 128 bits, or `OutOfMemory`.
     pub fn of_exact_tree(
         alloc: Global,
         text: &str,

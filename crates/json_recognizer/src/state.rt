@@ -10,7 +10,8 @@ use crate::class::Class;
 use crate::machine::{Mode, Move, Top};
 use crate::moves::move_of;
 
-/// The state of the recognizer between two bytes of a JSON text: its mode, and the arrays and objects that are open.
+/// The state of the recognizer between two bytes of a JSON text: its mode (in what part of the text it is), and the
+/// arrays and objects that are open.
 #[derive(Drop)]
 pub struct State {
     pub mode: Mode,

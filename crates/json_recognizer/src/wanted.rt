@@ -126,9 +126,10 @@ fn in_text(part: TextPart, is_name: bool, class: Class) -> Wanted
     }
 }
 
-/// The reason, for an error message, why a byte of class `class` is wrong in the mode `mode` of the recognizer: what
-/// was expected in its place, or what is wrong with it. `top` is what directly encloses the byte: an array, an object
-/// or nothing. Every byte that the reason names would have been accepted; others may be, too.
+/// The reason, for an error message, why a byte of class `class` is wrong in a JSON text: what was expected in its
+/// place, or what is wrong with it. `mode` says in what part of the text the recognizer is, and `top` what directly
+/// encloses the byte: an array, an object or nothing. Every byte that the reason names would have been accepted; others
+/// may be, too.
 pub fn what_was_wanted(mode: Mode, top: Top, class: Class) -> Wanted
     ensures { (c : Class) → names result c ≡ true → move mode top c ≢ Wrong }
 {

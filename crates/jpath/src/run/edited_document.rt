@@ -18,7 +18,8 @@ pub struct Kept {
 }
 
 impl Kept {
-    /// The state before the first document is read: no memory to use again, and no edit noted.
+    /// The state of a run before its first document is read: there is no memory to use again, and no edit has been
+    /// noted.
     pub fn new(alloc: Global) -> Kept {
         Kept {
             scratch: Scratch::new(alloc),

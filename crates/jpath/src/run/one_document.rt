@@ -15,7 +15,7 @@ use std::str;
 
 /// Appends to `out` the output for one document, as the command line asks for it: lines, an array, a table, the edited
 /// text, or nothing for `--count` and `--quiet`. `name` is the file's name, `bytes` the document's text. Returns how
-/// many matches it has; for edits the sum of their `Edited::targets`.
+/// many matches (selected values) the document has; for edits the sum of their `Edited::targets`.
 ///
 /// Errors: `NotADocument` if `bytes` is no JSON document; `HugeExponent` if a number can't be compared; `EditNests` if
 /// an edited text nests too deep; `EditDiffers` if it is not the edited document, a fault of the program; or

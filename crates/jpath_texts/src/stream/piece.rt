@@ -13,7 +13,7 @@ pub struct Piece<'p> {
     pub place: LineColumn,
     /// What the piece is: a document, wrong bytes in place of one, or blanks.
     pub kind: Kind,
-    /// Whether a byte order mark comes before this piece, which is then the stream's first. The byte order mark is not
-    /// in `bytes`.
+    /// Whether a byte order mark comes before this piece of a stream, which is then the first one. The byte order mark
+    /// is not in `bytes`.
     pub is_marked: bool,
 }

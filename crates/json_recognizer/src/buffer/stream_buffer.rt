@@ -129,8 +129,9 @@ impl StreamBuffer {
         }
     }
 
-    /// Searches the bytes read so far for the end of the next document, or for its first wrong byte, and returns what
-    /// kind of piece the bytes up to there are; `None` if more bytes have to be read to know.
+    /// Searches the bytes read so far for the end of the next document, or for its first wrong byte. Returns what the
+    /// bytes up to there are: a document, wrong bytes in place of one, or blanks. `None` if more bytes have to be read
+    /// to know.
     pub fn find_next_piece(&mut self) -> Option<Kind>
         requires { IsReady self.old }
         ensures sound { IsSound self.new }
@@ -180,7 +181,7 @@ impl StreamBuffer {
         }
     }
 
-    /// Begins the search for the end of the stream's current piece anew, at the piece's first byte.
+    /// Begins the search for the end of the stream's current piece, a document or wrong bytes, anew at its first byte.
     pub fn begin_piece(&mut self)
         requires { self.old.start ≤ length self.old.bytes.items }
         ensures ready { IsReady self.new }

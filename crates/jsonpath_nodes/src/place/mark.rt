@@ -22,9 +22,9 @@ use std::alloc::Global;
 /// A selected node: either `&Value` (no location) or `Spot` (value with location). Evaluation code is generic over
 /// both.
 ///
-/// In contracts, a list of `Mark`s is at a list of locations if both have the same length and each `Mark` has the value
-/// at the location with the same index; a `Spot` has this location, too. The only error of the calls that append is
-/// `NoMemory`; a part may have been appended then.
+/// In contracts (proved specifications), a list of `Mark`s is at a list of locations if both have the same length and
+/// each `Mark` has the value at the location with the same index; a `Spot` has this location, too. The only error of
+/// the calls that append is `NoMemory`; a part may have been appended then.
 ///
 /// ```text
 /// let mut found = Vec::new(alloc);
@@ -53,7 +53,8 @@ pub trait Mark<'a>: Drop + Sized {
     ) -> Result<(), NoMemory>
         ensures { OnOk result (MarksGain located stand content (single_steps (plain_step_of plain.now)) (stand self.now) (content self.now) out.old.items out.new.items) };
 
-    /// Appends to `out` the member of this name, if this node is an object that has one. The name is taken literally.
+    /// Appends to `out` the member of this name, if this node is an object that has one. The name is taken literally,
+    /// without quotes or escapes.
     fn add_named_member(
         &self,
         alloc: Global,
@@ -72,8 +73,8 @@ pub trait Mark<'a>: Drop + Sized {
     ) -> Result<(), NoMemory>
         ensures { OnOk result (MarksGain located stand content (deep (plain_step_of plain.now)) (stand self.now) (content self.now) out.old.items out.new.items) };
 
-    /// If this node is an array, appends to `out` the non-array values left after flattening it and the arrays nested
-    /// in it; else the node itself.
+    /// If this node is an array, appends its items to `out`, with each item that is an array replaced by its items in
+    /// turn, until no array is left. If this node is no array, appends the node itself.
     fn add_flattened(&self, alloc: Global, out: &mut Vec<Self>) -> Result<(), NoMemory>
         ensures { OnOk result (MarksGain located stand content flat (stand self.now) (content self.now) out.old.items out.new.items) };
 

@@ -275,7 +275,7 @@ impl<'b, 'a> Steps<'b, 'a> {
         is_root(self.path_to)
     }
 
-    /// Copies the steps into a `Location`. The only error is `NoMemory`.
+    /// Copies the steps from the root to the node into a `Location`. The only error is `NoMemory`.
     ///
     /// ```text
     /// let location = root.steps().to_location(alloc)?;

@@ -45,7 +45,8 @@ impl ValueWalker {
         plain_step_from_each(alloc, spots, &PlainStep::Every)
     }
 
-    /// Selects the member with this name from each node that is an object and has one. The name is taken literally.
+    /// Selects the member with this name from each node that is an object and has one. The name is taken literally,
+    /// without quotes or escapes.
     ///
     /// ```text
     /// let found = ValueWalker::next_with_str(alloc, items.as_slice(), "b")?;

@@ -22,8 +22,8 @@ use std::alloc::{AllocError, Global};
 /// ```
 #[derive(Clone, Copy, Debug, PartialEq, Eq)]
 pub enum Expected {
-    /// Any token of this kind. `Kind::Key` means that any word (name or number without quotes) is allowed, as it is
-    /// after a dot.
+    /// The path could go on with any token of this kind. `Kind::Key` means that any word (name or number without
+    /// quotes) is allowed, as it is after a dot.
     Token(Kind),
     /// A word (an unquoted token) that is an index, such as `0` or `-1`.
     Index,

@@ -384,7 +384,8 @@ pub enum ParseToken {
     Array,
     /// The `]` that ends a step.
     ArrayEof,
-    /// A comparison or a connective of a filter. In the token list it comes after the tokens of its two sides.
+    /// A comparison or a connective of a filter. In the token list of a path it comes after the tokens of its two
+    /// sides.
     Filter(FilterToken),
     /// A slice that a step selects: its start, end and step, each of which may be missing.
     Range(Option<i64>, Option<i64>, Option<u64>),
@@ -394,6 +395,6 @@ pub enum ParseToken {
     Number(Decimal),
     /// A boolean that is a side of a comparison.
     Bool(bool),
-    /// Never occurs in a compiled path; it is here because the Rust crate `jsonpath_lib` has it.
+    /// A token that never occurs in a compiled path; it is here because the Rust crate `jsonpath_lib` has it.
     Eof,
 }

@@ -29,7 +29,8 @@ impl<'a, P: AnyPath> HeldPair<P, &'a Value> {
         self
     }
 
-    /// Does nothing, since a selector caches no answer; for code written for the Rust crate `jsonpath_lib`.
+    /// Does nothing, since a selector caches no answer. It is here for code that was written for the Rust crate
+    /// `jsonpath_lib`.
     ///
     /// ```text
     /// let document = read_document(alloc, b"[1, 2, 3]")?;
