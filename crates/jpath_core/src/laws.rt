@@ -17,9 +17,9 @@ pub fn image_has_same_locations()
     ensures { (l : Location) (exact : Json) (document : Data) → IsImageOf exact document → ImageStandsAt exact document l }
 {}
 
-/// Lemma: what a path selects depends on numbers only by how they are ordered. Replace the numbers of a document and
-/// the literals that the path's filters compare, both by one mapping that keeps the order of numbers, and leave the
-/// indexes in the path: the path then selects the same list of locations.
+/// Lemma: what a path selects depends on numbers only by their order. Take one mapping of numbers that keeps their
+/// order, and apply it to the numbers of a document and to the literals that the path's filters compare, but not to the
+/// indexes in the path. The path then selects the same list of locations as before.
 pub fn order_of_numbers_decides()
     ensures { OrderOfNumbersDecides }
 {}

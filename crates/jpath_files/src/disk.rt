@@ -57,8 +57,8 @@ pub trait Disk {
     fn call(&mut self, call: Call<'_>) -> io::Result<()>
         ensures { Does call.entry (is_ok result) (state self.old) (state self.new) };
 
-    /// What the system knows of one of the files of an edit in place: its owner, size, times and so on. An error if
-    /// there is no such file, or the system call fails.
+    /// What the system knows of the file that `place` names, one of the files of an edit in place: the owner, size,
+    /// times and so on of this file. An error if there is no such file, or the system call fails.
     fn facts(&mut self, place: Place) -> io::Result<FileFacts>
         ensures { MatchResult result (λ facts. Tells (IsKnown place facts) (state self.old) (state self.new)) (λ _. state self.new ≡ state self.old) };
 

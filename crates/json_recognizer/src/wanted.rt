@@ -159,8 +159,8 @@ pub fn what_was_wanted(mode: Mode, top: Top, class: Class) -> Wanted
     }
 }
 
-/// The reason, for an error message, why `byte` is wrong in this state of the recognizer, where `byte` must be wrong. If
-/// the reason says what was expected, each byte that it names would have been accepted here, except `[` or `{` where
+/// The reason, for an error message, why `byte` is wrong in this state of the recognizer; `byte` must be wrong there.
+/// If the reason says what was expected, each byte that it names would have been accepted here, except `[` or `{` where
 /// they would nest too deep.
 pub fn wanted_at(state: &State, byte: u8) -> Wanted
     requires { state.now.depth ≤ max_depth }

@@ -45,8 +45,8 @@ pub fn all_locations_stand_below_root()
     ensures { BelowIsAll }
 {}
 
-/// Lemma: the list of all locations at or below the root of a document is in document order (parents before children,
-/// members by their names' bytes, items by index), each once.
+/// Lemma: the list of all locations at or below the root of a document has each of them once, in document order
+/// (parents before children, members by their names' bytes, items by index).
 ///
 /// ```text
 /// laws::locations_below_root_ascend();
@@ -55,8 +55,9 @@ pub fn locations_below_root_ascend()
     ensures { BelowAscends }
 {}
 
-/// Lemma: sorting a list of locations into document order (parents before children, members by their names' bytes,
-/// items by index) and dropping repeats yields a strictly ascending list with exactly the locations of the original.
+/// Lemma: if a list of locations is sorted into document order (parents before children, members by their names' bytes,
+/// items by index) and its repeats are dropped, the result is a strictly ascending list. It has exactly the locations
+/// of the original list.
 ///
 /// ```text
 /// laws::locations_once_in_order_ascend();
@@ -123,9 +124,9 @@ pub fn updates_put_one_answer_in_turn<F: FnMut(Value) -> Option<Value>>(_closure
         → (ls : List Location) (before after : Document) (f g : F) → RunsWith F.FnMut ls before f g after → after ≡ update_each answer ls before }
 {}
 
-/// Lemma: for a list of locations in document order (parents before children, members by their names' bytes, items by
-/// index), each once, removing the values there all at once is the same as removing them one after another, from the
-/// last location back to the first.
+/// Lemma: let a list have each location once, in document order (parents before children, members by their names'
+/// bytes, items by index). Then removing the values at these locations all at once is the same as removing them one
+/// after another, from the last location back to the first.
 ///
 /// ```text
 /// laws::taking_at_once_is_in_turn();

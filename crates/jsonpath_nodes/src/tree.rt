@@ -51,8 +51,8 @@ pub trait Tree: Copy + Drop {
     // A number as a whole number over a power of ten.
     ghost fraction_of: { Self.Number → ℤ × ℕ };
 
-    /// What a comparison uses of the value: its kind, and the content of a boolean, a number or a text. The error says why
-    /// the value can't be compared.
+    /// What a comparison uses of the value: its kind, and the content of a boolean, a number or a text. The error says
+    /// why the value can't be compared.
     fn atom(&self) -> Result<Atom<'_, Self::Number>, Self::Error>
         ensures { IfOk result (λ atom. seen_with fraction_of atom ≡ seen (content self.now)) };
 

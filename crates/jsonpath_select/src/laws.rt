@@ -47,12 +47,12 @@ pub fn swapped_sides_select_alike()
     ensures { OrderIsFree }
 {}
 
-/// Lemma: for two condition texts `a` and `b`, the paths `$[?((a) && (b))]` and `$[?((b) && (a))]` select the same
-/// list, and so do those with `||`, if these paths and also `$[?(a)]` and `$[?(b)]` are in the grammar. This rules out
-/// a text such as `@.x) || (@.y` for `a`: in this grammar one pair of parentheses encloses the whole condition of a
-/// filter, so `$[?(a)]`, which would be `$[?(@.x) || (@.y)]`, is no path. The inner parentheses are needed, since `&&`
-/// and `||` have the same precedence and group to the right: without them, if `a` is `@.x && @.y`, `a || b` means `@.x
-/// && (@.y || b)`.
+/// Lemma: let `a` and `b` be condition texts. Then the paths `$[?((a) && (b))]` and `$[?((b) && (a))]` select the same
+/// list, and so do those with `||`. The lemma assumes that these paths, and also `$[?(a)]` and `$[?(b)]`, are in the
+/// grammar. This rules out a text such as `@.x) || (@.y` for `a`: in this grammar one pair of parentheses encloses the
+/// whole condition of a filter, so `$[?(a)]`, which would be `$[?(@.x) || (@.y)]`, is no path. The inner parentheses
+/// are needed, since `&&` and `||` have the same precedence and group to the right: without them, if `a` is `@.x &&
+/// @.y`, `a || b` means `@.x && (@.y || b)`.
 ///
 /// ```text
 /// laws::swapped_condition_texts_select_alike();

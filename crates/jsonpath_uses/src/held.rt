@@ -41,8 +41,8 @@ pub fn set_path_in_pair<P: OfNode + Drop, V: HeldValue>(
     Ok(())
 }
 
-/// Sets `first` as the path of a `Selector`, then `second` in its place, and returns what `second` selects in `json`, in
-/// the order in which its steps find the values, with duplicates. Errors: `Path` for a text that is no path, or
+/// Sets `first` as the path of a `Selector`, then `second` in its place, and returns what `second` selects in `json`,
+/// in the order in which its steps find the values, with duplicates. Errors: `Path` for a text that is no path, or
 /// `OutOfMemory`.
 pub fn select_by_second_path<'a>(
     alloc: Global,

@@ -30,8 +30,8 @@ pub enum Numbers {
     /// In the copy of the document on which paths are run, each number is multiplied by ten to this power, which makes
     /// it an integer.
     Scaled(u32),
-    /// In the copy of the document on which paths are run, each number is replaced by the index, from 0, of its
-    /// `NumberKey` in this ascending list, which has each key once.
+    /// In the copy of the document on which paths are run, each number is replaced by an index: its `NumberKey` is at
+    /// this index, from 0, in this ascending list, which has each key once.
     Ranked(Vec<NumberKey>),
     /// In the copy of the document on which paths are run, the same number is in place of every number. Only paths
     /// whose filters compare no numbers are run on it.

@@ -22,8 +22,8 @@ pub struct ExactNumber<'a> {
     ghost keyed: { ∥ IsKeyOf text.now key ∥₁ },
 }
 
-/// A value of an exact tree (the tree of a JSON text, with numbers as written) in which each object has its names in
-/// the order of their bytes, each once.
+/// A value of an exact tree, which is the tree of a JSON text with numbers as written. Each object in it has its names
+/// in the order of their bytes, each once.
 #[derive(Clone, Copy, Drop)]
 pub struct OrderedValue<'t, 'a> {
     value: &'t Exact<'a>,
@@ -31,8 +31,8 @@ pub struct OrderedValue<'t, 'a> {
     ghost ordered: { is_ordered (value_view value.now) ≡ true },
 }
 
-/// An array in an exact tree (numbers as written) in which each object has its names in the order of their bytes, each
-/// once.
+/// An array in an exact tree, which is the tree of a JSON text with numbers as written. Each object in it has its names
+/// in the order of their bytes, each once.
 #[derive(Clone, Copy, Drop)]
 pub struct OrderedItems<'t, 'a> {
     items: &'t Vec<Exact<'a>>,
@@ -40,8 +40,8 @@ pub struct OrderedItems<'t, 'a> {
     ghost ordered: { are_items_ordered (items_view items.now.items) ≡ true },
 }
 
-/// An object in an exact tree (numbers as written) in which each object has its names in the order of their bytes, each
-/// once.
+/// An object in an exact tree, which is the tree of a JSON text with numbers as written. This object and each object in
+/// it has its names in the order of their bytes, each once.
 #[derive(Clone, Copy, Drop)]
 pub struct OrderedMembers<'t, 'a> {
     members: &'t Vec<(&'a str, Exact<'a>)>,

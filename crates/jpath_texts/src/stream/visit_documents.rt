@@ -74,11 +74,11 @@ pub struct Ended<S> {
     pub how: How<S>,
 }
 
-/// Calls the visitor for each document of a stream, in order, as soon as its bytes are read, and at the stream's end
-/// for the blanks there, even if there are none. Returns how many matches the documents have together, and why the
-/// visits ended. A malformed document is visited, too, as soon as the first byte is read with which no document can
-/// continue; the next document is then looked for after the line on which the malformed one begins. A byte order mark
-/// at the beginning is skipped.
+/// Reads a stream of documents, skipping a byte order mark at its beginning, and calls the visitor for each document,
+/// in order, as soon as its bytes are read. At the end of the stream the visitor is also called for the blanks there,
+/// even if there are none. Returns how many matches the documents have together, and why the visits ended. A malformed
+/// document is visited, too, as soon as its first wrong byte is read; the next document is then searched for after the
+/// line on which the malformed one begins.
 pub fn visit_documents<R: Input, V: Visitor>(
     alloc: Global,
     reader: &mut R,

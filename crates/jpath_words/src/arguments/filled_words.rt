@@ -34,8 +34,8 @@ pub struct FilledEdit<'a> {
 }
 
 /// The path texts of the command line, in which each placeholder `{NAME}` is replaced by the text or number that
-/// `--arg` or `--argjson` sets for NAME. Errors: such an option has an empty name, the name of another one, or a name
-/// that no path uses, or what `--argjson` sets is no number (these errors are printed here); there is no path; or
+/// `--arg` or `--argjson` sets for NAME. Errors that are printed here: the name of an `--arg` or `--argjson` is empty,
+/// is used twice or is used by no path, or what `--argjson` sets is no number. Other errors: there is no path, or
 /// memory ran out.
 pub fn fill_paths<'a>(
     rt: &(impl Eprint + Alloc<A = Global>),

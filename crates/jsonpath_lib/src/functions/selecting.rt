@@ -54,9 +54,9 @@ pub fn select_as_str(alloc: Global, json: &str, path: &str) -> Result<String, Js
 }
 
 /// Reads a JSON text, then a path, and deserializes each selected value to a `T`, in the order in which the path's
-/// steps find them, with duplicates. Errors: `Serde` if `serde_json` rejects the JSON text, or if a selected value has
-/// a number that is neither an `i64` nor a `u64`, such as 1.5, or can't be made a `T`; `Path` if the path text is no
-/// path; or `OutOfMemory`.
+/// steps find the values, with duplicates. Errors: `Path` if the path text is no path; `OutOfMemory`; or `Serde` if
+/// `serde_json` rejects the JSON text or can't make a `T` of a selected value. The error is also `Serde` if a selected
+/// value has a number that is neither an `i64` nor a `u64`, such as 1.5.
 ///
 /// ```text
 /// let numbers = select_as::<u8>(alloc, "[[1, 2], [3]]", "$[*][0]")?;

@@ -91,9 +91,9 @@ pub fn selector_as<'a, T: DeserializeOwned>(json: &'a Value) -> PathSelectorAs<'
 
 impl<'a, T: DeserializeOwned> PathSelectorAs<'a, T> {
     /// Deserializes each value that the path selects in the document to a `T`, in the order in which the path finds the
-    /// values, with duplicates. Errors: `Path` exactly if the text is no path; `Serde` if a value contains a number
-    /// that is neither an `i64` nor a `u64`, such as 1.5, even if `T` is `f64`, or if `serde_json` can't make a `T` of
-    /// it; or `OutOfMemory`.
+    /// values, with duplicates. Errors: `Path` exactly if the text is no path; `OutOfMemory`; or `Serde` if
+    /// `serde_json` can't make a `T` of a selected value. The error is also `Serde` if a selected value contains a
+    /// number that is neither an `i64` nor a `u64`, such as 1.5, even if `T` is `f64`.
     ///
     /// ```text
     /// let document = read_document(alloc, b"[1, 2, 3]")?;

@@ -148,8 +148,8 @@ impl<'a> Mark<'a> for &'a Value {
     }
 }
 
-/// A node as a `Spot`: its value with its location. The `Spot`s of its children share the steps of this location instead
-/// of copying them.
+/// A node as a `Spot`: its value with its location. The `Spot`s of its children share the steps of this location
+/// instead of copying them.
 impl<'a> Mark<'a> for Spot<'a> {
     ghost located = { true };
 

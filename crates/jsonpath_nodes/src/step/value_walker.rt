@@ -97,8 +97,8 @@ impl ValueWalker {
         plain_step_from_each(alloc, spots, &PlainStep::Nth(n))
     }
 
-    /// From each node that is an array, the items at these indexes, in the order in which the indexes are given, each
-    /// as `next_with_num` finds it.
+    /// From each node that is an array, the items at these indexes, in the order in which the indexes are given. A
+    /// negative index counts from the end, at most back to the first item; an index past the end selects nothing.
     ///
     /// ```text
     /// let found = ValueWalker::next_with_nums(alloc, items.as_slice(), &[2, 0])?;
@@ -164,7 +164,8 @@ impl ValueWalker {
     }
 
     /// `..[num]`: goes through each node and all its descendants, in preorder (items by index, members by their names'
-    /// bytes), and returns from each array the item at that index, as `next_with_num` finds it.
+    /// bytes), and returns from each array the item at that index, if there is one. A negative index counts from the
+    /// end, at most back to the first item.
     ///
     /// ```text
     /// let found = ValueWalker::all_with_num(alloc, &root, 0)?;

@@ -75,9 +75,9 @@ fn error_at_refused_token_or_character(
 
 impl<'a> PathParser<'a> {
     /// Parses a path text: `Ok` for exactly the texts of the grammar, unless memory runs out. A syntax error is at the
-    /// first token with which no path can continue, or at the first character that begins no token. It is `Position`
-    /// with the number of bytes up to the end of this token or character, or `Eof` if this token or character is the
-    /// last of the text or the text ends too early.
+    /// first token with which no path can continue, or at the first character that begins no token. The error is
+    /// `Position`, with the number of bytes up to the end of this token or character. But it is `Eof` if this token or
+    /// character is the last of the text, or if the text ends too early.
     ///
     /// ```text
     /// let refused = PathParser::compile(alloc, "$.a[b]").err();

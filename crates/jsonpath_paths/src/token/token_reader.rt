@@ -75,9 +75,10 @@ impl<'a> TokenReader<'a> {
         found
     }
 
-    /// Takes the next token. If no token begins at the reader's position, the position stays, and this and each later
-    /// call return the same error: `Eof` at the end of the text, at a quoted text that is not closed, or if the
-    /// character at the reader's position is the last of the text; else `Position` with the reader's position.
+    /// Takes the next token. If no token begins at the reader's position, returns an error, and the position stays, so
+    /// that each later call returns the same error. The error is `Eof` at the end of the text, at a quoted text that is
+    /// not closed, or if the character at the reader's position is the last of the text; else it is `Position` with the
+    /// reader's position.
     ///
     /// ```text
     /// let mut reader = TokenReader::new("@ ");

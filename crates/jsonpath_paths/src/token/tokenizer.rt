@@ -364,9 +364,9 @@ impl<'a> Tokenizer<'a> {
         self.reader.copy_of_place().peek_char().is_err()
     }
 
-    /// Takes the next token. If no token begins at the tokenizer's position, the position stays, and this and each
-    /// later call return the same error: `Eof` at the end of the text, at a quoted text that is not closed, or if a
-    /// single character is left; else `Position` with the tokenizer's position.
+    /// Takes the next token. If no token begins at the tokenizer's position, returns an error, and the position stays,
+    /// so that each later call returns the same error. The error is `Eof` at the end of the text, at a quoted text that
+    /// is not closed, or if a single character is left; else it is `Position` with the tokenizer's position.
     ///
     /// ```text
     /// let mut tokenizer = Tokenizer::new("=1");

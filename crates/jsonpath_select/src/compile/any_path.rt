@@ -141,8 +141,9 @@ pub trait AnyPath {
     }
 
     /// Deserializes each selected value to a `T`, in the order in which the path finds the values, with duplicates.
-    /// Errors: `OutOfMemory`, and `Serde` if a value contains a number that is neither an `i64` nor a `u64`, such as
-    /// 1.5, even if `T` is `f64`, or if `serde_json` can't make a `T` of it.
+    /// Errors: `OutOfMemory`, or `Serde` if `serde_json` can't make a `T` of a selected value. The error is also
+    /// `Serde` if a selected value contains a number that is neither an `i64` nor a `u64`, such as 1.5, even if `T` is
+    /// `f64`.
     ///
     /// ```text
     /// let document = read_document(alloc, b"[1, 2, 3]")?;
@@ -265,10 +266,10 @@ pub trait AnyPath {
         Ok(())
     }
 
-    /// Calls the closure once for each selected location, in document order (parents before children, members by their
-    /// names' bytes, items by index), with the value that the earlier updates left there: `Some` replaces the value,
-    /// `None` removes it. The locations are found beforehand and stay fixed: after an item was removed, the next item
-    /// is at its location; a location that no longer exists is skipped, and so is the root. The only error is
+    /// Calls the closure once for each selected location below the root, with the value that the earlier updates left
+    /// there: `Some` replaces the value, `None` removes it. The locations come in document order: parents before
+    /// children, members by their names' bytes, items by index. They are found beforehand and stay fixed: after an item
+    /// was removed, the next item is at its location; a location that no longer exists is skipped. The only error is
     /// `OutOfMemory`; then the document is unchanged and the closure was not called.
     ///
     /// ```text
@@ -295,12 +296,12 @@ pub trait AnyPath {
         Ok(())
     }
 
-    /// Calls the closure once for each selected location, in document order (parents before children, members by their
-    /// names' bytes, items by index), with a reference to the value that the earlier updates left there: `Some`
-    /// replaces the value, `None` removes it. The locations are found beforehand and stay fixed: after an item was
-    /// removed, the next item is at its location; a location that no longer exists is skipped, and so is the root. The
-    /// closure's first error ends the updates, as `Refused`; the updates before it remain. The only other error is
-    /// `Unasked` with `OutOfMemory`, before the closure is called.
+    /// Calls the closure once for each selected location below the root, with a reference to the value that the earlier
+    /// updates left there: `Some` replaces the value, `None` removes it. The locations come in document order: parents
+    /// before children, members by their names' bytes, items by index. They are found beforehand and stay fixed: after
+    /// an item was removed, the next item is at its location; a location that no longer exists is skipped. The
+    /// closure's first error ends the updates and is returned as `Refused`; the updates before it remain. The only
+    /// other error is `Unasked` with `OutOfMemory`, before the closure is called.
     ///
     /// ```text
     /// let mut document = read_document(alloc, b"[1, \"x\", 3]")?;

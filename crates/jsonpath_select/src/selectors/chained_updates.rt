@@ -85,11 +85,11 @@ impl<P: AnyPath> HeldPair<P, Value> {
         }
     }
 
-    /// Calls the closure once for each selected location below the root, in document order (parents before children,
-    /// members by their names' bytes, items by index), with the value that earlier updates left there: `Some` replaces
-    /// the value, `None` removes it. The locations are found beforehand and stay fixed: after an item was removed, the
-    /// next item is at its location; a location that no longer exists is skipped. Errors, before the closure is called:
-    /// `EmptyPath` (no path), `EmptyValue` (a path, no document), `OutOfMemory`.
+    /// Calls the closure once for each selected location below the root, with the value that the earlier updates left
+    /// there: `Some` replaces the value, `None` removes it. The locations come in document order: parents before
+    /// children, members by their names' bytes, items by index. They are found beforehand and stay fixed: after an item
+    /// was removed, the next item is at its location; a location that no longer exists is skipped. Errors, before the
+    /// closure is called: `EmptyPath` (no path), `EmptyValue` (a path, no document), `OutOfMemory`.
     ///
     /// ```text
     /// let mut held = SelectorMut::new();

@@ -123,8 +123,8 @@ impl<P: AnyPath, V: HeldValue> HeldPair<P, V> {
     }
 
     /// The selected values as a JSON text: `[`, their compact texts joined by `,`, and `]`, in the order in which the
-    /// path finds the values, with duplicates. Errors: `EmptyPath` without a path, else `EmptyValue` without a value,
-    /// `OutOfMemory`, or `Serde` exactly if one of the values contains, at any depth, a number that is neither an `i64`
+    /// path finds the values, with duplicates. Errors: `EmptyPath` without a path, else `EmptyValue` without a value;
+    /// `OutOfMemory`; or `Serde` exactly if one of the values contains, at any depth, a number that is neither an `i64`
     /// nor a `u64`, such as 1.5.
     ///
     /// ```text
@@ -141,9 +141,9 @@ impl<P: AnyPath, V: HeldValue> HeldPair<P, V> {
     }
 
     /// Deserializes each selected value to a `T`, in the order in which the path finds the values, with duplicates.
-    /// Errors: `EmptyPath` without a path, else `EmptyValue` without a value, `OutOfMemory`, or `Serde` if a selected
-    /// value contains a number that is neither an `i64` nor a `u64`, such as 1.5, even if `T` is `f64`, or if
-    /// `serde_json` can't make a `T` of it.
+    /// Errors: `EmptyPath` without a path, else `EmptyValue` without a value; `OutOfMemory`; or `Serde` if `serde_json`
+    /// can't make a `T` of a selected value. The error is also `Serde` if a selected value contains a number that is
+    /// neither an `i64` nor a `u64`, such as 1.5, even if `T` is `f64`.
     ///
     /// ```text
     /// let document = read_document(alloc, b"[1, 2, 3]")?;

@@ -23,7 +23,7 @@ pub type JsonSelector<'a> = HeldPair<Rc<PathParser<'a>>, &'a Value>;
 
 /// A selector, which is an object with a `PathParser` (a compiled path, which borrows its text and may be shared) and
 /// an owned document, which its updates change. Both are optional; each is the one set last. An update changes only the
-/// document; any error leaves it unchanged, except one that an update's closure returned.
+/// document. If an update returns an error, the document is unchanged, unless the update's closure returned this error.
 ///
 /// ```text
 /// let document = read_document(alloc, b"[1, 2, 3]")?;
@@ -96,9 +96,9 @@ impl<'p, V: HeldValue> HeldPair<Rc<PathParser<'p>>, V> {
         }
     }
 
-    /// Replaces the selector's path, as `reset_parser` does, but returns no `&mut Self`, so that its contract (its
-    /// proved specification) also says what the selector has after an error. The only error is `OutOfMemory`; nothing
-    /// has changed then.
+    /// Replaces the selector's path, as `reset_parser` does. It returns no `&mut Self`, so that its contract (its
+    /// proved specification) can also say what the selector has after an error. The only error is `OutOfMemory`;
+    /// nothing has changed then.
     ///
     /// ```text
     /// let mut held = JsonSelectorMut::new(alloc, compile_path(alloc, "$[1:]")?)?;

@@ -13,9 +13,9 @@ use crate::selectors::walked_path::{OfNode, WalkedPath};
 use serde_json::Value;
 use std::alloc::Global;
 
-/// A selector, which is an object with a compiled path, set as a path text or as a `Node` (a path that is compiled
-/// already), and a borrowed value to search. Both are optional; each is the one set last, by whichever call. A select
-/// call changes neither, successful or not, and stores no answer.
+/// A selector, which is an object with a compiled path and a borrowed value to search. The path is set as a path text
+/// or as a `Node`, a path that is compiled already. Path and value are optional; each is the one set last, by whichever
+/// call. A select call changes neither of them, whether it succeeds or not, and stores no answer.
 ///
 /// ```text
 /// let document = read_document(alloc, b"[1, 2, 3]")?;
@@ -28,8 +28,8 @@ use std::alloc::Global;
 pub type Selector<'a, 'b> = HeldPair<WalkedPath<'b>, &'a Value>;
 
 /// A selector, which is an object with a compiled path and an owned document, which its updates change. Both are
-/// optional; each is the one set last, by whichever call. An update changes only the document, and an error leaves it
-/// unchanged, unless a closure that makes the new values returned the error.
+/// optional; each is the one set last, by whichever call. An update changes only the document. If an update returns an
+/// error, the document is unchanged, unless the closure that makes the new values returned this error.
 ///
 /// ```text
 /// let document = read_document(alloc, b"[1, 2, 3]")?;
@@ -65,9 +65,9 @@ impl<P: OfNode + Drop, V: HeldValue> HeldPair<P, V> {
         }
     }
 
-    /// Compiles a path text and replaces the selector's path, as `str_path` does, but returns no `&mut Self`, so that
-    /// its contract (its proved specification) also says what the selector has after an error. Errors: `Path` exactly
-    /// if the text is outside the grammar, or `OutOfMemory`; nothing has changed then.
+    /// Compiles a path text and replaces the selector's path, as `str_path` does. It returns no `&mut Self`, so that
+    /// its contract (its proved specification) can also say what the selector has after an error. Errors: `Path`
+    /// exactly if the text is outside the grammar, or `OutOfMemory`; nothing has changed then.
     ///
     /// ```text
     /// let mut held = SelectorMut::new();

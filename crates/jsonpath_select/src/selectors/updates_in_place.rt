@@ -76,9 +76,9 @@ impl<P: AnyPath> HeldPair<P, Value> {
         path.set_in(alloc, value, new)
     }
 
-    /// Calls the closure once for each selected location, as `replace_with` does, but returns no `&mut Self`: `Some`
-    /// replaces the value, `None` removes it. Errors, before the closure is called: `EmptyPath` (no path), `EmptyValue`
-    /// (a path, no document), `OutOfMemory`.
+    /// Calls the closure once for each selected location below the root, as `replace_with` does, but returns no `&mut
+    /// Self`. The closure gets the value there: `Some` replaces it, `None` removes it. Errors, before the closure is
+    /// called: `EmptyPath` (no path), `EmptyValue` (a path, no document), `OutOfMemory`.
     ///
     /// ```text
     /// let mut held = SelectorMut::new();
@@ -105,11 +105,11 @@ impl<P: AnyPath> HeldPair<P, Value> {
         path.replace_in(alloc, value, fun)
     }
 
-    /// Calls the closure once for each selected location below the root that still exists, in document order (parents
-    /// before children, members by their names' bytes, items by index), with a reference to the value that earlier
-    /// updates left there: `Some` replaces the value, `None` removes it. The closure's first error ends the updates, as
-    /// `Refused`; the updates before it remain. Errors before the closure is called are `Unasked`: `EmptyPath` (no
-    /// path), `EmptyValue` (a path, no document), `OutOfMemory`.
+    /// Calls the closure once for each selected location below the root that still exists, with a reference to the
+    /// value that the earlier updates left there: `Some` replaces the value, `None` removes it. The locations come in
+    /// document order: parents before children, members by their names' bytes, items by index. The closure's first
+    /// error ends the updates and is returned as `Refused`; the updates before it remain. Errors before the closure is
+    /// called are `Unasked`: `EmptyPath` (no path), `EmptyValue` (a path, no document), `OutOfMemory`.
     ///
     /// ```text
     /// let mut held = SelectorMut::new();
