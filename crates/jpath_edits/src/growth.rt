@@ -36,7 +36,7 @@ pub enum Growth<'c, 'v> {
     Name(&'c str, &'c str),
 }
 
-/// The text of a document in which members or items were added or members renamed, and how many.
+/// The text of a document in which members or items were added or members renamed, and how many of them there were.
 #[derive(Drop)]
 pub struct Grown {
     /// The edited text.

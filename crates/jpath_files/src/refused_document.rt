@@ -16,7 +16,7 @@ use std::fmt::{self, Display, Formatter};
 /// What is wrong with a document of a file.
 #[derive(Clone, Copy, Debug, Drop, PartialEq, Eq)]
 pub enum Reason {
-    /// A byte of the document is wrong; the field says what could have been in its place.
+    /// A byte of the document is wrong; the field says what could have been in its place, or what is wrong with it.
     Wrong(Wanted),
     EndsTooEarly,
     /// The document can't be used, or memory ran out; the field says which, and why.

@@ -14,9 +14,9 @@ pub fn accepts_documents()
     ensures refused { (front : List ℕ) → after_all Value [] max_depth (map class_of front) ≡ refused → Begins front → ⊥ }
 {}
 
-/// Lemma: what the recognizer finds, a text's first document or its first wrong byte, is what the grammar of JSON
-/// determines: the bytes found are a document, or no document can continue with the byte found. If it finds neither,
-/// the text is the beginning of a document.
+/// Lemma: what the recognizer finds in a text is right by the grammar of JSON. If it finds the end of a document, the
+/// bytes up to there are a document. If it finds a wrong byte, documents can begin with the bytes before it, but none
+/// can continue with this byte. If it finds neither, the text is the beginning of a document, but no document itself.
 pub fn found_by_grammar()
     ensures { (text : List ℕ) → IsFound text (found_in text) }
 {}

@@ -16,8 +16,9 @@ use crate::step::plain_step::PlainStep;
 use crate::step::stride::{Stride, listed_names, plain_step_of_selection};
 use std::alloc::Global;
 
-/// Returns the children that a step other than a filter, such as `[0]`, selects from each node: node after node, those
-/// of one node in the order that `PlainStep` gives for the step, with duplicates.
+/// Returns the children that a step other than a filter, such as `[0]`, selects from each node, node after node, with
+/// duplicates. The children of one node come in the order that the comments of `PlainStep`, the type of the step, give
+/// for it.
 ///
 /// ```text
 /// let items = steps_on_marks::plain_step_from_each(alloc, &[&document], &PlainStep::Every)?;

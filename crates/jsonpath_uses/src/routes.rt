@@ -8,8 +8,8 @@ use jsonpath_lib::{AnyPath, JsonPathError, PathParser};
 use serde_json::Value;
 use std::alloc::Global;
 
-/// In a list of rules, the index, from 0, of the first whose path selects something in the message, or `None`. The only
-/// error is `OutOfMemory`.
+/// Returns the index, from 0, of the first of these rules, which are compiled paths, that selects something in the
+/// message; `None` if none does. The only error is `OutOfMemory`.
 pub fn first_route(
     alloc: Global,
     message: &Value,

@@ -43,8 +43,8 @@ pub trait Mark<'a>: Drop + Sized {
     fn value(&self) -> &'a Value
         ensures { document_of (view result.now) ≡ content self.now };
 
-    /// Appends to `out` the children of this node that the step `plain` selects, in the order that `PlainStep` gives
-    /// for this step, with duplicates.
+    /// Appends to `out` the children of this node that the step `plain` selects, with duplicates. Their order is the
+    /// one that the comments of `PlainStep`, the type of the step, give for it.
     fn add_selected_children(
         &self,
         alloc: Global,

@@ -29,9 +29,11 @@ pub enum Selection<'t> {
     Named(CowStr<'t, Global>),
     /// The members with these names, in an object, in the list's order.
     Listed(Vec<CowStr<'t, Global>>),
-    /// The item of an array at this index; a negative index counts from the end, at most back to the first item.
+    /// The item of an array at this index. A negative index counts from the end, and selects the first item if it
+    /// reaches beyond the front.
     Nth(i64),
-    /// The items of an array at these indexes, in the list's order; each index selects what `Nth` does.
+    /// The items of an array at these indexes, in the list's order. A negative index counts from the end, and selects
+    /// the first item if it reaches beyond the front.
     Union(&'t [i64]),
     /// A slice `from:to:step` of an array: the items at `from`, `from + step` and so on, before `to`. A negative `from`
     /// or `to` counts from the end. If missing, they are 0, the length and 1. A `step` of 0 selects nothing.

@@ -80,7 +80,7 @@ impl ValueWalker {
     }
 
     /// Selects, from each node that is an array, the item at this index, if there is one. A negative index counts from
-    /// the end; a negative index that reaches beyond the first item selects the first item.
+    /// the end, and selects the first item if it reaches beyond the front.
     ///
     /// ```text
     /// let last = ValueWalker::next_with_num(alloc, items.as_slice(), -1)?;
@@ -98,7 +98,8 @@ impl ValueWalker {
     }
 
     /// From each node that is an array, the items at these indexes, in the order in which the indexes are given. A
-    /// negative index counts from the end, at most back to the first item; an index past the end selects nothing.
+    /// negative index counts from the end, and selects the first item if it reaches beyond the front; an index past the
+    /// end selects nothing.
     ///
     /// ```text
     /// let found = ValueWalker::next_with_nums(alloc, items.as_slice(), &[2, 0])?;
@@ -165,7 +166,7 @@ impl ValueWalker {
 
     /// `..[num]`: goes through each node and all its descendants, in preorder (items by index, members by their names'
     /// bytes), and returns from each array the item at that index, if there is one. A negative index counts from the
-    /// end, at most back to the first item.
+    /// end, and selects the first item if it reaches beyond the front.
     ///
     /// ```text
     /// let found = ValueWalker::all_with_num(alloc, &root, 0)?;
