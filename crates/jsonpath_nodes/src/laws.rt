@@ -267,8 +267,8 @@ pub fn steps_lead_without_repeats()
     ensures kept { KeptHasNoRepeat }
 {}
 
-/// Lemma: in a `Value`, the names of each object, at any depth, ascend strictly. Unlike other lemmas, its call takes
-/// time: it goes through the whole value.
+/// Lemma: in a `Value`, the member names of each object, at any depth, ascend strictly by their bytes. Unlike other
+/// lemmas, its call takes time: it goes through the whole value.
 ///
 /// ```text
 /// laws::value_is_document(json);
@@ -304,7 +304,8 @@ fn object_is_document(members: &Map<String, Value>)
     }
 }
 
-/// Lemma: if the value is an object, its names ascend strictly. Nothing is said of the objects below it.
+/// Lemma: if the value is an object, its member names ascend strictly by their bytes. Nothing is said of the objects
+/// below it.
 ///
 /// ```text
 /// let document = read_document(alloc, br#"{"b":1,"a":2}"#)?;

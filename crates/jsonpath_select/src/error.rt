@@ -72,9 +72,8 @@ impl Error for JsonPathError {}
 
 impl JsonPathError {
     /// The byte position just after the wrong token or character of a syntax error; `None` for any other error. If that
-    /// token or character is the text's last, or the text ends too early, this position is the text's length. It is
-    /// returned then only for an error of `Parser`, whose message shows it by a row of `^`; for every other syntax
-    /// error with that reason, the result is `None`.
+    /// token or character is the text's last, or if the text ends too early, the result is `None`, too. But for an
+    /// error of `Parser` the result is then the text's length, which is the length of the row of `^` in its message.
     ///
     /// ```text
     /// match compile_path(alloc, "$.a[b]") {

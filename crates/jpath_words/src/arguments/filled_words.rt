@@ -17,7 +17,8 @@ use std::alloc::{AllocError, Global};
 #[derive(Drop)]
 pub struct FilledPaths<'a> {
     /// The texts of the options `-e`, in the order of the command line: paths, or with `--rows` also `NAME=PATH`.
-    /// Without `-e` it is empty if there are edits, and else has one text, the first word that belongs to no option.
+    /// Without `-e` this list is empty if there are edits; else it has one text, the first word that belongs to no
+    /// option.
     pub paths: Vec<String>,
     /// The path text of `--rows`: one element if that option is on the command line, else none.
     pub rows: Vec<String>,

@@ -8,7 +8,7 @@ pub enum Kind {
     /// Wrong bytes in place of a document: up to and including the first byte with which no document can continue, or
     /// up to the stream's end if that cuts a document short.
     Refused,
-    /// Blanks alone, possibly none, up to the end of the stream: it has no further document.
+    /// Blanks alone, possibly none, up to the end of the stream: the stream has no further document.
     Blanks,
 }
 

@@ -153,11 +153,11 @@ pub enum Token {
     OpenParenthesis(StrRange),
     /// The token `)`, with its span.
     CloseParenthesis(StrRange),
-    /// A word, that is, a run of characters without quotes, such as a name or a number, with its span.
+    /// A token that is a word (a run of characters without quotes, such as a name or a number), with its span.
     Key(StrRange),
-    /// A text in double quotes, with its span, quotes included.
+    /// A token that is a text in double quotes, with its span, quotes included.
     DoubleQuoted(StrRange),
-    /// A text in single quotes, with its span, quotes included.
+    /// A token that is a text in single quotes, with its span, quotes included.
     SingleQuoted(StrRange),
     /// The token `==`, with its span.
     Equal(StrRange),
@@ -175,7 +175,7 @@ pub enum Token {
     And(StrRange),
     /// The token `||`, with its span.
     Or(StrRange),
-    /// A run of blanks between tokens, as long as possible, with its span.
+    /// A token that is a run of blanks between other tokens, as long as possible, with its span.
     Whitespace(StrRange),
 }
 
