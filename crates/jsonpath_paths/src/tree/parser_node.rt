@@ -53,9 +53,10 @@ pub struct ParserStep {
 pub enum Inner {
     /// A step other than a filter: one token for its names, its indexes, its slice, or all children.
     Token(ParseToken),
-    /// A filter: of the values that it tests, the step selects those that meet this condition. The tested values are
-    /// those that the steps before it have selected. But if a path of the condition that begins with `@` has a step, as
-    /// in `@.a`, the items of an array are tested instead of the array.
+    /// A filter: of the values that it tests, the step selects those that meet this condition. It tests the values that
+    /// the steps before it have selected or, after `..`, what `..*` selects from them. But if a path of the condition
+    /// that begins with `@` has a step, as in `@.a`, each array among them is replaced by its items, and these again if
+    /// they are arrays.
     Filter(Condition),
 }
 
