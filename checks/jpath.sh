@@ -193,7 +193,7 @@ many = "{" + ",".join(f'"n{number}":{number}' for number in range(40)) + ',"n7":
 wants("jpath --keys -r '$'", 0, "".join(f"n{number}\n" for number in range(40)), given=many.encode())
 wants("jpath --lengths '$'", 0, "40\n", given=many.encode())
 for words in ["--keys --entries '$'", "--keys --lengths '$'", "--entries --lengths '$'", "--keys -l '$'", "--entries -L '$'", "--lengths -a '$'", "--keys -c '$'", "--keys -q '$'", "--lengths -S '$'",
-              "--lengths --tab '$'", "--keys --tab '$'", "--entries --seq '$'", "--keys --null '$.a'", "--keys --rows '$' -e '$' --csv"]:
+              "--lengths --tab '$'", "--keys --tab '$'", "--keys -p '$'", "--lengths -p '$'", "--entries --seq '$'", "--keys --null '$.a'", "--keys --rows '$' -e '$' --csv"]:
     wants(f"jpath {words} a.json", 2, "", "jpath: *")
 
 # control characters of a name are escaped in its location, so none breaks the columns of -L

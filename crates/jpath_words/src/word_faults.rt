@@ -80,7 +80,7 @@ fn parts_fault(flags: &Flags) -> Option<&'static str> {
     None
 }
 
-// The sentence for `--indent`, `--tab` and `-S` where they do not go with the other words, or `None`.
+// The sentence for `-p`, `--indent`, `--tab` and `-S` where they do not go with the other words, or `None`.
 fn layout_fault(words: &Words<'_>) -> Option<&'static str> {
     let flags = words.flags;
     let has_indent = flags.indent.is_some();
@@ -93,10 +93,13 @@ fn layout_fault(words: &Words<'_>) -> Option<&'static str> {
             "--indent, --tab and -S are about values: leave them, or -c, -l and --lengths, out",
         );
     }
-    if has_lines && flags.keys {
+    if (has_lines || flags.pretty) && flags.keys {
         return Some(
-            "--keys writes names alone: leave --indent and --tab out, or add values by --entries",
+            "--keys writes names alone: leave -p, --indent and --tab out, or add values by --entries",
         );
+    }
+    if flags.pretty && flags.lengths {
+        return Some("--lengths writes numbers alone: leave -p out");
     }
     None
 }
