@@ -23,14 +23,16 @@ pub struct NewMember<'m> {
     pub value: &'m str,
 }
 
-/// The text of a document in which one member has a new value. `query` is the path to the member. If it selects a
-/// value, that value is replaced, as `edit_text` does; else the member is added at the end of the object at
-/// `member.above`. If that location has no object, the text is returned unchanged. Every other byte of the text stays.
+/// Returns the text of a document in which one member is set. `query` is the path to this member; `member` gives the
+/// location of its object (`above`), its name, and the JSON text of its new value. If the path selects a value, this
+/// value is replaced, as `edit_text` does. If it selects nothing, the member is added at the end of the object at
+/// `member.above`; if there is no object at that location, the text is returned unchanged. Every other byte of the text
+/// stays.
 ///
-/// The edited text is read again before it is returned. Errors: `EditNests` if it nests too deep to be read, or if a
-/// value is to be replaced and the new one is no JSON; `EditDiffers` if what is read is not the edited document, which
-/// would be a fault of this library; `NotADocument` if a member is to be added and its value is no JSON or nests deeper
-/// than 127 levels; or `OutOfMemory`.
+/// The edited text is read again before it is returned. Errors: `EditNests` if the edited text nests too deep to be
+/// read, or if a value is to be replaced and the new value is no JSON; `EditDiffers` if what is read is not the edited
+/// document, which would be a fault of this library; `NotADocument` if a member is to be added and its value is no JSON
+/// or nests deeper than 127 levels; or `OutOfMemory`.
 pub fn add_member_text(
     alloc: Global,
     text: &str,

@@ -16,10 +16,10 @@ use std::alloc::Global;
 /// What an edit does with each value that the edit's path selects.
 #[derive(Clone, Copy, Debug, Drop)]
 pub enum Change<'c> {
-    /// Replaces each selected value by this JSON text.
+    /// A change of a document: each selected value is replaced by this JSON text.
     Put(&'c str),
-    /// Removes each selected member or item, together with the blanks before it and one comma: the one after it or, if
-    /// there is none, the one before it.
+    /// What an edit does: it removes each selected member or item from the document's text, together with the blanks
+    /// before it and one comma. This is the comma after it or, if there is none, the one before it.
     Take,
 }
 

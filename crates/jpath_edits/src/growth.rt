@@ -28,11 +28,13 @@ use std::str;
 /// member.
 #[derive(Clone, Copy, Debug, Drop)]
 pub enum Growth<'c, 'v> {
-    /// Adds a member with this name and this value at the end of an object that has no member of that name.
+    /// A change of an object: a member with this name and this value is added at its end. The object must have no
+    /// member of that name; if it has one, the edit fails.
     Member(&'c str, &'c Exact<'v>),
     /// Adds an item with this value at the end of an array.
     Item(&'c Exact<'v>),
-    /// Renames a member from the first name to the second, in an object that has no member of the second name.
+    /// A change of an object: a member is renamed from the first name to the second. The object must have no member of
+    /// the second name; if it has one, nothing is renamed.
     Name(&'c str, &'c str),
 }
 

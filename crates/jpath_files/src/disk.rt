@@ -11,26 +11,31 @@ use std::io;
 /// on the folder.
 #[derive(Clone, Copy, Drop)]
 pub enum Call<'a> {
-    /// Writes these bytes into the edited file, at this byte position.
+    /// A system call of an edit in place: writes these bytes into the edited file, at this byte position.
     WriteAt(&'a [u8], u64),
-    /// Truncates the edited file to this number of bytes, or extends it with zeros to this number.
+    /// A system call of an edit in place: it sets the length of the edited file to this number of bytes. A longer file
+    /// is truncated; a shorter one is extended with zero bytes.
     SetLen(u64),
     SyncFile,
     OpenFolder,
-    /// Removes the file at the path that was chosen for the new file, which is to replace the edited file. This may
-    /// also be a file that another program has put there. An error if there is no file.
+    /// A system call of an edit in place: it removes the file at the path that was chosen for the new file, by which
+    /// the edited file is to be replaced. The removed file is that new file, or one that another program has put there.
+    /// An error if there is no file at this path.
     Remove,
     /// Creates the new file beside the edited file and opens it; fails if a file already exists at its path. Its owner
     /// alone may read and write it.
     Create,
-    /// Changes the owner and the group of the new file to this user id and this group id.
+    /// A system call of an edit in place: changes the owner and the group of the new file, which is to replace the
+    /// edited file, to this user id and this group id.
     Give(u32, u32),
-    /// Appends these bytes to the new file.
+    /// A system call of an edit in place: appends these bytes to the new file, which is to replace the edited file.
     Write(&'a [u8]),
-    /// Sets the permissions of the new file to these permission bits.
+    /// A system call of an edit in place: sets the permissions of the new file, which is to replace the edited file, to
+    /// these permission bits.
     SetMode(u32),
     SyncNewFile,
-    /// Renames the new file to the name of the edited file, which it thereby replaces.
+    /// A system call of an edit in place: it renames the new file, which has the edited text, to the name of the edited
+    /// file. The new file thereby replaces the edited file.
     Rename,
     SyncFolder,
 }
@@ -38,7 +43,8 @@ pub enum Call<'a> {
 /// Which file to ask the system about: an edit in place has several, the edited one and the new one beside it.
 #[derive(Clone, Copy, Drop)]
 pub enum Place {
-    /// The file that is now at the path of the edited file: the edited file, or another one that has replaced it.
+    /// One of the files of an edit in place: the file that is now at the path of the edited file. It is the edited file
+    /// itself, or another file that has replaced it.
     Path,
     /// The file beside the edited one (in the same folder), at the path chosen for the new file that is to replace it:
     /// the new file, or a foreign file that is there instead.
@@ -52,8 +58,9 @@ pub enum Place {
 pub trait Disk {
     ghost state: { Self → DiskState };
 
-    /// Makes a system call on the edited file, on the new file beside it, or on their folder. An error if the system
-    /// call fails, or needs the new file or the open folder and there is none.
+    /// A method that implementors provide: makes this system call, which concerns the edited file, the new file beside
+    /// it, or their folder. It fails if the system call fails. It also fails if the system call needs the new file or
+    /// the open folder, and there is none.
     fn call(&mut self, call: Call<'_>) -> io::Result<()>
         ensures { Does call.entry (is_ok result) (state self.old) (state self.new) };
 

@@ -9,26 +9,32 @@ use std::io;
 /// Why a file could not be edited in place.
 #[derive(Debug, Drop)]
 pub enum EditFault {
-    /// The file is no regular file, but a folder, a pipe, a device or the like.
+    /// An error of an edit of a file in place: the file is no regular file, but a folder, a pipe, a device or the like.
     NotRegular,
-    /// The file has this number of names (hard links), and a new file in its place would replace only one of them.
+    /// An error of an edit of a file in place: the file has this number of names (hard links), more than one. A new
+    /// file in its place would replace only one of these names; under the others the old file would stay.
     HardLinks(u64),
-    /// Another program has a lock on the file.
+    /// An error of an edit of a file in place: another program has locked the file.
     Locked,
-    /// The file can't be locked.
+    /// An error of an edit in place: the file can't be locked. The field has the system's error.
     NoLock(io::Error),
-    /// The file, or the new file beside it, was changed by another program while the file was edited.
+    /// An error of an edit of a file in place: another program has changed the file, or the new file that was to
+    /// replace it, during the edit. The edit itself has changed nothing in the file.
     Changed,
-    /// The edited text is longer than a file may be (`ulimit -f`).
+    /// An error of an edit in place: the edited text is longer than the system allows a file to be (limit: `ulimit
+    /// -f`). The file is unchanged.
     TooLong,
-    /// The new file, which was to replace the edited file, can't have the edited file's owner, group and mode.
+    /// An error of an edit of a file in place: the new file that was to replace the edited file can't be given the
+    /// edited file's owner, group and mode. The edited file is unchanged.
     OwnerLost,
-    /// A write into the file failed: a part of the edited text is in it, and its old text can't be restored.
+    /// An error of an edit in place: a write into the edited file failed. A part of the edited text is in the file, and
+    /// the file's old text can't be restored.
     Torn(io::Error),
-    /// The edited text is in the file, but a call that forces the file's folder to the disk (`fsync`) failed: in a
-    /// crash the text may be lost.
+    /// An error of an edit of a file in place: the file has the edited text, but the system call `fsync`, which forces
+    /// the file's folder to the disk, failed. In a crash the edited text may be lost.
     Unsynced(io::Error),
-    /// A system call failed or memory ran out, and the file is as it was: nothing was changed yet, or all was restored.
+    /// An error of an edit in place: a system call failed or memory ran out. The file is as it was: nothing was changed
+    /// yet, or everything was restored.
     Failed(io::Error),
 }
 

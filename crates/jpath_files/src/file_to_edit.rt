@@ -18,9 +18,9 @@ const WAIT_MILLISECONDS: u64 = 20;
 /// How an edited text is written to a file: by a new file, or into the file itself.
 #[derive(Clone, Copy, Debug, Drop, PartialEq, Eq)]
 pub enum Way {
-    /// A new file with the edited text replaces the file.
+    /// A way in which an edited text is written to a file: a new file with this text replaces the old one.
     NewFile,
-    /// The edited text is written into the file itself.
+    /// A way to write an edited text to a file: into the file itself, without a new file.
     IntoFile,
 }
 

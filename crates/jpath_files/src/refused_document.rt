@@ -16,10 +16,12 @@ use std::fmt::{self, Display, Formatter};
 /// What is wrong with a document of a file.
 #[derive(Clone, Copy, Debug, Drop, PartialEq, Eq)]
 pub enum Reason {
-    /// A byte of the document is wrong; the field says what could have been in its place, or what is wrong with it.
+    /// An error in a document of a file: one of its bytes is wrong. The field says what could have been in place of
+    /// this byte, or what is wrong with it.
     Wrong(Wanted),
     EndsTooEarly,
-    /// The document can't be used, or memory ran out; the field says which, and why.
+    /// A reason why there is an error for a document: the document can't be used, or memory ran out. The field says
+    /// which of the two, and why.
     Other(DocumentRefusal),
 }
 

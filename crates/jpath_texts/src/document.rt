@@ -56,9 +56,10 @@ impl<'a> Document<'a> {
         Document::of_exact_tree(alloc, text, exact, compared)
     }
 
-    /// Makes a document from its exact tree, the tree with numbers as written that was read from this text. `compared`
-    /// says whether the filters of the paths to be run on it compare numbers, and with which number literals. Errors:
-    /// `HugeExponent` if numbers are compared and an exponent doesn't fit in 128 bits, or `OutOfMemory`.
+    /// Makes a document from `exact`, its tree with each number as it is written. Precondition: `exact` was read from
+    /// `text`. `compared` says whether the filters of the paths that will be run on the document compare numbers, and
+    /// with which number literals. Errors: `HugeExponent` if they compare numbers and an exponent doesn't fit in 128
+    /// bits; or `OutOfMemory`.
     pub fn of_exact_tree(
         alloc: Global,
         text: &str,

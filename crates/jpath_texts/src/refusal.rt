@@ -5,14 +5,15 @@ use std::alloc::{AllocError, AllocFailed};
 /// Why `jpath` writes nothing for a text: it is no document, can't be edited or compared as asked, or memory ran out.
 #[derive(Clone, Copy, Debug, Drop, PartialEq, Eq)]
 pub enum DocumentRefusal {
-    /// The text is no JSON document, or it nests deeper than 127 levels.
+    /// An error: a text is no JSON document, or it nests deeper than 127 levels.
     NotADocument,
-    /// A filter compares numbers, and the document has a number whose exponent doesn't fit in 128 bits.
+    /// An error: a filter compares numbers, and the document has a number whose exponent doesn't fit in 128 bits.
     HugeExponent,
-    /// The edited document would nest too deep to be read again.
+    /// An error of an edit: the text of the edited document could not be read again, mostly because it would nest too
+    /// deep.
     EditNests,
-    /// The parts of the text that an edit would replace are not the values that its path selects, or the edited text,
-    /// read again, is not the changed document. Only a fault of the program could cause this error.
+    /// An error of an edit, which only a fault of the program could cause: the parts of the text that the edit would
+    /// replace are not the values that its path selects; or the edited text, read again, is not the changed document.
     EditDiffers,
     /// Memory ran out.
     OutOfMemory,

@@ -306,7 +306,7 @@ pub enum ArgumentWords<'a> {
 }
 
 impl<'a> ArgumentWords<'a> {
-    /// The name that the option sets, without the braces that are around it in a path.
+    /// The name that an option `--arg` or `--argjson` sets, without the braces that are around it in a path.
     pub fn name(&self) -> &'a str
         ensures { result.now ≡ argument_name self.now }
     {
@@ -365,7 +365,8 @@ pub struct Words<'a> {
     /// The options that say by what a placeholder `{NAME}` in paths is replaced: first each `--arg`, then each
     /// `--argjson`.
     pub arguments: Vec<ArgumentWords<'a>>,
-    /// The edit options, each with the words after it, in the order of the command line.
+    /// The edit options of the command line, in its order. Each is stored with the words that follow it: its path and,
+    /// for most options, a second word.
     pub edits: Vec<EditWords<'a>>,
     /// The words that belong to no option, in the order of the command line: the path first, unless paths are set by
     /// `-e` or edits, then the files.

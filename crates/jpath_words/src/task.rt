@@ -26,18 +26,21 @@ use std::slice;
 /// What `jpath` writes for each document: lines, an array, a count, a table, or the edited text.
 #[derive(Drop)]
 pub enum Task<'a> {
-    /// Writes lines for each value that the paths select, path by path, with duplicates. `Shown` says what the lines
-    /// show: the value, its location, both, its members or items, or its length.
+    /// A task of `jpath`: it writes lines for each value that the paths select, path by path, with duplicates. The
+    /// field of type `Shown` says what the lines show: the value, its location, both, its members or items, or its
+    /// length.
     Lines(Vec<Query<'a>>, Shown),
     /// Writes one JSON array for each document, with all values that the paths select, path by path, with duplicates.
     Array(Vec<Query<'a>>),
-    /// Writes, for each file, the number of values that the paths select in all its documents.
+    /// A task of `jpath`: it writes, for each file, the number of values that the paths select in all the documents of
+    /// the file.
     Count(Vec<Query<'a>>),
-    /// Writes nothing: only the exit status says whether the paths select any value.
+    /// A task of `jpath`: it writes nothing; only its exit status says whether the paths select any value.
     Quiet(Vec<Query<'a>>),
     /// Writes a table: a row for each value that one path selects, and in it a field for each of the other paths.
     Table(Table<'a>),
-    /// Writes each document with these edits made, one after another, in the order of the command line.
+    /// A task of `jpath`: it writes each document after these edits, which are made one after another, in the order of
+    /// the command line.
     Edits(Vec<Edit<'a>>),
 }
 
@@ -101,13 +104,16 @@ impl<'a> Wanted<'a> {
 /// Why `jpath` reads no document after its command line was parsed.
 #[derive(Drop)]
 pub enum Refused {
-    /// Options contradict each other, or an option or the path is missing; the sentence says what to write.
+    /// An error after the command line is parsed: options contradict each other, or an option or the path is missing.
+    /// The field is the sentence that is printed, which says what to write.
     Words(&'static str),
-    /// A path, the value of an edit, or an `--arg` or `--argjson` is wrong, which is printed already.
+    /// An error in the command line of `jpath`: a path, the value of an edit, or an option `--arg` or `--argjson` is
+    /// wrong. The message about it is already printed.
     Told,
     /// Memory ran out.
     OutOfMemory,
-    /// The option `--check` asked for nothing but a check of the paths, and they are well formed.
+    /// A reason why `jpath` reads no document: the option `--check` asked only for a check of the paths, and they are
+    /// well formed.
     Checked,
 }
 
@@ -133,9 +139,10 @@ impl<T: Drop> From<AllocFailed<T>> for Refused {
     }
 }
 
-/// Everything that the command line of `jpath` asks for: compiled paths, the task, the layout of lines and the files.
-/// Errors: `Words` if options contradict each other, or if an option or the path is missing; `Told` if a path or an
-/// edit's value is wrong, which is printed here; `Checked` if all is right and `--check` is set; or `OutOfMemory`.
+/// Works out from the parsed command line `words` all that `jpath` has to do: compiled paths, the task, the layout of
+/// lines and the files. Errors: `Words` if options contradict each other, or if an option or the path is missing;
+/// `Told` if a path or an edit's value is wrong, which is printed here; `Checked` if all is right and the option
+/// `--check` is set; or `OutOfMemory`.
 pub fn wanted_of_words<'a>(
     rt: &(impl Eprint + Alloc<A = Global>),
     words: &Words<'a>,

@@ -7,7 +7,8 @@ ghost use Rattle.json_recognizer.specs.Machine.{accepts, after_all, refused};
 ghost use Rattle.json_recognizer.specs.Grammar.{Begins, IsWritten, max_depth};
 ghost use Rattle.json_recognizer.specs.Stream.{IsFound, found_in};
 
-/// Lemma: the recognizer accepts a text exactly if it is a document by the grammar of JSON.
+/// Lemma: the recognizer, which checks a text byte by byte, accepts a text exactly if it is a JSON document nested at
+/// most 127 levels deep. If it rejects the beginning of a text, no such document begins so.
 pub fn accepts_documents()
     ensures accepted { (text : List Class) → accepts Value [] max_depth text ≡ true → IsWritten text }
     ensures written { (text : List Class) → IsWritten text → accepts Value [] max_depth text ≡ true }

@@ -63,8 +63,9 @@ fn first_in(is_object: bool) -> Mode
     }
 }
 
-/// Updates the recognizer's state by the next byte of a JSON text, given by its class, and returns true. If no JSON
-/// text can continue with this byte, returns false, and the state is unchanged.
+/// Updates `state`, the state of the recognizer, which checks a JSON text byte by byte. The next byte is given by its
+/// class (bytes of one class are allowed in the same places). Returns true; or false, with the state unchanged, if no
+/// JSON text can continue with this byte.
 #[inline(always)]
 pub fn take(state: &mut State, class: Class) -> bool
     requires { state.old.depth ≤ max_depth }

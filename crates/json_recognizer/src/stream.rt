@@ -16,12 +16,14 @@ use crate::words::{letter_move, word_len};
 /// The result of searching the next bytes of a stream for the end of the document that is being read.
 #[derive(Clone, Copy, Debug, Drop)]
 pub enum Found {
-    /// The document does not end in the bytes that were passed to the call; it may continue after them.
+    /// A result of searching some bytes for the end of a JSON document: the document does not end in these bytes, and
+    /// none of them is wrong. It may continue in later bytes.
     GoesOn,
-    /// The document ends after this number of the bytes that were passed to the call.
+    /// A result of the search for a document's end in the next bytes of a stream: the document ends after this number
+    /// of these bytes.
     Ends(usize),
-    /// The byte at this index, from 0, in the bytes that were passed to the call is wrong: no document can continue
-    /// with it.
+    /// A result of searching some bytes for the end of a JSON document: the byte at this index, from 0, in these bytes
+    /// is wrong, that is, no document can continue with it.
     Refused(usize),
 }
 
@@ -115,7 +117,8 @@ fn pass(state: &mut State, bytes: &[u8]) -> usize
     }
 }
 
-/// Whether a document is complete in this state of the recognizer, if the stream ends here.
+/// Whether the bytes read so far are a complete document, if the stream ends here. `state` is the state of the
+/// recognizer, which checks a JSON text byte by byte.
 pub fn is_final(state: &State) -> bool
     requires { state.now.depth ≤ max_depth }
     ensures { result ≡ is_final state.now.mode (frames state.now.depth state.now.kinds) }

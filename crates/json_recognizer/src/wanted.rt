@@ -22,25 +22,30 @@ pub enum Wanted {
     Colon,
     CommaOrBracket,
     CommaOrBrace,
-    /// The wrong byte comes after the end of the document, where only blanks are allowed.
+    /// An error in a JSON text: the wrong byte comes after the end of the document. Only blanks are allowed there.
     End,
     Digit,
     DigitOrSign,
-    /// In place of the wrong byte the rest of `true`, `false` or `null` was expected, as at the second letter of `nan`.
+    /// A reason why a byte of a JSON text is wrong: in its place the rest of `true`, `false` or `null` was expected, as
+    /// at the second letter of `nan`.
     Word,
     HexDigit,
     Escape,
-    /// At the wrong byte, half of a surrogate pair is written as an escape, such as `\udc00`, without the other half.
+    /// An error in a JSON text: a quoted text has, as an escape such as `\udc00`, one half of a surrogate pair (two
+    /// escapes for one character) without the other half. The wrong byte is the first one that shows this.
     LoneSurrogate,
-    /// The wrong byte is a control character, which a quoted text can have only as an escape.
+    /// An error in a JSON text: the wrong byte is a control character inside a quoted text. There a control character
+    /// has to be written as an escape.
     Control,
     NotUtf8,
-    /// The wrong byte opens an array or object within 127 others, which is too deep.
+    /// An error in a JSON text: the wrong byte opens an array or object that would be inside 127 others. A text may
+    /// nest 127 levels deep, but no deeper.
     TooDeep,
-    /// The wrong byte is a closing bracket or brace that follows a comma.
+    /// An error in a JSON text: the wrong byte is a closing bracket or brace, and a comma comes before it, as in
+    /// `[1,]`.
     CommaBefore,
     Comment,
-    /// The wrong byte begins `NaN` or `Infinity`, which are no JSON.
+    /// A reason why a byte of a JSON text is wrong: it begins `NaN` or `Infinity`, which are no JSON.
     NotANumber,
 }
 

@@ -9,26 +9,29 @@ use std::time::{Duration, Instant};
 /// A call of the library whose time is measured.
 #[derive(Clone, Copy)]
 pub enum Action {
-    /// Asks what the compiled path selects, such as the values, or how many.
+    /// A call of the library that is timed: it asks what the compiled path selects in the document. The field says what
+    /// is asked for, such as the values or their number.
     Ask(Asked),
     /// Puts null at what the compiled path selects, in a copy of the document.
     Delete,
-    /// Removes, from a copy of the document, what the compiled path selects.
+    /// A call of the library that is timed: it removes, from a copy of the document, the values below the root that the
+    /// compiled path selects.
     Remove,
-    /// Compiles the path text.
+    /// A library call whose time is measured: it compiles the path text.
     Compile,
 }
 
 /// A question about what a compiled path selects in a document; the time of the answer is measured.
 #[derive(Clone, Copy)]
 pub enum Asked {
-    /// Asks for the values that the path selects.
+    /// A question whose answer is timed: which values does the compiled path select in the document?
     Values,
-    /// Asks for the nodes that the path selects, each a value with its location.
+    /// A question whose answer is timed: which nodes (values with their locations) does the compiled path select in the
+    /// document?
     Spots,
-    /// Asks for the number of values that the path selects.
+    /// A question whose answer is timed: how many values does the compiled path select in the document?
     Count,
-    /// Asks for the first value that the path selects, if there is one.
+    /// A call whose time is measured: it asks a compiled path for the first value that it selects, if there is one.
     First,
     /// Asks whether the path selects any value.
     Exists,
@@ -51,10 +54,11 @@ impl Action {
     }
 }
 
-/// Makes the call of `action` `count` times. Returns the total time, and the number of results of one call: how many
-/// values or nodes the path selects, for an update too; 0 or 1 for `First` and `Exists`; 1 for compiling. Each update
-/// changes a fresh copy of the document; making the copies is not timed. Errors: `path` is no path, memory ran out, or
-/// the clock can't be read.
+/// Runs the library call that `action` names (a selection, an update or a compilation) `count` times, and measures the
+/// time. Returns the total time and the number of results of one call: how many values or nodes the path selects (for
+/// an update, too); 0 or 1 for `First` and `Exists`; 1 for a compilation. Each update changes a fresh copy of the
+/// document; the time for making the copies is not counted. Errors: `path` is no path, memory ran out, or the clock
+/// can't be read.
 pub fn measure(
     rt: &HostRuntime,
     action: Action,

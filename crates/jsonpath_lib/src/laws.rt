@@ -51,10 +51,10 @@ pub fn deletes_and_removes_selected_location()
     putting_at_one_location();
 }
 
-/// Lemma: let a path select one fixed location alone in each document that has this location, and nothing in any other
-/// document; and let a closure always return the same result. Then replacing by the path and the closure is the same as
-/// updating this location: `Some` replaces the value there, `None` removes it. If the location is the root, nothing
-/// changes. Calling this lemma does not call `closure`.
+/// Lemma: let a path select one location alone in each document that has this location, and nothing in any other
+/// document; and let a closure always return the same result. Then replacing what the path selects by the closure's
+/// result only updates this location: `Some` replaces the value there, `None` removes it. Nothing changes if the
+/// location is the root or does not exist. The lemma takes the closure as its argument, but does not call it.
 ///
 /// ```text
 /// laws::replaces_selected_location(on);

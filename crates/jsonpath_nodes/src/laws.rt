@@ -76,8 +76,9 @@ pub fn equal_locations_are_same()
     ensures { (l m : Location) → location_cmp l m ≡ Equal → l ≡ m }
 {}
 
-/// Lemma: let a list of nodes and a list of locations be equally long, and each node be at the location with the same
-/// index. Then the locations that the nodes store are, in order, those of the second list.
+/// Lemma: let a list of nodes and a list of locations be equally long, and let each node have the location with the
+/// same index in the second list, and the document's value there. Then the list of the nodes' locations, in order, is
+/// the second list.
 ///
 /// ```text
 /// laws::spots_show_their_locations();
@@ -251,10 +252,11 @@ pub fn steps_keep_locations_apart()
     ensures kept { KeptStandApart }
 {}
 
-/// Lemma about lists of locations without repeats. The list of all locations at or below one location of a document has
-/// no repeats. If a list has none, neither has the list that results from it by a step that selects no child of a value
-/// twice. The same holds for `*`, if the member names of each object to which it is applied ascend, so that none is
-/// repeated. The same holds for the locations of the list that meet a filter's condition.
+/// Lemma: which lists of locations have no repeats. The list of all locations at or below one location has none, if in
+/// each object of the document the member names ascend. If a list has none, neither has the list of what a step selects
+/// from its locations. This assumes that the step has no name twice and, where it has several indexes, none twice and
+/// none negative; or, for `*`, that in each object at these locations the member names ascend. If a list has none,
+/// neither has the list of those of its locations that meet a filter's condition.
 ///
 /// ```text
 /// laws::steps_lead_without_repeats();

@@ -26,15 +26,15 @@ pub trait Tree: Copy + Drop {
     type Name: Copy;
     /// A handle to an array of the document.
     type Array: Copy;
-    /// A handle to an object of the document.
+    /// The type of a handle to an object of the document, through which its members are read.
     type Object: Copy;
     /// The state of an iteration over an array's items: those not yet returned.
     type ItemsLeft: Drop;
     /// The state of an iteration over an object's members: those not yet returned.
     type MembersLeft: Drop;
-    /// The type of the numbers that comparisons use.
+    /// An associated type, chosen by the implementor: the type of the numbers that comparisons use, such as `Decimal`.
     type Number: Drop;
-    /// The error that is returned for a value that can't be compared.
+    /// The type of the error that is returned if a comparison gets a value that can't be compared.
     type Error: Drop;
 
     ghost content: { Self → Document };
@@ -51,8 +51,8 @@ pub trait Tree: Copy + Drop {
     // A number as a whole number over a power of ten.
     ghost fraction_of: { Self.Number → ℤ × ℕ };
 
-    /// What a comparison uses of the value: its kind, and the content of a boolean, a number or a text. The error says
-    /// why the value can't be compared.
+    /// A method that implementors provide: returns what a comparison uses of this value, namely its kind, and the
+    /// content of a boolean, a number or a text. The error says why the value can't be compared.
     fn atom(&self) -> Result<Atom<'_, Self::Number>, Self::Error>
         ensures { IfOk result (λ atom. seen_with fraction_of atom ≡ seen (content self.now)) };
 
@@ -97,8 +97,8 @@ pub trait Tree: Copy + Drop {
         ensures all { members_left result ≡ members object }
         ensures ordered { NamesAscend (members object) };
 
-    /// Returns the next member, its name and its value, of an iteration over an object, whose state is `left`; `None`
-    /// if no member is left.
+    /// A method that implementors provide: takes the next member from `left`, the members that an iteration over an
+    /// object has not returned yet. Returns the member's name and value, or `None` if no member is left.
     fn next_member(left: &mut Self::MembersLeft) -> Option<(Self::Name, Self)>
         ensures { MatchOption result (members_left left.old ≡ no_members) (λ p. members_left left.old ≡ member (name_bytes p.0) (content p.1) (members_left left.new)) };
 }

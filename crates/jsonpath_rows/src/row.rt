@@ -55,9 +55,9 @@ impl fmt::Display for Outcome {
     }
 }
 
-/// Runs a test case of the program `jsonpath_run`: calls the function `run` of that crate with the arguments and the
-/// input of `row`, and returns what it wrote and its exit status, also if it returns an error. The only error of this
-/// call is that memory ran out here.
+/// Runs a test case of the program `jsonpath_run`: calls the program's function `run` with the arguments and the input
+/// of `row`. Returns what `run` wrote and the exit status, also if `run` returns an error, which is then part of the
+/// result. This call itself fails only if it runs out of memory.
 pub fn outcome_of(alloc: Global, row: &Row) -> Result<Outcome, AllocError> {
     let words = row
         .words

@@ -12,14 +12,15 @@ use std::alloc::Global;
 /// token list (its syntax tree written out as a list). All of them have to give the same answer.
 #[derive(Clone, Copy)]
 pub enum Method {
-    /// The test selects values by a `JsonSelector`, an object with a path and a document.
+    /// A way in which a test selects by a path: it selects values by a `JsonSelector`, an object that has a path and a
+    /// document.
     JsonSelector,
     /// The test selects values by a `Selector`, an object with a path and a document.
     Selector,
     /// The test selects nodes (values with their locations) by a `Selector`, an object with a path and a document.
     SelectorSpots,
-    /// The test passes the path's token list, which is its syntax tree written out as a list, first to `tokens_fit`,
-    /// which checks it, and then to `select_tokens`, which selects by it.
+    /// A way in which a test selects by a path: it passes the path's token list, which is its syntax tree written out
+    /// as a list, first to `tokens_fit`, which checks it, and then to `select_tokens`, which selects by it.
     TokenList,
     /// The test selects nodes by a `Selector`, and also by the function `select_path_in_any_order`, which has to select
     /// the same set of locations.

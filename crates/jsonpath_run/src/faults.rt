@@ -13,11 +13,13 @@ use std::fmt;
 /// ```
 #[derive(Debug, Drop)]
 pub enum Fault {
-    /// The command line is not valid: an unknown command, a wrong number of arguments, or one that is not UTF-8.
+    /// An error of the program `jsonpath_run`: its command line is not valid. It has an unknown command, a wrong number
+    /// of arguments, or an argument that is not UTF-8.
     Usage,
-    /// A path or the input has an error, the output has a number that can't be printed, or memory ran out.
+    /// An error of the program `jsonpath_run`: a path or the input is wrong, the output has a number that can't be
+    /// printed, or memory ran out.
     Refused(JsonPathError),
-    /// A read of the input or a write of the output failed.
+    /// An error of the program `jsonpath_run`: a read of its input or a write of its output failed.
     Io,
 }
 

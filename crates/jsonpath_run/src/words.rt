@@ -38,8 +38,9 @@ pub enum Command {
 pub struct Call<'w, 'a> {
     /// The command that the first argument names.
     pub command: Command,
-    /// The texts of the paths, in the order of the command line; they may have syntax errors. `parse_call` gives one or
-    /// more for `Mask`, and exactly one for every other command.
+    /// The path texts that follow the command on the command line, in order; they may have syntax errors. If
+    /// `parse_call`, which parses the command line, has made this list, it has one text or more for the command `mask`,
+    /// and exactly one for every other command.
     pub paths: &'w [&'a str],
 }
 

@@ -26,15 +26,18 @@ use std::fmt;
 pub enum JsonPathError {
     /// No path is set in the selector (a `Selector`, say); a value may be set or not. Printed as `path not set`.
     EmptyPath,
-    /// A path is set in the selector (a `Selector`, say), but no value. Printed as `json value not set`.
+    /// An error of a selector, an object such as `Selector` that has a path and a value to search: a path is set, but
+    /// no value. It is printed as `json value not set`.
     EmptyValue,
-    /// A text is no path. The message is `Eof` if the text ends too early or its last token or character is wrong, else
-    /// `Position:` and the byte position after the wrong token or character. Only an error of `Parser` has another
-    /// message: the path text and a line of `^`, one for each byte up to that position, or for each byte of the text
-    /// where others have `Eof`. Printed as `path error: `, a line end, the message and a line end.
+    /// An error: a text that was to be compiled is no path. The message is `Eof` if the text ends too early or its last
+    /// token or character is wrong, else `Position:` and the byte position just after the wrong token or character. An
+    /// error of `Parser`, which compiles to a path that owns its text, has another message: the path text and a line of
+    /// `^`, one for each byte up to that position, or for each byte of the text where others have `Eof`. The error is
+    /// printed as `path error: `, a line end, the message and a line end.
     Path(String),
-    /// A text is no JSON, a value can't be deserialized to the wanted type, or a number to be printed or deserialized
-    /// is neither an `i64` nor a `u64`. Printed as `serde error: `, a line end, the message and a line end.
+    /// An error: a text is no JSON, a value can't be deserialized to the wanted type, or a number that has to be
+    /// printed or deserialized is neither an `i64` nor a `u64`. It is printed as `serde error: `, a line end, the
+    /// message in the field, and a line end.
     Serde(String),
     /// Out of memory. Printed as `out of memory`.
     OutOfMemory,
@@ -71,9 +74,10 @@ impl fmt::Debug for JsonPathError {
 impl Error for JsonPathError {}
 
 impl JsonPathError {
-    /// The byte position just after the wrong token or character of a syntax error; `None` for any other error. If that
-    /// token or character is the text's last, or if the text ends too early, the result is `None`, too. But for an
-    /// error of `Parser` the result is then the text's length, which is the length of the row of `^` in its message.
+    /// Returns the byte position just after the wrong token or character of a syntax error; `None` for any other error.
+    /// The result is also `None` if the text ends too early or its last token or character is wrong. In these two cases
+    /// an error of `Parser`, which compiles to a path that owns its text, gives the text's length instead: the length
+    /// of the row of `^` in its message.
     ///
     /// ```text
     /// match compile_path(alloc, "$.a[b]") {

@@ -175,8 +175,9 @@ pub fn dropping_repeats_keeps_the_set()
     steps_ignore_order_and_repeats();
 }
 
-/// Lemma: locations from which the remaining steps select nothing can be dropped: from the other locations alone, the
-/// steps select the same list, in the same order and with the same duplicates.
+/// Lemma: let some steps of a path be applied to a list of locations. The locations from which these steps select
+/// nothing can be left out of that list beforehand: from the other locations alone, the steps select the same list, in
+/// the same order and with the same duplicates.
 ///
 /// ```text
 /// laws::what_leads_on_suffices();

@@ -108,7 +108,8 @@ pub fn exists(alloc: Global, json: &Value, path: &PathParser<'_>) -> Result<bool
     path.exists(alloc, json)
 }
 
-/// Puts null at what the path selects below the root. The only error is `OutOfMemory`; `value` is then unchanged.
+/// Puts null, in the document `value`, in place of each value that the path selects below the root. The only error is
+/// `OutOfMemory`; `value` is then unchanged.
 pub fn delete_in(
     alloc: Global,
     value: &mut Value,
@@ -134,7 +135,8 @@ pub fn remove_in(
     path.remove_in(alloc, value)
 }
 
-/// Replaces what the path selects below the root by copies of `new`. Error: `OutOfMemory`; `value` is then unchanged.
+/// Replaces, in the document `value`, each value that the path selects below the root by a copy of `new`. The only
+/// error is `OutOfMemory`; `value` is then unchanged.
 pub fn set_in(
     alloc: Global,
     value: &mut Value,

@@ -15,11 +15,14 @@ use std::alloc::{AllocError, Global};
 /// Why a run of the program `jpath` ends before its last document.
 #[derive(Clone, Copy, Debug, Drop, PartialEq, Eq)]
 pub enum Stop {
-    /// A write to standard output failed, or its reader has closed the pipe.
+    /// A reason why `jpath` ends before its last document: a write to standard output failed, or the reader of standard
+    /// output has closed the pipe.
     Output,
-    /// A match was found, and the option `--quiet` needs no more than one.
+    /// A reason why the program `jpath` ends before the last document: a match was found, and the option `--quiet`
+    /// needs only one.
     Found,
-    /// A document has an error, which is already printed, and the option `--keep-going` is not set.
+    /// A reason for which a run of `jpath` ends: a document has an error, which is already printed, and the option
+    /// `--keep-going` is not set.
     Document,
     /// Memory ran out.
     OutOfMemory,

@@ -52,12 +52,13 @@ pub fn may_answer_by_exact_tree(query: &Query<'_>) -> bool {
     path.absolute
 }
 
-/// Evaluates a path on an exact tree, the tree of a JSON text with each number as it is written. Appends a line with
-/// each selected value to `out`, in the order in which the path finds the values. `line` describes these lines, except
-/// for its field `shown`, which is not used; if `line` is `None`, nothing is appended. Returns how many values there
-/// are and whether fractions were compared. Returns `None` if the path or the document has to be evaluated on a copy of
-/// the tree with `serde_json`'s numbers instead. The only error is that memory ran out. After the error or `None`,
-/// `out` may end with a part of the lines.
+/// Evaluates the path `query` on an exact tree, the tree of a JSON text with each number as it is written. Appends a
+/// line with each selected value to `out`, in the order in which the path finds them. `line` describes these lines (its
+/// field `shown` is not used); if `line` is `None`, nothing is appended.
+///
+/// Returns how many values there are, and whether a filter compared a number that is no integer of 64 bits. Returns
+/// `None` if this path or document has to be evaluated on a copy of the tree with `serde_json`'s numbers instead. The
+/// only error is out of memory. After `None` or the error, `out` may end with a part of the lines.
 pub fn add_lines_by_exact_tree(
     alloc: Global,
     exact: &Exact<'_>,

@@ -25,16 +25,17 @@ use std::alloc::Global;
 /// How the copy of a document on which paths are run represents the document's numbers.
 #[derive(Drop)]
 pub enum Numbers {
-    /// Paths are run on the document as `serde_json` read it, with its numbers unchanged.
+    /// A way to represent a document's numbers where paths are run on it: unchanged, as `serde_json` read them.
     AsRead,
-    /// In the copy of the document on which paths are run, each number is multiplied by ten to this power, which makes
-    /// it an integer.
+    /// A way to represent a document's numbers in the copy of it on which paths are run: each number is multiplied by
+    /// ten to this power. The power is such that each number becomes an integer.
     Scaled(u32),
-    /// In the copy of the document on which paths are run, each number is replaced by an index: its `NumberKey` is at
-    /// this index, from 0, in this ascending list, which has each key once.
+    /// A way to represent numbers in the copy of a document on which paths are run: each number is replaced by its
+    /// rank. The field lists the numbers' keys (`NumberKey`s, which are ordered as their numbers are), ascending and
+    /// each once. The rank of a number is the index of its key in this list, from 0.
     Ranked(Vec<NumberKey>),
-    /// In the copy of the document on which paths are run, the same number is in place of every number. Only paths
-    /// whose filters compare no numbers are run on it.
+    /// How numbers are represented in the copy of a document on which paths are run: every number is replaced by one
+    /// and the same number. Such a copy is only used if the filters of the paths compare no numbers.
     Alike,
 }
 
@@ -89,10 +90,10 @@ impl Numbers {
         }
     }
 
-    /// Copies the token list of a path (its syntax tree written out as a list), and changes each number that a filter
-    /// compares as `self` changes the numbers of a document: `Scaled` multiplies the number by the same power of ten;
-    /// `Ranked` replaces it by the index, from 0, that its `NumberKey` has among the keys; the other variants keep it.
-    /// The only error is `OutOfMemory`.
+    /// Copies the token list of a path (its syntax tree written out as a list) for use with a document whose numbers
+    /// `self` has changed, and changes the numbers that filters compare in the same way. `Scaled` multiplies each of
+    /// them by the same power of ten. `Ranked` replaces each by the index, from 0, of its `NumberKey` in the list of
+    /// keys. The other variants keep them. The only error is `OutOfMemory`.
     pub fn tokens_with_literals_placed(
         &self,
         alloc: Global,

@@ -17,8 +17,9 @@ pub enum Separated {
     ByTabs,
 }
 
-/// Appends the header of a table to `out`: a row of CSV or TSV with these column names. The only error is that memory
-/// ran out; `out` may then end with a part of the row, or have lost all its content.
+/// Appends the header of a table to `out`: a row of these column names, as CSV or TSV. The only error is out of memory.
+/// After the error, `out` may end with a part of the row; or it may be empty, so that what it had before the call is
+/// lost, too.
 pub fn add_header(
     alloc: Global,
     names: &[&str],

@@ -6,11 +6,12 @@ ghost use Rattle.jpath_texts.specs.AtDepth.{is_compact, is_over_lines};
 /// Whether a JSON value is written on one line, or with its items and members on lines of their own.
 #[derive(Clone, Copy, Debug, Drop, PartialEq, Eq)]
 pub enum Layout {
-    /// The value is written on one line, without blanks.
+    /// A layout of a printed JSON value: on one line, without blanks.
     OneLine,
-    /// The value is written over several lines, indented by this number of blanks for each level.
+    /// A layout of a JSON value: it is written over several lines, each indented by this number of blanks for each
+    /// level of nesting.
     Blanks(usize),
-    /// The value is written over several lines, indented by a tab for each level.
+    /// A layout of a JSON value: it is written over several lines, each indented by one tab for each level of nesting.
     Tabs,
 }
 

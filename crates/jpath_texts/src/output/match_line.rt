@@ -11,29 +11,33 @@ use std::alloc::AllocError;
 /// items' indexes; or its length.
 #[derive(Clone, Copy, Debug, Drop, PartialEq, Eq)]
 pub enum Shown {
-    /// Prints the selected value.
+    /// A choice of what the printed lines show: the selected value itself.
     Values,
-    /// Prints the location of the selected value, as a normalized path such as `$['a'][0]`.
+    /// A choice of what the printed lines show: the location of the selected value, as a normalized path such as
+    /// `$['a'][0]`.
     Places,
-    /// Prints the location of the selected value, a tab and the value.
+    /// A choice of what the printed lines show: the location of the selected value, a tab, and the value.
     PlacesAndValues,
-    /// Prints a line for each member of the selected value with its name, or for each item with its index, from 0;
-    /// nothing for a value that is no object and no array.
+    /// What `jpath` prints for each selected value: if it is an object, a line with the name of each member; if it is
+    /// an array, a line with the index (from 0) of each item; nothing for any other value.
     Keys,
-    /// Prints the lines of `Keys`, each with a tab and the value of the member or item after its name or index.
+    /// What is printed for a selected value: a line for each of its members, with the name, a tab and the value, or for
+    /// each of its items, with the index (from 0), a tab and the value. Nothing is printed for a value that is neither
+    /// an object nor an array.
     Entries,
-    /// Prints how many members or items the selected value has, or characters if it is a text; null for other values.
+    /// What `jpath` prints for each selected value: its length. This is the number of items of an array, of members of
+    /// an object, or of characters of a text; for any other value, null is printed.
     Lengths,
 }
 
 /// What follows a selected value that is printed: a line feed, the byte 0, or nothing.
 #[derive(Clone, Copy, Debug, Drop, PartialEq, Eq)]
 pub enum LineEnd {
-    /// A printed value is followed by the byte 10, a line feed.
+    /// What is printed after each value: the byte 10, a line feed.
     LineFeed,
-    /// A printed value is followed by the byte 0.
+    /// What is printed after each value: the byte 0.
     Nul,
-    /// A printed value is followed by nothing: the next value comes at once.
+    /// What is printed after each value: nothing, so that the next value follows at once.
     Nothing,
 }
 

@@ -8,10 +8,10 @@ pub struct Piece<'p> {
     /// All bytes of a piece of a stream of documents, which is a document or wrong bytes in place of one, with the
     /// blanks before it. A malformed document ends with its first wrong byte, if any.
     pub bytes: &'p [u8],
-    /// The line and column in the stream at which this piece of it, a document or wrong bytes with the blanks before,
-    /// begins.
+    /// The line and column at which this piece of a stream begins. A piece is a document or wrong bytes in place of
+    /// one, with the blanks before it, or the blanks at the stream's end.
     pub place: LineColumn,
-    /// What the piece is: a document, wrong bytes in place of one, or blanks.
+    /// The kind of this piece of a stream: a document, wrong bytes in place of one, or blanks.
     pub kind: Kind,
     /// Whether a byte order mark comes before this piece of a stream, which is then the first one. The byte order mark
     /// is not in `bytes`.

@@ -14,7 +14,8 @@ use std::alloc::Global;
 pub struct Taken {
     /// How many matches the visited document has, as the visitor counts them, such as selected values.
     pub count: usize,
-    /// Whether the visits should stop, since the visitor needs no more documents of the stream.
+    /// Reported by a visitor of the documents of a stream, after it has visited one: true if no more documents should
+    /// be visited, since the visitor needs none.
     pub is_enough: bool,
 }
 
@@ -32,16 +33,17 @@ pub trait Visitor {
     // Why it may go no further.
     ghost stops: { Self → Self.Stop → Type 0 };
 
-    /// Called before each read of the stream, which may block: buffered output can be written first. An error ends the
-    /// visits.
+    /// A method of a visitor of a stream's documents: it is called before each read of the stream. Since the read may
+    /// block, the visitor can write buffered output first. If the method returns an error, the stream is not read
+    /// further, and no more documents are visited.
     fn before_read(&mut self) -> Result<(), Self::Stop>
         ensures written { written self.new ≡ written self.old }
         ensures stops { IfErr result (stops self.new) }
         ensures stay { StayGiven (gives self.old) (gives self.new) };
 
-    /// Writes the output for the next piece of a stream (a document, wrong bytes in place of one, or blanks), and
-    /// returns how many matches the document has and whether to stop. If it returns an error, it has written nothing of
-    /// the piece.
+    /// A method of a visitor of a stream: it writes the output for the next piece of the stream, which is a document,
+    /// wrong bytes in place of one, or the blanks at the end. It returns how many matches the visitor counts in this
+    /// piece, and whether no more pieces are needed. If it returns an error, it has written nothing for this piece.
     fn visit_piece(&mut self, piece: &Piece<'_>) -> Result<Taken, Self::Stop>
         ensures gives { IfOk result (λ taken. (text : List ℕ) × (written self.new ≡ written self.old ++ text)
             × gives self.new piece.now.kind piece.now.bytes.now taken text) }
@@ -55,13 +57,15 @@ pub trait Visitor {
 pub enum How<S> {
     /// The visits ended because the stream was read to its end, and each document was visited.
     Whole,
-    /// The visits ended because the visitor wanted no more documents.
+    /// Why the loop that calls a visitor for each document of a stream ended: the visitor needed no more documents.
     Enough,
-    /// The visits ended because the stream could not be read further; the field says why.
+    /// The function `visit_documents`, which calls a visitor for each document of a stream, ended because the stream
+    /// could not be read further. The field says why.
     ReadFailed(ReadFailure),
-    /// The visits ended because the visitor returned this error.
+    /// Why the loop that calls a visitor for each document of a stream ended: the visitor returned this error.
     Stopped(S),
-    /// The visits ended because the loop over the stream was run more often than 64 bits can count.
+    /// A reason why `visit_documents`, which calls a visitor for each document of a stream, has ended: its loop over
+    /// the stream has reached the limit of 2^64 - 1 rounds.
     Endless,
 }
 
@@ -70,7 +74,7 @@ pub enum How<S> {
 pub struct Ended<S> {
     /// How many matches the visited documents have together, or the greatest `usize` if there are more.
     pub count: usize,
-    /// Why the visits of the stream's documents ended.
+    /// Why the function `visit_documents` ended, which calls a visitor for each document of a stream.
     pub how: How<S>,
 }
 

@@ -57,9 +57,9 @@ pub fn fill_paths<'a>(
     })
 }
 
-/// Copies `words`, the parsed command line, and replaces each path text by the one that `filled` has for it. `filled`
-/// must have been made from `words`. The copy has no `--arg` and no `--argjson`, and only the files in its field
-/// `rest`. Errors: `Words` if there is no path, or `OutOfMemory`.
+/// Returns a copy of the parsed command line `words` in which each path text is replaced by the one that `filled` has
+/// for it. `filled` must have been made from `words`; this is not tested. The copy has no `--arg` and no `--argjson`,
+/// and its field `rest` has only the files. Errors: `Words` if there is no path, or `OutOfMemory`.
 pub fn words_with_paths<'a>(
     alloc: Global,
     words: &Words<'a>,

@@ -3,17 +3,18 @@
 /// What a piece of a stream of JSON documents is: a document, wrong bytes in place of one, or blanks.
 #[derive(Clone, Copy, Debug, Drop, PartialEq, Eq)]
 pub enum Kind {
-    /// A JSON document, perhaps with blanks before it.
+    /// A kind of piece of a stream: a JSON document, with the blanks before it if there are any.
     Document,
     /// Wrong bytes in place of a document: up to and including the first byte with which no document can continue, or
     /// up to the stream's end if that cuts a document short.
     Refused,
-    /// Blanks alone, possibly none, up to the end of the stream: the stream has no further document.
+    /// A kind of piece of a stream of documents: blanks alone, possibly none, up to the end of the stream. The stream
+    /// then has no further document.
     Blanks,
 }
 
-/// A position in a stream: line and column, both counted from 1, the column in bytes. Only `place_of_refusal` can
-/// return column 0.
+/// A position in a stream: line and column, both counted from 1, the column in bytes. Only the position of an error,
+/// from `place_of_refusal`, can have column 0: the stream then ends inside a document, just after a line end.
 #[derive(Clone, Copy, Debug, Drop, PartialEq, Eq)]
 pub struct LineColumn {
     pub line: usize,

@@ -15,7 +15,7 @@ const CHUNK: usize = 131072;
 /// Why a stream of documents could not be read further.
 #[derive(Clone, Copy, Debug, Drop, PartialEq, Eq)]
 pub enum ReadFailure {
-    /// A read of the stream failed.
+    /// An error of reading a stream of documents: a read of the stream failed.
     Failed,
     /// Memory ran out.
     OutOfMemory,
@@ -57,7 +57,8 @@ impl StreamBuffer {
     }
 
     /// Reads more bytes of the stream into the buffer, or records that the stream has ended. An error if the read fails
-    /// or memory runs out; the buffer's bytes then stay, but out of memory may lose the bytes just read.
+    /// or memory runs out. The bytes that were in the buffer before stay there even then; but if memory runs out, the
+    /// bytes that this call has just read may be lost.
     pub fn read_more<R: Input>(&mut self, reader: &mut R) -> Result<(), ReadFailure>
         requires ready { IsReady self.old }
         requires open { self.old.is_whole ≡ false }

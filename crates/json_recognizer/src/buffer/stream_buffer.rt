@@ -71,8 +71,9 @@ impl StreamBuffer {
         self.place
     }
 
-    /// If the stream's current piece is no document, but wrong bytes in place of one: whether the stream ends within
-    /// the piece, which is then cut short and has no wrong byte.
+    /// To be called if the stream's current piece is wrong bytes in place of a document: whether the piece is cut short
+    /// by the stream's end. If true, the stream ends inside the document, and no byte is wrong. If false, the last byte
+    /// of the piece is wrong. For any other piece the result means nothing.
     pub fn is_cut_short(&self) -> bool
         ensures cut { result ≡ true → wrong_in self.now ≡ Found.GoesOn }
         ensures byte { result ≡ false → wrong_in self.now ≡ Found.Refused (self.now.seen - self.now.start) }
@@ -80,9 +81,10 @@ impl StreamBuffer {
         self.end <= self.seen
     }
 
-    /// If the stream's current piece is no document, but wrong bytes in place of one: the line and column in the stream
-    /// of the first wrong byte. If the stream ends within the piece, those of the piece's last byte or, if this byte is
-    /// a line end, column 0 of the next line.
+    /// Returns the line and column in the stream of the first wrong byte of the current piece. If the stream ends
+    /// within this piece, returns those of the piece's last byte or, if this byte is a line end, column 0 of the next
+    /// line. Only to be called if the piece is wrong bytes in place of a document; for any other piece the result has
+    /// no meaning.
     pub fn place_of_refusal(&self) -> LineColumn
         requires { IsSound self.now }
         ensures { (passed stream : List ℕ) → StandsBehind self.now passed → (wrong_in self.now ≡ Found.GoesOn → piece_of self.now ≡ stream) → ((more : List ℕ) × (stream ≡ left self.now ++ more)) → result ≡ place_of (wrong_in self.now) passed stream }

@@ -23,7 +23,8 @@ use std::fmt;
 pub struct PathsFault {
     /// The index, from 0, of the first text of the list that is no path; `None` if memory ran out.
     pub index: Option<usize>,
-    /// The error itself: `Path`, with a message, for the first text that is no path; or `OutOfMemory`.
+    /// In the error of compiling a list of path texts: the cause. It is `Path`, with a message, for the first text that
+    /// is no path, or `OutOfMemory`.
     pub fault: JsonPathError,
 }
 
@@ -47,7 +48,8 @@ impl fmt::Debug for PathsFault {
 
 impl Error for PathsFault {}
 
-/// Converts the error to its field `fault`; the index is dropped.
+/// Converts the error of compiling a list of path texts to its cause, the field `fault`. The index of the wrong text,
+/// which the error also has, is dropped.
 impl From<PathsFault> for JsonPathError {
     ghost from_gives = { λ refused error. error ≡ refused.fault };
 

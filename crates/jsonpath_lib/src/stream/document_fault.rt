@@ -23,7 +23,8 @@ use std::fmt;
 /// ```
 #[derive(Clone, Copy, Debug, Drop, PartialEq, Eq)]
 pub enum FaultKind {
-    /// A byte is wrong: no document can continue with it. The error's position is that of this byte.
+    /// An error in a stream of documents: a byte is wrong, that is, no JSON document can continue with it. The error's
+    /// position is that of this byte.
     WrongByte,
     /// The stream ends inside a document. The error's position is that of the stream's last byte; if this is a line
     /// end, it is column 0 of the next line.
@@ -64,7 +65,8 @@ pub struct DocumentFault {
     pub error: JsonPathError,
 }
 
-/// Prints the field `error`: a message with the line and column, or `out of memory`.
+/// Prints an error of reading a stream of documents: its field `error`, which is a message that ends with the line and
+/// column, or `out of memory`.
 impl fmt::Display for DocumentFault {
     ghost output = { λ fault. Some (error_text fault.error) };
 
@@ -84,7 +86,8 @@ impl fmt::Debug for DocumentFault {
 
 impl Error for DocumentFault {}
 
-/// Converts the error to its field `error`, a message with the line and column, or `OutOfMemory`.
+/// Converts an error of reading a stream of documents to the error in its field `error`, which is a message that ends
+/// with the line and column, or `OutOfMemory`.
 impl From<DocumentFault> for JsonPathError {
     ghost from_gives = { λ fault error. error ≡ fault.error };
 

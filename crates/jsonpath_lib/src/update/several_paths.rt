@@ -34,14 +34,15 @@ use std::fmt;
 pub struct MaskFault {
     /// The index, from 0, of the first of the path texts that has a syntax error; `None` if memory ran out.
     pub index: Option<usize>,
-    /// The error itself: `Path`, with a message, for the first text that is no path; or `OutOfMemory`.
+    /// In the error of a change by several path texts: the cause. It is `Path`, with a message, for the first text that
+    /// is no path, or `OutOfMemory`.
     pub fault: JsonPathError,
-    /// The document that was to be changed, as it was before the call.
+    /// The document that was passed to the failed call in order to be changed. It is as it was before the call.
     pub value: Value,
 }
 
-/// Prints the word `path`, the index (from 0) of the wrong text in the list of path texts, a colon and the error's
-/// text; if the error has no index, the error's text alone.
+/// Prints an error of an update by several paths: the word `path`, the index (from 0) of the first path text that is no
+/// path, a colon and the error's message. If memory ran out, there is no such index, and the message alone is printed.
 impl fmt::Display for MaskFault {
     ghost output = { λ fault. Some (paths_fault_text fault.index fault.fault) };
 
@@ -60,7 +61,8 @@ impl fmt::Debug for MaskFault {
 
 impl Error for MaskFault {}
 
-/// Converts the error to its field `fault`; the index and the document are dropped.
+/// Converts the error of a change by several path texts to its cause, the field `fault`. The index of the wrong text
+/// and the document, which the error also has, are dropped.
 impl From<MaskFault> for JsonPathError {
     ghost from_gives = { λ refused error. error ≡ refused.fault };
 

@@ -22,16 +22,17 @@ pub enum Atom<'a, N = Decimal> {
     Null,
     /// The boolean `true` or `false`.
     Bool(bool),
-    /// A number. If `N` is `Decimal`, it is an `i64`, a `u64`, or a number literal of a path, which is exact to 18
-    /// decimal places.
+    /// A value as comparisons see it: a number, of the type `N`. If `N` is `Decimal`, it is an `i64`, a `u64`, or a
+    /// number literal of a path; such a literal is exact to 18 decimal places.
     Number(N),
-    /// The content of a text, without its quotes and with its escapes resolved.
+    /// A value as comparisons see it: a text, that is, a JSON string or a quoted text of a path. The field has its
+    /// content, without the quotes and with the escapes resolved.
     Text(&'a str),
     /// A number that is neither an `i64` nor a `u64`, such as 1.5. Its value is not kept: it satisfies `!=` alone.
     Unread,
     /// An array. Its items are not kept: comparisons don't use them.
     List,
-    /// An object. Its members are not kept: comparisons don't use them.
+    /// An object, as a value to be compared. Its members are not stored, since comparisons don't use them.
     Object,
 }
 

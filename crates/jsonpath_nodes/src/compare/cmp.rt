@@ -86,7 +86,8 @@ impl Compares for CmpEq {
     }
 }
 
-/// The comparison `!=`.
+/// The comparison `!=`. It is the only one of the six comparisons that holds between values of different kinds, such as
+/// a text and a number; this is what its method `default` returns.
 ///
 /// ```text
 /// assert!(rt; CmpNe.default());

@@ -21,7 +21,7 @@ use std::marker::Model;
 /// ```
 #[derive(Debug, Drop)]
 pub enum LocStep {
-    /// A step to the member of this name, in an object.
+    /// A step of a location (a normalized path): from an object to its member of this name.
     Name(String),
     /// A step to the item at this index, from 0, in an array.
     Index(usize),

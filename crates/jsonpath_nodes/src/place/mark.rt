@@ -19,12 +19,13 @@ use crate::step::{candidates, children, gather};
 use serde_json::Value;
 use std::alloc::Global;
 
-/// A selected node: either `&Value` (no location) or `Spot` (value with location). Evaluation code is generic over
-/// both.
+/// A trait of selected nodes. It has two implementors: `&Value`, a node without its location, and `Spot`, a node with
+/// its location. Evaluation code is generic over both. The only error of the methods that append nodes to a list is
+/// `NoMemory`; some of the nodes may then be appended already.
 ///
-/// In contracts (proved specifications), a list of `Mark`s is at a list of locations if both have the same length and
-/// each `Mark` has the value at the location with the same index; a `Spot` has this location, too. The only error of
-/// the calls that append is `NoMemory`; a part may have been appended then.
+/// Contracts (proved specifications) say that a list of nodes is at a list of locations. This means: both lists are
+/// equally long, and each node has the value at the location with the same index; if the node is a `Spot`, it also has
+/// this location.
 ///
 /// ```text
 /// let mut found = Vec::new(alloc);
@@ -90,7 +91,8 @@ pub trait Mark<'a>: Drop + Sized {
         ensures document { OnOk result (IsOrderedDocument (content self.now)) };
 }
 
-/// A node as a `&Value` is the value alone, without its location.
+/// Implements the trait `Mark` (a node of a document) for `&Value`: such a node has only its value, and does not keep
+/// its location.
 impl<'a> Mark<'a> for &'a Value {
     ghost located = { false };
 

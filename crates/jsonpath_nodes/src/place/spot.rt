@@ -32,9 +32,9 @@ use std::alloc::{AllocError, Global};
 /// ```
 #[derive(Clone, Copy, Debug)]
 pub enum PathStep<'a> {
-    /// A step to the member of this name, in an object.
+    /// A step of a location (a normalized path): from an object to its member of this name.
     Name(&'a str),
-    /// A step to the item at this index, from 0, in an array.
+    /// A step of a location (a normalized path): from an array to its item at this index, counted from 0.
     Index(usize),
 }
 

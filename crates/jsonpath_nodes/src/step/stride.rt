@@ -23,9 +23,10 @@ use std::borrow::CowStr;
 /// ```
 #[derive(Drop)]
 pub enum Selection<'t> {
-    /// `*`: all children of an array or object: items by index, members by their names' bytes.
+    /// A selector: `*`, which selects all children of an array or object, items by index, members in the order of their
+    /// names' bytes.
     Every,
-    /// The member with this name, in an object.
+    /// A name selector: from each object, it selects the member with this name.
     Named(CowStr<'t, Global>),
     /// The members with these names, in an object, in the list's order.
     Listed(Vec<CowStr<'t, Global>>),

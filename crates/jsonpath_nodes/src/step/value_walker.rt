@@ -115,8 +115,9 @@ impl ValueWalker {
         plain_step_from_each(alloc, spots, &PlainStep::Union(ns))
     }
 
-    /// A slice: from each array, the items at `from`, `from + step` and so on, before `to`. A negative `from` or `to`
-    /// counts from the end. If missing, `from` is 0, `to` the length, `step` 1. A `step` of 0 selects nothing.
+    /// Applies a slice to each node that is an array: selects its items at `from`, `from + step` and so on, before
+    /// `to`. A negative `from` or `to` counts from the end. If missing, `from` is 0, `to` the array's length, and
+    /// `step` 1. A `step` of 0 selects nothing.
     ///
     /// ```text
     /// let found = ValueWalker::next_with_range(alloc, items.as_slice(), Some(1), None, None)?;
@@ -182,8 +183,8 @@ impl ValueWalker {
         plain_step_from_all_below(alloc, spots, &PlainStep::Nth(n))
     }
 
-    /// Each of the nodes, followed by all its descendants in preorder: each value before its children, items by index,
-    /// members by name.
+    /// Returns the given nodes, each followed by all its descendants in preorder: each value comes before its children,
+    /// items by index, members by name.
     ///
     /// ```text
     /// let found = ValueWalker::below(alloc, &root)?;
@@ -218,10 +219,10 @@ impl ValueWalker {
         candidates::first_of_each_location(alloc, found)
     }
 
-    /// The values that a filter after `..` tests when it is applied to the nodes, if the filter has a relative query
-    /// with at least one segment, such as `@.a`. These are the descendants of the nodes that are not arrays. Their
-    /// order is that of `..*`, with each array replaced by its items (and these again, if they are arrays). Each
-    /// location is returned once, at its first occurrence.
+    /// Returns the values that a filter after `..` tests when it is applied to the given nodes, if the filter has a
+    /// relative query with at least one segment, such as `@.a`. These values are the descendants of the given nodes,
+    /// except those descendants that are arrays. Their order is that of `..*`, with each array replaced by its items
+    /// (and these again, if they are arrays). Each location is returned once, at its first occurrence.
     ///
     /// ```text
     /// let candidates = ValueWalker::candidates_below(alloc, &root)?;

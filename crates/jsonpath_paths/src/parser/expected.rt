@@ -22,8 +22,8 @@ use std::alloc::{AllocError, Global};
 /// ```
 #[derive(Clone, Copy, Debug, PartialEq, Eq)]
 pub enum Expected {
-    /// The path could go on with any token of this kind. `Kind::Key` means that any word (name or number without
-    /// quotes) is allowed, as it is after a dot.
+    /// What a path could go on with at a syntax error: any token of this kind. `Kind::Key` means that any word (a name
+    /// or number without quotes) is allowed, as it is after a dot.
     Token(Kind),
     /// A word (an unquoted token) that is an index, such as `0` or `-1`.
     Index,
@@ -32,7 +32,8 @@ pub enum Expected {
     /// A word (an unquoted token) that is `true` or `false` (in any letter case), an integer, or the part of a number
     /// before its decimal point.
     Literal,
-    /// A word (an unquoted token) that consists of the digits after the decimal point of a number.
+    /// What a path could go on with at a syntax error: a word (an unquoted token) that consists of digits, namely those
+    /// after the decimal point of a number.
     Fraction,
 }
 

@@ -22,7 +22,7 @@ use std::marker::Model;
 /// ```
 #[derive(Clone, Copy, Debug, PartialEq, Eq)]
 pub enum ReaderError {
-    /// No character is left: the text is read to its end.
+    /// An error of reading a text character by character: no character is left, since the text is read to its end.
     Eof,
 }
 
@@ -228,8 +228,8 @@ impl<'a> StrReader<'a> {
         self.text
     }
 
-    /// The part of the whole text at the span, which must be in the text and cut no character. The reader's position
-    /// stays. Named as in the Rust crate `jsonpath_lib`.
+    /// Returns the part of the reader's whole text that is at the span; the reader's position stays. Precondition: the
+    /// span is within the text and cuts no character. Named as in the Rust crate `jsonpath_lib`.
     ///
     /// ```text
     /// let mut reader = StrReader::new("ab.c");

@@ -115,8 +115,8 @@ impl<'a> TokenReader<'a> {
         }
     }
 
-    /// The part of the path text at the span, which must be in the text and cut no character. No token is taken. Named
-    /// as in the Rust crate `jsonpath_lib`.
+    /// Returns the part of the path text at this span, and takes no token. Precondition: the span lies within the text,
+    /// and neither of its ends is inside a character. Named as in the Rust crate `jsonpath_lib`.
     ///
     /// ```text
     /// let mut reader = TokenReader::new("store.book");

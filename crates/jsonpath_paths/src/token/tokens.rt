@@ -24,7 +24,7 @@ use std::fmt;
 /// ```
 #[derive(Clone, Copy, Debug, PartialEq, Eq)]
 pub enum TokenError {
-    /// The path text ends too early, or its last token or character is the wrong one.
+    /// A syntax error: the path text ends too early, or its last token or character is wrong.
     Eof,
     /// A syntax error at this byte position of the text. From `PathParser`, the wrong token or character ends there.
     /// From `Tokenizer`, and from `next_token` and `peek_token` of `TokenReader`, the wrong character begins there.
@@ -369,7 +369,8 @@ pub enum ParseToken {
     Absolute,
     /// The token that begins a path from the value that a filter tests, `@`.
     Relative,
-    /// The token that begins a step after a single dot: the step selects among the children of each node.
+    /// A token of a path's token list (the syntax tree written out as a list): it begins a step after a single dot,
+    /// such as `.a`. The step selects among the children of each node.
     In,
     /// The token that begins a step after `..`: the step selects among the children of each node that the steps before
     /// it have selected, and among the children of all descendants of these nodes.
@@ -378,9 +379,11 @@ pub enum ParseToken {
     All,
     /// The span of one name that a step selects, or of a quoted text that is a side of a comparison.
     Key(StrRange),
-    /// The spans of the names that a step selects, two or more, in the order of the path text.
+    /// A token of a path's token list (the syntax tree written out as a list): two or more names that one step selects.
+    /// Each name is given by its span in the path text, in the text's order.
     Keys(Items<StrRange>),
-    /// The `[` that opens a step.
+    /// A token of a path's token list (the syntax tree written out as a list): the `[` that opens a step in brackets,
+    /// such as `['a']`.
     Array,
     /// The `]` that ends a step.
     ArrayEof,
@@ -391,7 +394,7 @@ pub enum ParseToken {
     Range(Option<i64>, Option<i64>, Option<u64>),
     /// The indexes that a step selects, two or more, in the order of the path text.
     Union(Items<i64>),
-    /// One index that a step selects, or a number that is a side of a comparison.
+    /// A token: the single index that a step selects, or a number literal that is a side of a comparison.
     Number(Decimal),
     /// A boolean that is a side of a comparison.
     Bool(bool),

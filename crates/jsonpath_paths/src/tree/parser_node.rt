@@ -51,12 +51,13 @@ pub struct ParserStep {
 #[cycle(tree)]
 #[derive(Drop)]
 pub enum Inner {
-    /// A step other than a filter: one token for its names, its indexes, its slice, or all children.
+    /// What a step selects if it is no filter, given as one token: a name or several, an index or several, a slice, or
+    /// all children.
     Token(ParseToken),
-    /// A filter: of the values that it tests, the step selects those that meet this condition. It tests the values that
-    /// the steps before it have selected or, after `..`, what `..*` selects from them. But if a path of the condition
-    /// that begins with `@` has a step, as in `@.a`, each array among them is replaced by its items, and these again if
-    /// they are arrays.
+    /// A filter as what a step selects: of the values that it tests, the step selects those that meet this condition.
+    /// It tests the values that the steps before it have selected or, after `..`, what `..*` selects from them. But if
+    /// the condition has a path that begins with `@` and has a step, as in `@.a`, the filter does not test arrays: in
+    /// place of an array it tests its items, and in place of an item that is an array that array's items, and so on.
     Filter(Condition),
 }
 
@@ -91,9 +92,10 @@ pub enum Condition {
 #[cycle(tree)]
 #[derive(Drop)]
 pub enum Term {
-    /// A path: the comparison uses the values that it selects.
+    /// A side of a comparison in a filter: a path, whose selected values are compared.
     Path(ParserNode),
-    /// A literal, as a token: a quoted text as a `Key`, a number as a `Number`, or a boolean as a `Bool`.
+    /// A side of a comparison in a filter: a literal, given as a token. The token is a `Key` for a quoted text, a
+    /// `Number` for a number, a `Bool` for a boolean.
     Literal(ParseToken),
 }
 

@@ -48,9 +48,10 @@ pub trait ParserTokenHandler<V> {
     /// allowed.
     ghost takes: { Self → StrRange → V → Type 0 } = { λ _ _ _. Unit {0} };
 
-    /// Receives the next token of a path, or fails, for example when memory runs out; `failed` then returns true. It
-    /// may call `reader` on each span of the token, to get the part of the path text there. Precondition: what `reader`
-    /// returns for such a span satisfies the receiver's `takes`, a predicate that only proofs use.
+    /// Receives the next token of a path. If that fails, for example since memory runs out, `failed` returns true from
+    /// then on. For each span in the token, the receiver may call `reader`, the closure that is passed along, to get
+    /// what the path text has at this span. Precondition: each value that `reader` returns for a span is allowed by
+    /// `takes`, a predicate of this receiver that only proofs use.
     fn handle<R: Fn(&StrRange) -> V>(&mut self, token: &ParseToken, reader: &R)
         requires may { MayRead (R.pre reader.now) token.now }
         requires reads { (s : Bor StrRange) (v : V) → R.post reader.now s v → takes self.old s.now v }

@@ -25,9 +25,11 @@ use std::fmt;
 /// ```
 #[derive(Drop)]
 pub enum TryFault<E> {
-    /// An error of the library. The closure was not called, and the document is unchanged.
+    /// An error of an update by a closure: the library itself failed, for example because memory ran out, before it
+    /// called the closure. The document is unchanged.
     Unasked(JsonPathError),
-    /// The first error that the closure returned, which ended the updates. The updates before it remain.
+    /// An error of an update by a closure: the first error that the closure itself returned, with which the update
+    /// ended. The changes made before it remain.
     Refused(E),
 }
 

@@ -54,13 +54,15 @@ pub trait NodeVisitor {
     /// what it has received means nothing.
     ghost has_failed: { Self → Bool };
 
-    /// Receives the next token of a compiled path, or fails, as when memory runs out; `failed` then returns true.
+    /// A method that implementors provide: receives the next token of a compiled path. It may fail, for example if
+    /// memory runs out; from then on the method `failed` must return true.
     fn visit_token(&mut self, token: &ParseToken)
         ensures stays_failed { has_failed self.old ≡ true → has_failed self.new ≡ true }
         ensures given { has_failed self.new ≡ false → tokens self.new ≡ tokens self.old ++ token.now ∷ [] };
 
-    /// Called after the tokens of each side of a comparison; it does nothing, unless an implementation overrides it. It
-    /// must change neither `tokens` nor what `failed` returns.
+    /// A method that implementors may override; by default it does nothing. It is called after the tokens of each side
+    /// of a comparison were received. It must change neither `tokens`, which is for proofs the list of the tokens
+    /// received so far, nor what `failed` returns.
     fn end_term(&mut self)
         ensures failed { has_failed self.new ≡ has_failed self.old }
         ensures tokens { tokens self.new ≡ tokens self.old }
@@ -70,8 +72,8 @@ pub trait NodeVisitor {
     fn failed(&self) -> bool
         ensures { result ≡ has_failed self.now };
 
-    /// Passes the token list of the compiled path `node` (its syntax tree written out as a list) to this receiver,
-    /// token by token, also if it has failed to receive an earlier token.
+    /// Passes the compiled path `node` to this receiver as a list of tokens, one by one; the list is the path's syntax
+    /// tree written out. If the receiver fails to receive a token, the later tokens are passed to it all the same.
     final fn visit(&mut self, node: &Node)
         ensures stays_failed { has_failed self.old ≡ true → has_failed self.new ≡ true }
         ensures given { has_failed self.new ≡ false → (p : Path) → Spells node.now p → tokens self.new ≡ tokens self.old ++ path_tokens p }

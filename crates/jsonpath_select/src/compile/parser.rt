@@ -20,8 +20,9 @@ use std::fmt;
 /// ```
 #[derive(Drop)]
 pub enum ParseFault {
-    /// The text that was to be compiled is no path. The message is the text, a line end and a row of `^`: one for each
-    /// byte of the text up to the end of the wrong token, or one for each of its bytes if the text ends too early.
+    /// An error: the text that was to be compiled is no path. The message is the text, a line end and a row of `^`: one
+    /// for each byte of the text up to the end of the wrong token, or one for each of its bytes if the text ends too
+    /// early.
     Text(String),
     /// Memory ran out. Printed as `out of memory`.
     OutOfMemory,

@@ -16,12 +16,12 @@ use crate::update::single::update_at_steps;
 use serde_json::Value;
 use std::alloc::Global;
 
-/// Replaces the value at each location of a list by a copy of `new`, all at once. The root is skipped, and so is each
-/// location that doesn't exist, or that is below another location of the list, other than the root. The list must be in
-/// document order (parents before children, members by their names' bytes, items by index), each location once, as
-/// `compute_paths` returns it.
+/// Replaces the value at each location of a list by a copy of `new`. The root and locations that don't exist are
+/// skipped. A location that is below another one of the list is skipped, too, unless that other one is the root.
 ///
-/// The only error is `NoMemory`, and then the value is unchanged.
+/// Precondition: the list is in document order (parents before children, members by their names' bytes, items by index)
+/// and has each location once, as `compute_paths` returns it. The only error is `NoMemory`; the value is then
+/// unchanged.
 ///
 /// ```text
 /// let mut document = Value::from_str(alloc, "[1, [2, 3]]")?;

@@ -13,11 +13,13 @@ use crate::memory::NoMemory;
 use crate::place::location::{LocStep, Location};
 use serde_json::{Map, Value};
 
-/// Removes the values at all locations of a list, all at once: the other items of an array keep their order. The root
-/// and locations that don't exist are skipped.
+/// Removes the values at all locations of a list. The locations are those before the call: removing an item moves none
+/// of the others. The remaining items of an array keep their order; the root and locations that don't exist are
+/// skipped.
 ///
-/// The list must be in document order (parents before children, members by their names' bytes, items by index), each
-/// location once, as `compute_paths` returns it. Removing allocates no memory, so the call always returns `Ok`.
+/// Precondition: the list is in document order (parents before children, members by their names' bytes, items by index)
+/// and has each location once, as `compute_paths` returns it. Removing allocates no memory, so the call always returns
+/// `Ok`.
 ///
 /// ```text
 /// let mut document = Value::from_str(alloc, "[1, [2, 3]]")?;
