@@ -25,13 +25,14 @@ use std::alloc::Global;
 /// whether the edit's path selects the root.
 #[derive(Drop)]
 pub struct Edited {
-    /// The text of the edited document.
+    /// A field of the result of an edit: the text of the edited document.
     pub text: Vec<u8>,
-    /// For an edit that replaces or removes values: how many different locations below the root its path selects. For
-    /// an edit that adds or renames: how many members or items were added, or how many members were renamed.
+    /// A field of the result of an edit. For an edit that replaces or removes values: how many different locations
+    /// below the root its path selects. For an edit that adds or renames: how many members or items were added, or how
+    /// many members were renamed.
     pub targets: usize,
-    /// Whether the path of the edit selects the root, which can be neither replaced nor removed; false if members or
-    /// items were added, or members renamed.
+    /// A field of the result of an edit: whether the path of the edit selects the root, which can be neither replaced
+    /// nor removed. For an edit that adds members or items or renames members, it is always false.
     pub selects_root: bool,
 }
 

@@ -26,9 +26,9 @@ pub fn select_in_document<'v>(
     select_in_image(alloc, &document.image, &document.numbers, query)
 }
 
-/// The nodes that `query` selects with `image` as `$`, in the order in which its steps find them, with duplicates.
-/// `image` is the copy of a document on which paths are run, or a value in it; `numbers` says how it represents the
-/// document's numbers. The only error: `OutOfMemory`.
+/// The nodes that the compiled path `query` selects if `$` is the value `image`, in the order in which the path's steps
+/// find them, with duplicates. `image` is the copy of a document on which paths are run, or a value in this copy.
+/// `numbers` says how the copy represents the document's numbers. The only error is `OutOfMemory`.
 pub fn select_in_image<'v>(
     alloc: Global,
     image: &'v Value,

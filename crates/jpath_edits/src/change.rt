@@ -13,7 +13,7 @@ use json::Value as Exact;
 use jsonpath_nodes::Location;
 use std::alloc::Global;
 
-/// What an edit does with each value that the edit's path selects.
+/// What an edit does with each value that the edit's path selects: it replaces the value or removes it.
 #[derive(Clone, Copy, Debug, Drop)]
 pub enum Change<'c> {
     /// A change of a document: each selected value is replaced by this JSON text.

@@ -31,7 +31,7 @@ pub enum Growth<'c, 'v> {
     /// A change of an object: a member with this name and this value is added at its end. The object must have no
     /// member of that name; if it has one, the edit fails.
     Member(&'c str, &'c Exact<'v>),
-    /// Adds an item with this value at the end of an array.
+    /// A change of an array: an item with this value is added at its end.
     Item(&'c Exact<'v>),
     /// A change of an object: a member is renamed from the first name to the second. The object must have no member of
     /// the second name; if it has one, nothing is renamed.
@@ -41,10 +41,10 @@ pub enum Growth<'c, 'v> {
 /// The text of a document in which members or items were added or members renamed, and how many of them there were.
 #[derive(Drop)]
 pub struct Grown {
-    /// The edited text.
+    /// A field of the result of an edit that adds or renames: the text of the edited document.
     pub text: Vec<u8>,
-    /// How many members or items were added, or how many members were renamed. If an object has the old name several
-    /// times, each of these members is counted.
+    /// A field of the result of an edit that adds or renames: how many members or items were added, or how many members
+    /// were renamed. If an object has the old name several times, each of these members is counted.
     pub count: usize,
 }
 

@@ -7,8 +7,9 @@ ghost use Rattle.jpath_edits.specs.Changed.{below_root};
 use jsonpath_nodes::Location;
 use std::alloc::{AllocError, Global};
 
-/// The locations of a list except the root's; may be empty. The list must have each location once and be in document
-/// order, in which the root comes first, so that only the list's first location can be the root's.
+/// Returns the list without its first location if this is the root's, else the whole list. So if the list has each
+/// location once, in document order (in which the root comes first), the result has exactly the locations below the
+/// root. The result may be empty.
 pub fn locations_below_root(places: &[Location]) -> &[Location]
     ensures { result.now ≡ below_root places.now }
 {

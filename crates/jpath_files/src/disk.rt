@@ -22,8 +22,9 @@ pub enum Call<'a> {
     /// the edited file is to be replaced. The removed file is that new file, or one that another program has put there.
     /// An error if there is no file at this path.
     Remove,
-    /// Creates the new file beside the edited file and opens it; fails if a file already exists at its path. Its owner
-    /// alone may read and write it.
+    /// A system call of an edit in place: it creates and opens the new file, which is to replace the edited file, in
+    /// the same folder. Its owner alone may read and write it. The call fails if a file already exists at the path
+    /// chosen for the new file.
     Create,
     /// A system call of an edit in place: changes the owner and the group of the new file, which is to replace the
     /// edited file, to this user id and this group id.
@@ -49,7 +50,8 @@ pub enum Place {
     /// The file beside the edited one (in the same folder), at the path chosen for the new file that is to replace it:
     /// the new file, or a foreign file that is there instead.
     Beside,
-    /// The new file that this edit has created and opened beside the edited file, in order to replace it.
+    /// One of the files of an edit in place: the new file that this edit has created and opened in the folder of the
+    /// edited file, in order to replace the edited file.
     NewFile,
 }
 
@@ -64,13 +66,13 @@ pub trait Disk {
     fn call(&mut self, call: Call<'_>) -> io::Result<()>
         ensures { Does call.entry (is_ok result) (state self.old) (state self.new) };
 
-    /// What the system knows of the file that `place` names, one of the files of an edit in place: the owner, size,
-    /// times and so on of this file. An error if there is no such file, or the system call fails.
+    /// A method that implementors provide: returns what the system knows (owner, size, times and so on) of one of the
+    /// files of an edit in place, which `place` names. Fails if there is no such file, or if the system call fails.
     fn facts(&mut self, place: Place) -> io::Result<FileFacts>
         ensures { MatchResult result (λ facts. Tells (IsKnown place facts) (state self.old) (state self.new)) (λ _. state self.new ≡ state self.old) };
 
-    /// The greatest number of bytes that the system lets a file have (`ulimit -f`), or `u64::MAX` if there is no such
-    /// limit. Writing more would end the program.
+    /// Returns the greatest number of bytes that the system lets a file have (`ulimit -f`), or `u64::MAX` if there is
+    /// no such limit. Writing a longer file would end the program.
     fn size_limit(&mut self) -> u64
         ensures { state self.new ≡ state self.old };
 

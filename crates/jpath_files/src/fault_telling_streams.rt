@@ -30,8 +30,9 @@ impl<'r, T: Eprint, R: Read> Read for FaultTellingReader<'r, T, R> {
     }
 }
 
-/// A writer to standard output that prints each error of a write on standard error, and also returns it. It doesn't
-/// print that a write was interrupted, or that the pipe is closed; it reports a closed pipe by `is_pipe_closed`.
+/// A writer to standard output. If a write fails, it prints the error on standard error, and also returns it. Two
+/// errors are returned but not printed: the write was interrupted, or the pipe is closed. If the pipe is closed, the
+/// writer sets `is_pipe_closed` to true.
 #[derive(Drop)]
 pub struct FaultTellingWriter<'r, 'c, T, W> {
     pub rt: &'r T,

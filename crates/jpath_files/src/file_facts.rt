@@ -13,7 +13,7 @@ const RIGHTS: u32 = 0o7777;
 #[derive(Clone, Copy, Debug, Drop, PartialEq, Eq)]
 pub struct FileFacts {
     pub is_regular: bool,
-    /// How many names (hard links) the file has.
+    /// A field: how many names (hard links) the file has.
     pub links: u64,
     pub device: u64,
     pub inode: u64,

@@ -56,8 +56,8 @@ impl<W: Output> HeldOutput<W> {
         self.flush()
     }
 
-    /// Writes the output buffer to the writer. If a write fails, the bytes that were not written are still in the
-    /// buffer.
+    /// Writes all bytes of this output buffer to its writer; the buffer is then empty. If a write fails, its error is
+    /// returned, and the bytes that were not written are still in the buffer.
     pub fn flush(&mut self) -> Result<(), IoFailed>
         ensures same { W.written self.new.writer ++ self.new.bytes.items ≡ W.written self.old.writer ++ self.old.bytes.items }
         ensures flushed { OnOk result (self.new.bytes.items ≡ []) }

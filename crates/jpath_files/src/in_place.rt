@@ -15,12 +15,12 @@ use std::io::{self, ErrorKind};
 /// same owner, group and mode, is written beside the file, forced to the disk, and then replaces the file; or the bytes
 /// are written into the file itself.
 ///
-/// Errors: `TooLong`; `Changed` if the file was changed since it was opened; `OwnerLost` if a new file can't have its
-/// owner, group and mode; `Failed` if a system call failed or memory ran out; `Torn`; `Unsynced`. The file is then as
-/// it was, except after the last two: after `Torn`, it has a part of the new bytes, and its old content can't be
-/// restored; after `Unsynced`, it has all new bytes, but may lose them in a crash. A new file that has not replaced the
-/// file is removed if that is possible. The contract (proved specification) of this call assumes that what the system
-/// reported of both files was true.
+/// Errors: `TooLong` if the bytes are more than the system allows in a file; `Changed` if the file was changed since it
+/// was opened; `OwnerLost` if a new file can't have its owner, group and mode; `Failed` if a system call failed or
+/// memory ran out; `Torn`; `Unsynced`. The file is then as it was, except after the last two. After `Torn`, it has a
+/// part of the new bytes, and its old content can't be restored. After `Unsynced`, it has all new bytes, but may lose
+/// them in a crash. A new file that has not replaced the file is removed if that is possible. The contract (proved
+/// specification) of this call assumes that what the system reported of both files was true.
 pub fn put_in_place<D: Disk>(
     alloc: Global,
     disk: &mut D,

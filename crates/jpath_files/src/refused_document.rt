@@ -53,7 +53,7 @@ impl Display for Reason {
 /// line that `jpath` writes to standard error.
 #[derive(Clone, Copy, Debug, Drop)]
 pub struct RefusedDocument<'n> {
-    /// The name of the file that has the document.
+    /// A field of the error for a document of a file: the name of the file.
     pub name: &'n str,
     pub place: LineColumn,
     pub reason: Reason,
@@ -70,9 +70,10 @@ impl Display for RefusedDocument<'_> {
 }
 
 impl<'n> RefusedDocument<'n> {
-    /// Makes the error of a document of a file. `bytes` is the document, or wrong bytes in place of one, and begins at
-    /// `place` in the file. For `NotADocument`, the error's position is that of the first wrong byte, or the end of
-    /// `bytes` if they end within a document. For any other error, it is that of the first byte that is no blank.
+    /// Makes the error for a document of a file. `bytes` is the document, or wrong bytes in place of one, and begins at
+    /// `place` in the file; `refusal` is the cause. If `refusal` is `NotADocument` because a byte is wrong or `bytes`
+    /// ends too early, the error's position is that of the first wrong byte, or the end of `bytes`. In every other
+    /// case, such as a document that nests too deep, it is that of the first byte that is no blank.
     pub fn of_piece(
         name: &'n str,
         bytes: &[u8],

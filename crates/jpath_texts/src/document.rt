@@ -34,10 +34,11 @@ pub struct Document<'a> {
 }
 
 impl<'a> Document<'a> {
-    /// Reads a document from its text; `compared` says whether the filters of the paths to be run on it compare
-    /// numbers, and with which number literals. The tree borrows the text and `scratch`, which stores texts with their
-    /// escapes resolved. Errors: `NotADocument` if the text is no JSON document or nests deeper than 127 levels,
-    /// `HugeExponent` if numbers are compared and an exponent doesn't fit in 128 bits, or `OutOfMemory`.
+    /// Reads from a JSON text a `Document`: its exact tree, with numbers as written, and a copy on which paths can be
+    /// run. `compared` says whether the filters of these paths compare numbers, and with which number literals. The
+    /// exact tree borrows the text and `scratch`, which stores texts with their escapes resolved. Errors:
+    /// `NotADocument` if the text is no JSON document or nests deeper than 127 levels, `HugeExponent` if numbers are
+    /// compared and an exponent doesn't fit in 128 bits, or `OutOfMemory`.
     pub fn read(
         alloc: Global,
         text: &'a str,

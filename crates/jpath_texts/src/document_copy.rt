@@ -90,9 +90,9 @@ fn copy_members_if_numbers_fit(
 }
 
 /// Copies an exact tree, which keeps each number as written, to a `serde_json` value, with each number replaced as
-/// `numbers` says. `numbers` must be `Ranked`, with the keys of all the tree's numbers in its list, or `Alike`, which
-/// makes each number 0. Errors: `HugeExponent` if `numbers` is `Ranked` and an exponent doesn't fit in 128 bits, or
-/// `OutOfMemory`.
+/// `numbers` says. Precondition: `numbers` is `Alike`, which replaces each number by 0, or `Ranked`, which replaces
+/// each number by the index of its key in a list. This list must have the keys of all numbers of the tree. Errors:
+/// `HugeExponent` if `numbers` is `Ranked` and a number's exponent doesn't fit in 128 bits, or `OutOfMemory`.
 pub fn copy_with_numbers(
     alloc: Global,
     exact: &Exact<'_>,

@@ -23,8 +23,8 @@ pub struct Query<'a> {
 /// What the filters of some paths compare: whether they compare numbers, and which literal numbers they compare.
 #[derive(Drop)]
 pub struct Compared {
-    /// Whether some filter may compare numbers: it has a comparison of which neither side is a text literal or a
-    /// boolean literal.
+    /// A field of what the filters of some paths compare: whether a filter may compare numbers. This is so if a filter
+    /// has a comparison of which neither side is a text literal or a boolean literal.
     pub is_any: bool,
     /// The number literals that the filters of the paths compare, one for each time it is written; may be empty. The
     /// order doesn't matter.
@@ -61,7 +61,8 @@ impl<'a> Query<'a> {
         self.path.text()
     }
 
-    /// The path of this query, as a compiled `PathParser`.
+    /// Returns, as a `PathParser`, the compiled path of this `Query`; a `Query` is a compiled path stored with its
+    /// token list.
     pub fn path(&self) -> &PathParser<'a>
         ensures { result.now ≡ self.now.path }
     {
@@ -70,8 +71,8 @@ impl<'a> Query<'a> {
 }
 
 impl Compared {
-    /// What the filters of these paths compare: whether they compare numbers, and with which number literals. The only
-    /// error is `OutOfMemory`.
+    /// Returns what the filters of these compiled paths compare: whether they compare numbers, and with which number
+    /// literals. The only error is `OutOfMemory`.
     pub fn of_queries(alloc: Global, queries: &[Query<'_>]) -> Result<Compared, TokenError>
         ensures any { IfOk result (λ compared. All (λ q. q.compares ≡ true → compared.is_any ≡ true) queries.now) }
         ensures added { IfOk result (λ compared. All (λ q. HasSides compared.literals.items q.tokens.items (length q.tokens.items)) queries.now) }

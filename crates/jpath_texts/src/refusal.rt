@@ -2,7 +2,8 @@
 
 use std::alloc::{AllocError, AllocFailed};
 
-/// Why `jpath` writes nothing for a text: it is no document, can't be edited or compared as asked, or memory ran out.
+/// An error: the reason why `jpath` writes nothing for the text of a document. The text is no JSON document, or the
+/// document can't be edited or compared as asked, or memory ran out.
 #[derive(Clone, Copy, Debug, Drop, PartialEq, Eq)]
 pub enum DocumentRefusal {
     /// An error: a text is no JSON document, or it nests deeper than 127 levels.
@@ -15,7 +16,7 @@ pub enum DocumentRefusal {
     /// An error of an edit, which only a fault of the program could cause: the parts of the text that the edit would
     /// replace are not the values that its path selects; or the edited text, read again, is not the changed document.
     EditDiffers,
-    /// Memory ran out.
+    /// An error: memory ran out, so `jpath` writes nothing for a text.
     OutOfMemory,
 }
 

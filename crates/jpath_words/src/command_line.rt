@@ -247,20 +247,22 @@ pub enum EditWords<'a> {
     /// `--set-text PATH TEXT`: puts a text in place of each value that the path selects.
     SetText(&'a str, &'a str),
     /// `--add PATH JSON`: sets the member that PATH names to the value of a JSON text. If the object has no member of
-    /// that name, adds it; if the document has no object where the member belongs, nothing changes. PATH has only names
-    /// and indexes that are not negative, and ends with a name.
+    /// that name, adds it; if the document has no object where the member belongs, nothing changes. PATH must consist
+    /// of names and indexes that are not negative, and end with a name; otherwise `jpath` prints an error and reads no
+    /// document.
     Add(&'a str, &'a str),
     /// `--add-text PATH TEXT`: sets the member that PATH names to a text. If the object has no member of that name,
-    /// adds it; if the document has no object where the member belongs, nothing changes. PATH has only names and
-    /// indexes that are not negative, and ends with a name.
+    /// adds it; if the document has no object where the member belongs, nothing changes. PATH must consist of names and
+    /// indexes that are not negative, and end with a name; otherwise `jpath` prints an error and reads no document.
     AddText(&'a str, &'a str),
-    /// `--append PATH JSON`: adds the value of a JSON text at the end of each array that the path selects.
+    /// An edit option of the command line, `--append PATH JSON`: it adds the value of the text JSON at the end of each
+    /// array that PATH selects.
     Append(&'a str, &'a str),
     /// `--rename PATH NAME`: renames each member that the path selects to NAME.
     Rename(&'a str, &'a str),
-    /// `--null PATH`: puts null in place of each value that the path selects.
+    /// An edit option of the command line, `--null PATH`: it puts null in place of each value that PATH selects.
     Null(&'a str),
-    /// `--remove PATH`: removes each value that the path selects.
+    /// An edit option of `jpath`, `--remove PATH`: it removes each value that the path selects.
     Remove(&'a str),
 }
 
@@ -359,7 +361,8 @@ pub struct Flags {
 #[derive(Drop)]
 pub struct Words<'a> {
     pub flags: Flags,
-    /// The texts of the options `-e`, in the order of the command line: paths, or with `--rows` also `NAME=PATH`.
+    /// A field of the parsed command line: the text that follows each option `-e`, in the order of the command line.
+    /// Each text is a path; with the option `--rows` it may also be `NAME=PATH`.
     pub paths: Vec<&'a str>,
     pub rows: Option<&'a str>,
     /// The options that say by what a placeholder `{NAME}` in paths is replaced: first each `--arg`, then each
@@ -376,10 +379,11 @@ pub struct Words<'a> {
 /// The result of parsing the command line: its options and words, or the status with which to exit.
 #[derive(Drop)]
 pub enum ParseOutcome<'a> {
-    /// The options and words of the command line, parsed.
+    /// A result of parsing the command line: its options and words. The other possible result is that the program has
+    /// to exit.
     Words(Words<'a>),
-    /// The program has to exit with this status: 0 if help, the version or completions were asked for and are printed,
-    /// 2 if an option was wrong and the error is printed.
+    /// A result of parsing the command line: the program has to exit with this status. It is 0 if help, the version or
+    /// completions were asked for and are printed, and 2 if an option was wrong and the error is printed.
     Ended(u8),
 }
 

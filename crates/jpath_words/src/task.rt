@@ -30,7 +30,8 @@ pub enum Task<'a> {
     /// field of type `Shown` says what the lines show: the value, its location, both, its members or items, or its
     /// length.
     Lines(Vec<Query<'a>>, Shown),
-    /// Writes one JSON array for each document, with all values that the paths select, path by path, with duplicates.
+    /// A task of `jpath`: it writes, for each document, one JSON array with all values that the paths select, path by
+    /// path, with duplicates.
     Array(Vec<Query<'a>>),
     /// A task of `jpath`: it writes, for each file, the number of values that the paths select in all the documents of
     /// the file.
@@ -44,8 +45,9 @@ pub enum Task<'a> {
     Edits(Vec<Edit<'a>>),
 }
 
-/// The table that `jpath` writes. Each value that one path selects is a row. The columns have paths and names: these
-/// are two lists of equal length, both in the order of the options `-e`.
+/// A table that `jpath` writes: a row for each value that the path `rows` selects, and in it a field for each column.
+/// Each column has a path in the list `columns`, which is run on the row's value, and the name at the same index in the
+/// list `names`. Both lists are in the order of the options `-e` on the command line.
 #[derive(Drop)]
 pub struct Table<'a> {
     pub rows: Query<'a>,
@@ -62,11 +64,13 @@ pub struct Edit<'a> {
     pub query: Query<'a>,
     pub compared: Compared,
     pub words: EditWords<'a>,
-    /// The JSON text of the new value: the one that replaces each selected value, or that of the added member or item.
-    /// For a renaming it is the new name, in quotes; for a removal it is `null` and not used.
+    /// A field of an edit: the JSON text of the new value. This value replaces each selected value, or is the added
+    /// item or the value of the added member. For a renaming the text is the new name, in quotes; for a removal it is
+    /// `null` and not used.
     pub value: Vec<u8>,
-    /// For `--add` and `--add-text`, the member that the path names. For `--rename`, only the field `name` is used: it
-    /// is the old name, with which the path ends. `None` for other edits.
+    /// A field of an edit. For `--add` and `--add-text`, it is the member that the path names. For `--rename`, it has
+    /// the old name, with which the path ends, in its field `name`, and nothing else of it is used. `None` for other
+    /// edits.
     pub member: Option<NamedMember>,
 }
 
@@ -75,8 +79,9 @@ pub struct Edit<'a> {
 #[derive(Drop)]
 pub struct Wanted<'a> {
     pub task: Task<'a>,
-    /// What the filters of all paths compare: whether they compare numbers, and with which number literals. It is empty
-    /// if there are edits, since each `Edit` has its own.
+    /// A field: what the filters of all paths of the command line compare, that is, whether they compare numbers, and
+    /// with which number literals. If the task is to edit, the field says that nothing is compared: each `Edit` stores
+    /// this for its own path.
     pub compared: Compared,
     pub look: Look,
     pub files: Vec<&'a str>,
@@ -110,7 +115,7 @@ pub enum Refused {
     /// An error in the command line of `jpath`: a path, the value of an edit, or an option `--arg` or `--argjson` is
     /// wrong. The message about it is already printed.
     Told,
-    /// Memory ran out.
+    /// A reason why `jpath` reads no document after its command line was parsed: memory ran out.
     OutOfMemory,
     /// A reason why `jpath` reads no document: the option `--check` asked only for a check of the paths, and they are
     /// well formed.

@@ -16,13 +16,14 @@ use crate::moves::move_of;
 pub struct State {
     pub mode: Mode,
     pub depth: usize,
-    /// For each array or object that is open at this point of the JSON text, from the outermost one: true for an
-    /// object, false for an array. `depth` says how many are open, 127 at most: only the first `depth` elements count,
-    /// and the others mean nothing.
+    /// A field of the state of the recognizer, which checks a JSON text byte by byte. For each array or object that is
+    /// open after the bytes read so far, from the outermost one: true for an object, false for an array. The field
+    /// `depth` says how many are open, 127 at most: only the first `depth` elements count, and the others mean nothing.
     pub kinds: [bool; 127],
 }
 
-/// The state of the recognizer before the first byte of a document.
+/// Returns the state that the recognizer, which checks a JSON text byte by byte, has before the first byte of a
+/// document.
 #[inline(always)]
 pub fn start() -> State
     ensures is { next_of result ≡ goes Value [] max_depth }

@@ -290,8 +290,9 @@ fn take_byte(state: &mut State, byte: u8) -> Found
     found_behind(state)
 }
 
-/// Searches the next bytes of a stream, `piece`, for the end of the document being read, or for its first wrong byte;
-/// `GoesOn` if neither is found. `state`, which is updated, must be that of a document that is not over yet.
+/// Searches the next bytes of a stream, `piece`, for the end of the document being read, or for its first wrong byte.
+/// Returns `GoesOn` if neither is found. `state` is the state of the recognizer, which checks a JSON text byte by byte;
+/// the search updates it. Precondition: the document has not ended yet in this state.
 pub fn find_end(state: &mut State, piece: &[u8]) -> Found
     requires depth { state.old.depth ≤ max_depth }
     requires open { is_over state.old ≡ false }

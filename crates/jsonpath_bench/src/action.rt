@@ -6,13 +6,15 @@ use std::alloc::Global;
 use std::hint::black_box;
 use std::time::{Duration, Instant};
 
-/// A call of the library whose time is measured.
+/// What is timed: a call of the library. It asks what a path selects, changes a copy of the document, or compiles the
+/// path text.
 #[derive(Clone, Copy)]
 pub enum Action {
     /// A call of the library that is timed: it asks what the compiled path selects in the document. The field says what
     /// is asked for, such as the values or their number.
     Ask(Asked),
-    /// Puts null at what the compiled path selects, in a copy of the document.
+    /// A call of the library that is timed: in a copy of the document, it replaces by null what the compiled path
+    /// selects.
     Delete,
     /// A call of the library that is timed: it removes, from a copy of the document, the values below the root that the
     /// compiled path selects.
@@ -33,12 +35,13 @@ pub enum Asked {
     Count,
     /// A call whose time is measured: it asks a compiled path for the first value that it selects, if there is one.
     First,
-    /// Asks whether the path selects any value.
+    /// A question whose answer is timed: does the compiled path select any value in the document?
     Exists,
 }
 
 impl Action {
-    /// The action that a word of the command line names, such as `select`; `None` if the word names none.
+    /// Returns the `Action`, a call of the library that is to be timed, that this word of the command line names, such
+    /// as `select`; `None` if the word names none.
     pub fn of(word: &str) -> Option<Action> {
         match word {
             "select" => Some(Action::Ask(Asked::Values)),

@@ -24,8 +24,8 @@ ghost use Rattle.jsonpath_nodes.specs.step.Separate.{ApartHasNoRepeatFlat, OneIs
 
 use serde_json::{Map, Value};
 
-/// Lemma: contracts (proved specifications) describe a `Value` by its document, which has the same content, with each
-/// number as `serde_json` read it. Values with different content have different documents.
+/// Lemma: `Value`s with different content have different documents. The document of a `Value` is the form in which
+/// contracts (proved specifications) describe it: it has the same content, with each number as `serde_json` read it.
 ///
 /// ```text
 /// laws::documents_keep_data_apart();
@@ -252,11 +252,11 @@ pub fn steps_keep_locations_apart()
     ensures kept { KeptStandApart }
 {}
 
-/// Lemma: which lists of locations have no repeats. The list of all locations at or below one location has none, if in
-/// each object of the document the member names ascend. If a list has none, neither has the list of what a step selects
-/// from its locations. This assumes that the step has no name twice and, where it has several indexes, none twice and
-/// none negative; or, for `*`, that in each object at these locations the member names ascend. If a list has none,
-/// neither has the list of those of its locations that meet a filter's condition.
+/// Lemma: three kinds of lists have no location twice. First, the list of all locations at or below one location, if in
+/// each object of the document the names ascend. Second, what a step selects from a list that has no location twice, if
+/// the step has no name twice and, where it has several indexes, none twice and none negative; for `*`, the names in
+/// each object at these locations must ascend, too. Third, those locations of a list without repeats that meet a
+/// filter's condition.
 ///
 /// ```text
 /// laws::steps_lead_without_repeats();

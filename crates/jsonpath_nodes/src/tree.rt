@@ -14,23 +14,27 @@ pub(crate) mod of_value;
 use crate::compare::atom::Atom;
 use std::cmp::Ordering;
 
-/// A small handle to a value of a document, which can be copied; `&Value`, for example, is one. Steps and comparisons
-/// are generic over it.
+/// A trait: a small handle to a value of a document, which can be copied, such as `&Value`. The functions for steps and
+/// comparisons are generic over it.
 ///
 /// ```text
 /// let value = Value::Bool(true);
 /// assert!(rt; matches!(Tree::atom(&&value)?, Atom::Bool(true)));
 /// ```
 pub trait Tree: Copy + Drop {
-    /// The name of a member of an object, as the document stores it.
+    /// An associated type, chosen by the implementor: the name of a member of an object, as the document stores it.
     type Name: Copy;
-    /// A handle to an array of the document.
+    /// An associated type, chosen by the implementor: the type of a handle to an array of the document, through which
+    /// its items are read.
     type Array: Copy;
-    /// The type of a handle to an object of the document, through which its members are read.
+    /// An associated type, chosen by the implementor: the type of a handle to an object of the document, through which
+    /// its members are read.
     type Object: Copy;
-    /// The state of an iteration over an array's items: those not yet returned.
+    /// An associated type, chosen by the implementor: the state of an iteration over an array's items, that is, the
+    /// items that were not yet returned.
     type ItemsLeft: Drop;
-    /// The state of an iteration over an object's members: those not yet returned.
+    /// An associated type, chosen by the implementor: the state of an iteration over an object's members, that is, the
+    /// members not yet returned.
     type MembersLeft: Drop;
     /// An associated type, chosen by the implementor: the type of the numbers that comparisons use, such as `Decimal`.
     type Number: Drop;
@@ -56,16 +60,19 @@ pub trait Tree: Copy + Drop {
     fn atom(&self) -> Result<Atom<'_, Self::Number>, Self::Error>
         ensures { IfOk result (λ atom. seen_with fraction_of atom ≡ seen (content self.now)) };
 
-    /// Compares two numbers exactly.
+    /// A method that implementors provide: compares two numbers exactly, and returns their order: less, equal or
+    /// greater.
     fn compare_numbers(left: &Self::Number, right: &Self::Number) -> Ordering
         ensures { result ≡ fraction_order (fraction_of left.now) (fraction_of right.now) };
 
-    /// This value as a handle to an array; `None` if the value is no array.
+    /// A method that implementors provide: returns a handle to this value as an array, through which the items are
+    /// read; `None` if the value is no array.
     fn as_array(self) -> Option<Self::Array>
         ensures some { IfSome result (λ a. content self ≡ array (items a)) }
         ensures none { IfNone result (as_array (content self) ≡ None) };
 
-    /// This value as a handle to an object; `None` if the value is no object.
+    /// A method that implementors provide: returns a handle to this value as an object, through which the members are
+    /// read; `None` if the value is no object.
     fn as_object(self) -> Option<Self::Object>
         ensures some { IfSome result (λ o. content self ≡ object (members o)) }
         ensures none { IfNone result (as_object (content self) ≡ None) };
@@ -74,25 +81,29 @@ pub trait Tree: Copy + Drop {
     fn len(array: Self::Array) -> usize
         ensures { result ≡ items_len (items array) };
 
-    /// The item of an array at an index from 0; `None` if the array is shorter.
+    /// A method that implementors provide: returns the item of the array at this index, counted from 0; `None` if the
+    /// array has no item there.
     fn item_at(array: Self::Array, index: usize) -> Option<Self>
         ensures { option_map (λ v. content v) result ≡ get_item index (items array) };
 
-    /// The member with this name: its name as the object stores it, and its value; `None` if the object has none.
+    /// A method that implementors provide: returns the object's member with this name, as a pair of the name (as the
+    /// document stores it) and the value. Returns `None` if the object has no member with this name.
     fn member_named(object: Self::Object, name: &str) -> Option<(Self::Name, Self)>
         ensures key { IfSome result (λ p. name_bytes p.0 ≡ name.now) }
         ensures value { option_map (λ p. content p.1) result ≡ get_member name.now (members object) };
 
-    /// Starts an iteration over the items of an array, in their order, and returns its state.
+    /// A method that implementors provide: starts an iteration over the items of an array, in their order. Returns its
+    /// state, that is, the items not yet returned, which are all of them.
     fn each_item(array: Self::Array) -> Self::ItemsLeft
         ensures { items_left result ≡ items array };
 
-    /// Returns the next item of an iteration over an array, whose state is `left`; `None` if no item is left.
+    /// A method that implementors provide: takes the next item from `left`, the items that an iteration over an array
+    /// has not returned yet. Returns this item, or `None` if no item is left.
     fn next_item(left: &mut Self::ItemsLeft) -> Option<Self>
         ensures { MatchOption result (items_left left.old ≡ no_items) (λ v. items_left left.old ≡ item (content v) (items_left left.new)) };
 
-    /// Starts an iteration over the members of an object, in the order of their names' bytes, each name once, and
-    /// returns its state.
+    /// A method that implementors provide: starts an iteration over the members of an object, in the order of their
+    /// names' bytes, each name once, and returns the state of the iteration.
     fn each_member(object: Self::Object) -> Self::MembersLeft
         ensures all { members_left result ≡ members object }
         ensures ordered { NamesAscend (members object) };

@@ -15,20 +15,23 @@ pub enum Method {
     /// A way in which a test selects by a path: it selects values by a `JsonSelector`, an object that has a path and a
     /// document.
     JsonSelector,
-    /// The test selects values by a `Selector`, an object with a path and a document.
+    /// A way in which a test selects by a path: it selects values by a `Selector`, an object that has a path and a
+    /// document.
     Selector,
-    /// The test selects nodes (values with their locations) by a `Selector`, an object with a path and a document.
+    /// A way in which a test selects by a path: it selects nodes (values with their locations) by a `Selector`, an
+    /// object that has a path and a document.
     SelectorSpots,
     /// A way in which a test selects by a path: it passes the path's token list, which is its syntax tree written out
     /// as a list, first to `tokens_fit`, which checks it, and then to `select_tokens`, which selects by it.
     TokenList,
-    /// The test selects nodes by a `Selector`, and also by the function `select_path_in_any_order`, which has to select
-    /// the same set of locations.
+    /// A way in which a test selects by a path: it selects nodes by a `Selector`, an object that has a path and a
+    /// document. The function `select_path_in_any_order` has to select the same set of locations.
     Set,
 }
 
 impl Method {
-    /// The name, for an error message, of this way in which a test selects, such as `Selector`.
+    /// Returns the name of this way in which a test selects by a path, such as `Selector`. It is used in error
+    /// messages.
     pub fn name(self) -> &'static str {
         match self {
             Method::JsonSelector => "JsonSelector",

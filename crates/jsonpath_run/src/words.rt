@@ -36,7 +36,8 @@ pub enum Command {
 /// ```
 #[derive(Clone, Copy)]
 pub struct Call<'w, 'a> {
-    /// The command that the first argument names.
+    /// A field of the parsed command line of the program `jsonpath_run`: the command that the program's first argument
+    /// names.
     pub command: Command,
     /// The path texts that follow the command on the command line, in order; they may have syntax errors. If
     /// `parse_call`, which parses the command line, has made this list, it has one text or more for the command `mask`,

@@ -24,22 +24,23 @@ use std::fmt;
 /// ```
 #[derive(Drop)]
 pub enum JsonPathError {
-    /// No path is set in the selector (a `Selector`, say); a value may be set or not. Printed as `path not set`.
+    /// An error of a selector, an object such as `Selector` that has a path and a value to search: no path is set. A
+    /// value may be set or not. It is printed as `path not set`.
     EmptyPath,
     /// An error of a selector, an object such as `Selector` that has a path and a value to search: a path is set, but
     /// no value. It is printed as `json value not set`.
     EmptyValue,
-    /// An error: a text that was to be compiled is no path. The message is `Eof` if the text ends too early or its last
-    /// token or character is wrong, else `Position:` and the byte position just after the wrong token or character. An
-    /// error of `Parser`, which compiles to a path that owns its text, has another message: the path text and a line of
-    /// `^`, one for each byte up to that position, or for each byte of the text where others have `Eof`. The error is
-    /// printed as `path error: `, a line end, the message and a line end.
+    /// An error: a text that was to be compiled is no path. The field is the message: `Eof` if the text ends too early
+    /// or its last token or character is wrong, else `Position:` and the byte position just after the wrong token or
+    /// character. If the text was compiled by `Parser`, to a path that owns its text, the message is instead the path
+    /// text and a line of `^`: one for each byte up to that position, or for each byte of the text where the message
+    /// would be `Eof`. The error is printed as `path error: `, a line end, the message and a line end.
     Path(String),
     /// An error: a text is no JSON, a value can't be deserialized to the wanted type, or a number that has to be
     /// printed or deserialized is neither an `i64` nor a `u64`. It is printed as `serde error: `, a line end, the
     /// message in the field, and a line end.
     Serde(String),
-    /// Out of memory. Printed as `out of memory`.
+    /// An error: memory ran out. It is printed as `out of memory`.
     OutOfMemory,
 }
 
@@ -94,10 +95,11 @@ impl JsonPathError {
         }
     }
 
-    /// Shows where a syntax error is in `path`, the text that was compiled. Returns this text, a line end, and a `^`
-    /// for each byte of the text up to the end of the wrong token, or for all its bytes if the text ends too early. An
-    /// error of `Parser` has all this as its message already. Returns `None` if this error is no syntax error. The call
-    /// itself fails only if memory runs out.
+    /// Shows where in `path` this syntax error is; `path` has to be the text that was compiled, which is not tested.
+    /// Returns `path`, a line end, and a `^` for each byte of `path` up to the end of the wrong token, or for all its
+    /// bytes if the text ends too early. An error of `Parser`, which compiles to a path that owns its text, has the
+    /// same text as its message. Returns `None` if this error is no syntax error. The call itself fails only if memory
+    /// runs out.
     ///
     /// ```text
     /// let refused = compile_path(alloc, "$.a[b]")
@@ -148,8 +150,9 @@ fn path_with_carets_of_message(
     path_with_caret_row(alloc, path, end.min(path.len()))
 }
 
-/// Converts a token error: `Eof` and `Position` to `Path`, with the message `Eof` or `Position:` and the byte position;
-/// `OutOfMemory` to itself. If memory runs out for the message, the result is `OutOfMemory`.
+/// Converts a `TokenError` (the error of reading a path text) to a `JsonPathError`. `Eof` becomes `Path` with the
+/// message `Eof`. `Position` becomes `Path` with the message `Position:` followed by the byte position. `OutOfMemory`
+/// becomes `OutOfMemory`; so does any error if memory runs out for the message.
 ///
 /// ```text
 /// let error = path_error(alloc, &TokenError::Position(3));
@@ -187,7 +190,8 @@ pub fn error_of_parse_fault(alloc: Global, fault: &ParseFault) -> JsonPathError
     )
 }
 
-/// Converts an error of `Parser`: `Text` to `Path` with the same message, `OutOfMemory` to itself. Allocates no memory.
+/// Converts a `ParseFault`, the error of compiling a path text by `Parser`, to a `JsonPathError`. `Text` becomes `Path`
+/// with the same message, and `OutOfMemory` becomes `OutOfMemory`. The call allocates no memory.
 impl From<ParseFault> for JsonPathError {
     ghost use Rattle.jsonpath_select.specs.JsonPathErrors.{error_of};
     ghost use Rattle.std.specs.Prelude.{◌≡◌};

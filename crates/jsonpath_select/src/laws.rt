@@ -13,7 +13,8 @@ use jsonpath_paths::laws::{
     connective_joins_conditions, longest_front, one_tree_per_text, word_is_first_token,
 };
 
-/// Lemma: a path text always selects the same list in a document, whichever type is used to select.
+/// Lemma: for one path text and one document, there is only one list of selected locations, one of selected values and
+/// one of selected nodes. So all types by which one can select, such as `Selector`, select the same list by this text.
 ///
 /// ```text
 /// laws::one_selection_per_text();

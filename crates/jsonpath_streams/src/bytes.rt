@@ -19,7 +19,7 @@ pub struct Bytes<'a> {
 }
 
 impl<'a> Bytes<'a> {
-    /// An input that reads this slice of bytes from its front.
+    /// Makes a `Bytes`, an input that reads this slice of bytes from its front.
     ///
     /// ```text
     /// assert!(rt; !Input::failed(&Bytes::new(b"[1]")));

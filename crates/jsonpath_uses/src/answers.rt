@@ -29,9 +29,9 @@ pub fn price<'a>(alloc: Global, json: &'a Value) -> Result<Vec<&'a Value>, JsonP
     select(alloc, json, "$.price")
 }
 
-/// Returns a list with the value at the location alone, or an empty list if `json` has no such location. The location's
-/// text is compiled as a path for this. A path can have no index of 2^63 or more, so the location must have none
-/// either. The only error is `OutOfMemory`.
+/// Returns a list with only the value at the location, or an empty list if the document `json` has no such location.
+/// Precondition: each index in the location is below 2^63, since the location is printed and compiled as a path, and a
+/// path can have no larger index. The only error is `OutOfMemory`.
 pub fn value_at<'a>(
     alloc: Global,
     json: &'a Value,

@@ -59,8 +59,9 @@ pub fn select_by_second_path<'a>(
     held.select(alloc)
 }
 
-/// Sets a path in a `Selector`, once, and returns the values that it selects in `one` and those in `other`, each in the
-/// order in which the path finds them, with duplicates. Errors: `Path` if the text is no path, or `OutOfMemory`.
+/// Compiles a path text once, in a `Selector`, and selects by it in two documents, `one` and `other`. Returns two
+/// lists, the values selected in `one` and those selected in `other`, each in the order in which the path finds them,
+/// with duplicates. Errors: `Path` if the text is no path, or `OutOfMemory`.
 pub fn select_in_two_documents<'a>(
     alloc: Global,
     path: &str,

@@ -122,7 +122,8 @@ pub fn delete_in(
     path.delete_in(alloc, value)
 }
 
-/// Removes what the path selects below the root. The only error is `OutOfMemory`; `value` is then unchanged.
+/// Removes, from the document `value`, the values that the path selects below the root. The only error is
+/// `OutOfMemory`; `value` is then unchanged.
 pub fn remove_in(
     alloc: Global,
     value: &mut Value,
@@ -169,10 +170,11 @@ pub fn replace_in<F: FnMut(Value) -> Option<Value>>(
     path.replace_in(alloc, value, fun)
 }
 
-/// Replaces the value at each location that the path selects below the root, in document order (parents first), by the
-/// closure's result, or removes it at `None`. The closure's first error, as `Refused`, ends the updates; those before
-/// it remain. The only other error is `Unasked` with `OutOfMemory`: then the closure was not called, and nothing has
-/// changed.
+/// Calls the closure for each location that the path selects below the root and that still exists, in document order
+/// (parents first), with a reference to the value there. If the closure returns `Ok(Some(..))`, the new value replaces
+/// the old one; if it returns `Ok(None)`, the value is removed. The closure's first error ends the updates and is
+/// returned as `Refused`; the updates before it remain. The only other error is `Unasked` with `OutOfMemory`: memory
+/// ran out before the closure was called, and nothing has changed.
 pub fn try_replace_in<E, F: FnMut(&Value) -> Result<Option<Value>, E>>(
     alloc: Global,
     value: &mut Value,

@@ -24,7 +24,7 @@ pub enum Stop {
     /// A reason for which a run of `jpath` ends: a document has an error, which is already printed, and the option
     /// `--keep-going` is not set.
     Document,
-    /// Memory ran out.
+    /// A reason why `jpath` ends before its last document: memory ran out.
     OutOfMemory,
 }
 
@@ -67,8 +67,8 @@ pub struct DocumentVisitor<'r, 'w, T, W> {
 }
 
 impl<'r, 'w, T: Eprint + Alloc<A = Global>, W: Output> DocumentVisitor<'r, 'w, T, W> {
-    /// A visitor that has visited no document yet: no output is buffered, and no document had an error. `is_terminal`
-    /// says whether `writer` is a terminal, which gets control characters escaped.
+    /// Makes a visitor that has visited no document yet: no output is buffered, and no document had an error.
+    /// `is_terminal` says whether `writer` is a terminal, for which control characters in the output are escaped.
     pub fn new(
         rt: &'r T,
         wanted: &'r Wanted<'w>,

@@ -10,7 +10,8 @@ use std::alloc::{AllocError, Global};
 use std::str;
 
 /// What `jpath` keeps from one document of its input to the next: memory that reading the next document uses again, and
-/// a note of each edit that has changed a document, or for which a message said why it has not.
+/// a note for each edit of the command line. The note says whether the edit has changed some document, or a message has
+/// said why it changed none.
 #[derive(Drop)]
 pub struct Kept {
     pub scratch: Scratch,
@@ -45,14 +46,15 @@ impl Kept {
     }
 }
 
-/// Makes all edits in a document, one after another, and appends the text of the edited document to `out`. The text
-/// keeps its layout. But if `look` asks for several lines, the document is printed anew in that layout, with a line
-/// end. Returns the sum of the edits' `Edited::targets`. If an edit would replace or remove the root, or if the new
-/// name of a renaming is in use already, a message is printed on standard error; this is no error.
+/// Makes all edits in the document with the text `text`, one after another, and appends the text of the edited document
+/// to `out`. This text keeps the document's layout; but if `look`, which says how values are printed, asks for several
+/// lines, the document is printed anew in that layout, with a line end. Returns how many values, members or items the
+/// edits had to change, added up. If an edit would replace or remove the root, or if the new name of a renaming is in
+/// use already, a message is printed on standard error; this is no error.
 ///
 /// Errors: `NotADocument` if `text` is no JSON document; `HugeExponent` if a number can't be compared; `EditNests` if
-/// an edited text nests too deep; `EditDiffers` if it is not the edited document, a fault of the program; or
-/// `OutOfMemory`. `out` may then end with a part of the text.
+/// an edited text nests too deep; `EditDiffers` if an edited text, read again, is not the edited document, a fault of
+/// the program; or `OutOfMemory`. `out` may then end with a part of the text.
 pub fn add_edited_document(
     rt: &(impl Eprint + Alloc<A = Global>),
     edits: &[Edit<'_>],

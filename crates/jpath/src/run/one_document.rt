@@ -13,13 +13,15 @@ use json::Value as Exact;
 use std::alloc::Global;
 use std::str;
 
-/// Appends to `out` the output for one document, as the command line asks for it: lines, an array, a table, the edited
-/// text, or nothing for `--count` and `--quiet`. `name` is the file's name, `bytes` the document's text. Returns how
-/// many matches (selected values) the document has; for edits the sum of their `Edited::targets`.
+/// Appends to `out` what `jpath` writes for one document, as the command line asks for it: lines, an array, a table,
+/// the edited text, or nothing for `--count` and `--quiet`. `name` is the file's name, `bytes` the document's text.
+/// Returns how many matches (selected values) the document has. For edits, returns a sum over all edits: how many
+/// locations below the root each selected for replacing or removing, or how many members or items it added or renamed.
 ///
 /// Errors: `NotADocument` if `bytes` is no JSON document; `HugeExponent` if a number can't be compared; `EditNests` if
-/// an edited text nests too deep; `EditDiffers` if it is not the edited document, a fault of the program; or
-/// `OutOfMemory`. `out` may then end with a part of the output, or have lost all its content.
+/// an edited text nests too deep; `EditDiffers` if an edited text, read again, is not the edited document, which would
+/// be a fault of the program; or `OutOfMemory`. After an error, `out` may end with a part of the output, or have lost
+/// all its content.
 pub fn add_output_for_document(
     rt: &(impl Eprint + Alloc<A = Global>),
     wanted: &Wanted<'_>,

@@ -29,7 +29,8 @@ use std::mem;
 pub struct ExactOutcome {
     /// How many values the path selects in the document.
     pub count: usize,
-    /// Whether a filter compared a number that is not an integer of 64 bits. Such numbers are compared exactly.
+    /// A field of the result of evaluating a path: whether a filter compared a number that is not an integer of 64
+    /// bits. Filters compare such numbers exactly, too.
     pub has_fraction: bool,
 }
 

@@ -37,7 +37,8 @@ impl NumberKey {
         }
     }
 
-    /// The order of the two numbers that these keys were made of.
+    /// Compares two keys (`NumberKey`s), and returns the order, less, equal or greater, of the two numbers from which
+    /// they were made.
     pub fn compare(&self, other: &NumberKey) -> Ordering
         ensures { (s t : List ℕ) → IsKeyOf s self.now → IsKeyOf t other.now → result ≡ text_cmp s t }
     {

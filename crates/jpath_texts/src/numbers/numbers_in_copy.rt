@@ -90,10 +90,11 @@ impl Numbers {
         }
     }
 
-    /// Copies the token list of a path (its syntax tree written out as a list) for use with a document whose numbers
-    /// `self` has changed, and changes the numbers that filters compare in the same way. `Scaled` multiplies each of
-    /// them by the same power of ten. `Ranked` replaces each by the index, from 0, of its `NumberKey` in the list of
-    /// keys. The other variants keep them. The only error is `OutOfMemory`.
+    /// Returns a copy of the token list of a path (its syntax tree written out as a list), for use with a document
+    /// whose numbers were changed in the way that `self` says. In the copy, the numbers that filters compare are
+    /// changed in the same way. `Scaled` multiplies each of them by its power of ten; `Ranked` replaces each by the
+    /// index, from 0, of its `NumberKey` (by which numbers are ordered) in the list of keys; the other ways keep them.
+    /// The only error is `OutOfMemory`.
     pub fn tokens_with_literals_placed(
         &self,
         alloc: Global,

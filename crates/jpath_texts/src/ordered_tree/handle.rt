@@ -31,8 +31,8 @@ pub struct OrderedValue<'t, 'a> {
     ghost ordered: { is_ordered (value_view value.now) ≡ true },
 }
 
-/// An array in an exact tree, which is the tree of a JSON text with numbers as written. Each object in it has its names
-/// in the order of their bytes, each once.
+/// A handle to an array in an exact tree, which is the tree of a JSON text with each number as it is written. Each
+/// object inside this array, at any depth, has its names in the order of their bytes, each once.
 #[derive(Clone, Copy, Drop)]
 pub struct OrderedItems<'t, 'a> {
     items: &'t Vec<Exact<'a>>,
@@ -49,7 +49,8 @@ pub struct OrderedMembers<'t, 'a> {
     ghost ordered: { are_members_ordered (members_view members.now.items) ≡ true },
 }
 
-/// The state of an iteration over an array's items: those not yet returned.
+/// An associated type, chosen by the implementor: the state of an iteration over an array's items, that is, the items
+/// not yet returned.
 #[derive(Drop)]
 pub struct OrderedItemsLeft<'t, 'a> {
     items: std::slice::Iter<'t, Exact<'a>>,

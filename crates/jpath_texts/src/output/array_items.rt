@@ -32,9 +32,9 @@ pub fn add_array_item(
     }
 }
 
-/// Appends the closing bracket of a JSON array to `out`: on a line of its own if the array has items (`has_items`) and
-/// `look` puts each item on lines of its own. The only error is that memory ran out; `out` may then end with the white
-/// space before the bracket.
+/// Appends the closing bracket of a JSON array to `out`. The bracket is on a line of its own if the array has items
+/// (`has_items`) and `look`, which says how values are printed, puts each item on lines of its own. The only error is
+/// that memory ran out; `out` may then end with the white space before the bracket.
 pub fn add_array_end(out: &mut Vec<u8>, has_items: bool, look: Look) -> Result<(), AllocError>
     ensures { OnOk result (out.new.items ≡ out.old.items ++ array_end has_items look) }
 {

@@ -10,10 +10,11 @@ use std::mem;
 /// How the fields of a row of a table are separated: CSV or TSV.
 #[derive(Clone, Copy, Debug, Drop)]
 pub enum Separated {
-    /// CSV: fields are separated by commas; a field with a comma, a quote, a line end or a carriage return is quoted.
+    /// A format of a table's rows: CSV. The fields are separated by commas. A field with a comma, a quote, a line end
+    /// or a carriage return is written in quotes.
     ByCommas,
-    /// TSV: fields are separated by tabs; in a field, a tab, a line end, a carriage return and a backslash are written
-    /// `\t`, `\n`, `\r` and `\\`.
+    /// A format of a table's rows: TSV. The fields are separated by tabs. In a field, a tab is written `\t`, a line end
+    /// `\n`, a carriage return `\r`, and a backslash `\\`.
     ByTabs,
 }
 

@@ -16,7 +16,7 @@ pub enum Layout {
 }
 
 impl Layout {
-    /// Whether items and members are written on lines of their own.
+    /// Whether a JSON value in this layout is written over several lines, with items and members on lines of their own.
     pub fn is_over_lines(&self) -> bool
         ensures { result ≡ is_over_lines self.now }
     {
@@ -27,7 +27,8 @@ impl Layout {
     }
 }
 
-/// How a JSON value is printed.
+/// How a JSON value is printed: on one line or over several, in colours or not, with its members sorted or not, and a
+/// text with or without its quotes and escapes.
 #[derive(Clone, Copy, Debug, Drop)]
 pub struct Look {
     /// Whether a value that is itself a text is written without quotes and escapes. Texts inside an array or object
@@ -43,7 +44,8 @@ pub struct Look {
 }
 
 impl Look {
-    /// Whether a value is written on one line and without colours.
+    /// Returns whether this `Look`, which describes how JSON values are printed, prints them on one line and without
+    /// colours.
     pub fn is_compact(&self) -> bool
         ensures { result ≡ is_compact self.now }
     {

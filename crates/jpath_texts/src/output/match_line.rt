@@ -18,15 +18,15 @@ pub enum Shown {
     Places,
     /// A choice of what the printed lines show: the location of the selected value, a tab, and the value.
     PlacesAndValues,
-    /// What `jpath` prints for each selected value: if it is an object, a line with the name of each member; if it is
-    /// an array, a line with the index (from 0) of each item; nothing for any other value.
+    /// A choice of what `jpath` prints for each selected value: if it is an object, a line with the name of each
+    /// member; if it is an array, a line with the index (from 0) of each item; nothing for any other value.
     Keys,
     /// What is printed for a selected value: a line for each of its members, with the name, a tab and the value, or for
     /// each of its items, with the index (from 0), a tab and the value. Nothing is printed for a value that is neither
     /// an object nor an array.
     Entries,
-    /// What `jpath` prints for each selected value: its length. This is the number of items of an array, of members of
-    /// an object, or of characters of a text; for any other value, null is printed.
+    /// A choice of what `jpath` prints for each selected value: its length. This is the number of items of an array, of
+    /// members of an object, or of characters of a text; for any other value, null is printed.
     Lengths,
 }
 
@@ -45,21 +45,26 @@ pub enum LineEnd {
 /// layout.
 #[derive(Clone, Copy, Debug, Drop)]
 pub struct Line<'n> {
-    /// How the selected value is written: a string with or without its quotes and escapes, members in the order of
-    /// their names or not, indented over several lines or not, in colours or not.
+    /// A field of an output line for a selected value: how the value is written. It says whether a string is written
+    /// with its quotes and escapes, whether members are in the order of their names, whether the value is indented over
+    /// several lines, and whether it is in colours.
     pub look: Look,
-    /// What the line shows of the selected value, such as its location.
+    /// A field of an output line for a selected value: what the line shows of this value, such as the value itself or
+    /// its location.
     pub shown: Shown,
-    /// The name of a file to print at the front of the line, with a colon; `None` for no name.
+    /// A field: the name of the file that is printed, with a colon, at the front of the line; `None` if no name is
+    /// printed.
     pub name: Option<&'n str>,
     /// Whether the byte 30 (RS) is printed before the line, as before each text of a JSON text sequence.
     pub is_record: bool,
-    /// What is printed after the line: a line feed, the byte 0, or nothing.
+    /// A field of an output line for a selected value: what is printed after the line, namely a line feed, the byte 0,
+    /// or nothing.
     pub end: LineEnd,
 }
 
-/// Appends to `out` what begins each line: the byte 30 (RS) if `line.is_record`, then the file's name and a colon if
-/// `line.name` has one. The only error is that memory ran out; `out` may then end with a part of it.
+/// Appends to `out` what is printed before a line: the byte 30 (RS) if `line.is_record`, then the file name in
+/// `line.name` and a colon, or nothing if `line.name` is `None`. The only error is that memory ran out; `out` may then
+/// end with a part of this.
 pub fn add_line_start(out: &mut Vec<u8>, line: &Line<'_>) -> Result<(), AllocError>
     ensures { OnOk result (out.new.items ≡ out.old.items ++ (record_start line.now.is_record ++ named line.now.name)) }
 {
@@ -77,7 +82,8 @@ pub fn add_record_start(out: &mut Vec<u8>, is_record: bool) -> Result<(), AllocE
     Ok(())
 }
 
-/// Appends what follows a line to `out`: a line feed, the byte 0, or nothing. The only error is that memory ran out.
+/// Appends to `out` what `end` says, which is printed after a line: a line feed, the byte 0, or nothing. The only error
+/// is that memory ran out.
 pub fn add_line_end(out: &mut Vec<u8>, end: LineEnd) -> Result<(), AllocError>
     ensures { OnOk result (out.new.items ≡ out.old.items ++ line_end end) }
 {

@@ -29,10 +29,11 @@ pub fn add_compact_value(
     written
 }
 
-/// Appends the text of a value to `out`: raw, sorted, indented over lines, in colours, as `look` says. If an object has
-/// a name several times, the name is written once, where it occurs first, with its last value. If `look.is_sorted`, the
-/// members of each object are written in the order of their names' bytes. The only error is that memory ran out; `out`
-/// may then end with a part of the text.
+/// Appends to `out` the text of a value. `look` says how it is printed: a text with or without quotes and escapes,
+/// members sorted or not, on one line or over several, in colours or not. If an object has a name several times, the
+/// name is written once, where it occurs first, with its last value. If `look.is_sorted`, the members of each object
+/// are written in the order of their names' bytes. The only error is that memory ran out; `out` may then end with a
+/// part of the text.
 pub fn add_value_in_look(
     alloc: Global,
     out: &mut Vec<u8>,

@@ -5,11 +5,13 @@ use json_recognizer::{Kind, LineColumn};
 /// The next piece of a stream of documents: a document, wrong bytes in place of one, or blanks at the stream's end.
 #[derive(Clone, Copy, Debug, Drop)]
 pub struct Piece<'p> {
-    /// All bytes of a piece of a stream of documents, which is a document or wrong bytes in place of one, with the
-    /// blanks before it. A malformed document ends with its first wrong byte, if any.
+    /// All bytes of this piece of a stream: a document, or wrong bytes in place of one, with the blanks before it, or
+    /// the blanks at the stream's end. Wrong bytes end with the first byte with which no document can continue, or at
+    /// the stream's end.
     pub bytes: &'p [u8],
-    /// The line and column at which this piece of a stream begins. A piece is a document or wrong bytes in place of
-    /// one, with the blanks before it, or the blanks at the stream's end.
+    /// The line and column at which this piece of a stream begins. A piece is a document, wrong bytes in place of one,
+    /// or the blanks at the stream's end. Blanks before a document or wrong bytes belong to the piece, so it begins
+    /// with them.
     pub place: LineColumn,
     /// The kind of this piece of a stream: a document, wrong bytes in place of one, or blanks.
     pub kind: Kind,

@@ -12,16 +12,19 @@ use std::alloc::Global;
 /// What a visitor of documents reports after each document: how many matches the document has, and whether to stop.
 #[derive(Clone, Copy, Debug, Drop)]
 pub struct Taken {
-    /// How many matches the visited document has, as the visitor counts them, such as selected values.
+    /// A field of what a visitor of documents reports after each document: how many matches the document has, as the
+    /// visitor counts them, such as selected values.
     pub count: usize,
-    /// Reported by a visitor of the documents of a stream, after it has visited one: true if no more documents should
+    /// A field of what a visitor reports after it has visited a document of a stream: true if no more documents have to
     /// be visited, since the visitor needs none.
     pub is_enough: bool,
 }
 
-/// A visitor of the documents of a stream, one after another.
+/// A trait of visitors. A visitor is called for each document of a stream, one after another, and writes the output for
+/// it.
 pub trait Visitor {
-    /// The error that the visitor returns to end the visits of a stream.
+    /// An associated type, chosen by the implementor: the type of the error that the visitor returns to end the visits
+    /// of a stream.
     type Stop: Drop;
 
     // What was written so far, handed on or not.
@@ -69,7 +72,9 @@ pub enum How<S> {
     Endless,
 }
 
-/// The result of `visit_documents`: the number of matches, and why the visits ended. `S` is the visitor's error.
+/// The result of `visit_documents`, a function that reads a stream and calls a visitor for each document. It has the
+/// number of matches, as the visitor counts them, and the reason why the visits ended. `S` is the type of the visitor's
+/// error.
 #[derive(Drop)]
 pub struct Ended<S> {
     /// How many matches the visited documents have together, or the greatest `usize` if there are more.

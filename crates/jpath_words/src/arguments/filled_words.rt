@@ -16,11 +16,12 @@ use std::alloc::{AllocError, Global};
 /// or `--argjson` sets for NAME.
 #[derive(Drop)]
 pub struct FilledPaths<'a> {
-    /// The texts of the options `-e`, in the order of the command line: paths, or with `--rows` also `NAME=PATH`.
-    /// Without `-e` this list is empty if there are edits; else it has one text, the first word that belongs to no
-    /// option.
+    /// A field: the texts of the options `-e`, in the order of the command line. They are paths, or with `--rows` also
+    /// `NAME=PATH`. Without `-e`, this list is empty if the command line has an edit option, such as `--set`; else it
+    /// has one text, the first word that belongs to no option.
     pub paths: Vec<String>,
-    /// The path text of `--rows`: one element if that option is on the command line, else none.
+    /// A field: a list with the path text of the option `--rows` if that option is on the command line, else an empty
+    /// list.
     pub rows: Vec<String>,
     /// The edit options in the order of the command line, each with its path text.
     pub edits: Vec<FilledEdit<'a>>,
@@ -58,8 +59,9 @@ pub fn fill_paths<'a>(
 }
 
 /// Returns a copy of the parsed command line `words` in which each path text is replaced by the one that `filled` has
-/// for it. `filled` must have been made from `words`; this is not tested. The copy has no `--arg` and no `--argjson`,
-/// and its field `rest` has only the files. Errors: `Words` if there is no path, or `OutOfMemory`.
+/// for it: there, the placeholders `{NAME}` are already replaced. Precondition: `filled` was made from `words`; this is
+/// not tested. The copy has no `--arg` and no `--argjson`, and its field `rest` has only the files. Errors: `Words` if
+/// there is no path, or `OutOfMemory`.
 pub fn words_with_paths<'a>(
     alloc: Global,
     words: &Words<'a>,

@@ -55,7 +55,7 @@ fn count_behind_line_end(bytes: &[u8]) -> Option<usize>
     bytes.iter().rev().position(|byte| *byte == b'\n')
 }
 
-/// The line and column just after these bytes, which begin at the line and column `place`.
+/// Returns the line and column just after these bytes; `place` is the line and column of the first of them.
 pub fn place_after(place: LineColumn, bytes: &[u8]) -> LineColumn
     ensures { (passed : List ℕ) → place ≡ place_behind passed → result ≡ place_behind (passed ++ bytes.now) }
 {

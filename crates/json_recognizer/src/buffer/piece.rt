@@ -5,8 +5,8 @@
 pub enum Kind {
     /// A kind of piece of a stream: a JSON document, with the blanks before it if there are any.
     Document,
-    /// Wrong bytes in place of a document: up to and including the first byte with which no document can continue, or
-    /// up to the stream's end if that cuts a document short.
+    /// A kind of piece of a stream of documents: wrong bytes in place of a document. They end with the first byte with
+    /// which no document can continue, or at the stream's end if that cuts a document short.
     Refused,
     /// A kind of piece of a stream of documents: blanks alone, possibly none, up to the end of the stream. The stream
     /// then has no further document.
@@ -14,7 +14,8 @@ pub enum Kind {
 }
 
 /// A position in a stream: line and column, both counted from 1, the column in bytes. Only the position of an error,
-/// from `place_of_refusal`, can have column 0: the stream then ends inside a document, just after a line end.
+/// which the method `place_of_refusal` returns, can have column 0: the stream then ends inside a document, just after a
+/// line end.
 #[derive(Clone, Copy, Debug, Drop, PartialEq, Eq)]
 pub struct LineColumn {
     pub line: usize,

@@ -17,7 +17,7 @@ const CHUNK: usize = 131072;
 pub enum ReadFailure {
     /// An error of reading a stream of documents: a read of the stream failed.
     Failed,
-    /// Memory ran out.
+    /// An error of reading a stream of documents: memory ran out.
     OutOfMemory,
 }
 

@@ -36,7 +36,7 @@ pub struct StreamBuffer {
 }
 
 impl StreamBuffer {
-    /// An empty buffer, for a stream of which nothing was read yet.
+    /// Makes an empty buffer, for a stream of which nothing was read yet.
     pub fn new(alloc: Global) -> StreamBuffer
         ensures ready { IsReady result }
         ensures empty { left result ≡ [] }

@@ -21,15 +21,17 @@ use std::fmt;
 /// ```
 #[derive(Drop)]
 pub struct PathsFault {
-    /// The index, from 0, of the first text of the list that is no path; `None` if memory ran out.
+    /// A field of the error of compiling a list of path texts: the index, from 0, of the first text in the list that is
+    /// no path; `None` if memory ran out.
     pub index: Option<usize>,
     /// In the error of compiling a list of path texts: the cause. It is `Path`, with a message, for the first text that
     /// is no path, or `OutOfMemory`.
     pub fault: JsonPathError,
 }
 
-/// Prints the word `path`, the index (from 0) of the wrong text in the list of path texts, a colon and the error's
-/// text; if the error has no index, the error's text alone.
+/// Prints an error of compiling a list of path texts: the word `path`, the index (from 0) of the wrong text in the
+/// list, a colon, and the text of the cause. If memory ran out, there is no index, and only the text of the cause is
+/// printed.
 impl fmt::Display for PathsFault {
     ghost output = { λ fault. Some (paths_fault_text fault.index fault.fault) };
 

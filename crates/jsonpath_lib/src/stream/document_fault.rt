@@ -26,18 +26,21 @@ pub enum FaultKind {
     /// An error in a stream of documents: a byte is wrong, that is, no JSON document can continue with it. The error's
     /// position is that of this byte.
     WrongByte,
-    /// The stream ends inside a document. The error's position is that of the stream's last byte; if this is a line
-    /// end, it is column 0 of the next line.
+    /// An error of reading a stream of documents: the stream ends inside a document. The error's position is that of
+    /// the stream's last byte; if this byte is a line end, the position is column 0 of the next line.
     CutShort,
-    /// `serde_json` rejects the document, say for too large a number. The error's position is the one that `serde_json`
-    /// reports, counted from the beginning of the stream.
+    /// An error of reading a stream of documents: `serde_json` rejects the document, for example because a number is
+    /// too large. The error's position is the one that `serde_json` reports, counted from the beginning of the stream.
     Unread,
-    /// A read of the input failed. The error's position is just after the last byte that was read.
+    /// An error of reading a stream of documents: a read of the input failed. The error's position is just after the
+    /// last byte that was read.
     ReadFailed,
-    /// Memory ran out. The error's position is just after the last byte read or, if a document was being parsed, the
-    /// one that `serde_json` reports, counted from the beginning of the stream.
+    /// An error of reading the next document of a stream: memory ran out. If a document was being parsed, the error's
+    /// position is the one that `serde_json` reports, counted from the beginning of the stream. Else it is the position
+    /// just after the last byte read.
     OutOfMemory,
-    /// The stream has more bytes than 64 bits can count. The error's position is just after the last returned document.
+    /// An error of reading a stream of documents: the stream has more bytes than 64 bits can count. The error's
+    /// position is just after the last returned document.
     TooLong,
 }
 
@@ -54,14 +57,14 @@ pub enum FaultKind {
 /// ```
 #[derive(Drop)]
 pub struct DocumentFault {
-    /// Why the next document of the stream can't be returned.
+    /// A field of an error of reading a stream of documents: the reason why the next document can't be returned.
     pub kind: FaultKind,
     /// The line of the error in the whole stream, counted from 1.
     pub line: usize,
     /// The column of the error, in bytes from 1, as `serde_json` counts; 0 for a document cut short after a line end.
     pub column: usize,
-    /// The error itself: `Serde`, whose message ends with the line and column, as `serde_json`'s messages do; or
-    /// `OutOfMemory`.
+    /// A field of the error of reading the next document of a stream: the cause. It is `Serde`, with a message that
+    /// ends with the line and column, as `serde_json`'s messages do; or `OutOfMemory`.
     pub error: JsonPathError,
 }
 

@@ -18,7 +18,8 @@ use std::alloc::Global;
 use std::error::Error;
 use std::fmt;
 
-/// The error of masking or removing by several paths, with the original document.
+/// The error of masking (replacing by null) or removing the values that several path texts select. It has the original
+/// document, unchanged.
 ///
 /// ```text
 /// let document = read_document(alloc, b"[1]")?;
@@ -32,12 +33,14 @@ use std::fmt;
 /// ```
 #[derive(Drop)]
 pub struct MaskFault {
-    /// The index, from 0, of the first of the path texts that has a syntax error; `None` if memory ran out.
+    /// A field of the error of an update by several path texts: the index, from 0, of the first text that has a syntax
+    /// error. `None` if memory ran out.
     pub index: Option<usize>,
     /// In the error of a change by several path texts: the cause. It is `Path`, with a message, for the first text that
     /// is no path, or `OutOfMemory`.
     pub fault: JsonPathError,
-    /// The document that was passed to the failed call in order to be changed. It is as it was before the call.
+    /// A field of the error of a change by several path texts: the document that was passed to the failed call in order
+    /// to be changed. It is as it was before the call.
     pub value: Value,
 }
 

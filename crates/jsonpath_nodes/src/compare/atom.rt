@@ -18,9 +18,9 @@ use serde_json::{Number, Value};
 /// ```
 #[derive(Clone, Copy, Debug)]
 pub enum Atom<'a, N = Decimal> {
-    /// The JSON value `null`.
+    /// A value as comparisons see it: the JSON value `null`.
     Null,
-    /// The boolean `true` or `false`.
+    /// A value as comparisons see it: a boolean, `true` or `false`.
     Bool(bool),
     /// A value as comparisons see it: a number, of the type `N`. If `N` is `Decimal`, it is an `i64`, a `u64`, or a
     /// number literal of a path; such a literal is exact to 18 decimal places.
@@ -28,9 +28,11 @@ pub enum Atom<'a, N = Decimal> {
     /// A value as comparisons see it: a text, that is, a JSON string or a quoted text of a path. The field has its
     /// content, without the quotes and with the escapes resolved.
     Text(&'a str),
-    /// A number that is neither an `i64` nor a `u64`, such as 1.5. Its value is not kept: it satisfies `!=` alone.
+    /// A value as comparisons see it: a number that is neither an `i64` nor a `u64`, such as 1.5. Its value is not
+    /// kept: any comparison with it by `!=` holds, and no other comparison does.
     Unread,
-    /// An array. Its items are not kept: comparisons don't use them.
+    /// A value to be compared, of which only the kind is kept: an array. Its items are not stored, since comparisons
+    /// don't use them.
     List,
     /// An object, as a value to be compared. Its members are not stored, since comparisons don't use them.
     Object,

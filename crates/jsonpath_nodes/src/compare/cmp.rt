@@ -69,7 +69,8 @@ impl<C: Compares> Cmp for C {
     }
 }
 
-/// The comparison `==`.
+/// A type for the comparison `==`, with the methods of the trait `Cmp`. For example, `cmp_string` returns whether two
+/// texts are equal.
 ///
 /// ```text
 /// assert!(rt; CmpEq.cmp_string("a", "a"));
@@ -86,8 +87,9 @@ impl Compares for CmpEq {
     }
 }
 
-/// The comparison `!=`. It is the only one of the six comparisons that holds between values of different kinds, such as
-/// a text and a number; this is what its method `default` returns.
+/// A type for the comparison `!=`, with the methods of the trait `Cmp`. The method `default` returns whether a
+/// comparison holds between values of different kinds, such as a text and a number. It returns true for `!=`, and false
+/// for the other five comparisons.
 ///
 /// ```text
 /// assert!(rt; CmpNe.default());
@@ -138,7 +140,8 @@ impl Compares for CmpGe {
     }
 }
 
-/// The comparison `<`.
+/// A type for the comparison `<`, with the methods of the trait `Cmp`. For example, `cmp_num` returns whether its first
+/// number is less than its second.
 ///
 /// ```text
 /// assert!(rt; CmpLt.cmp_num(Decimal::of_i64(-1), Decimal::of_i64(0)));
@@ -188,9 +191,10 @@ fn is_satisfied_by_order(op: FilterToken, order: Ordering) -> bool
     }
 }
 
-/// Whether `left op right` holds. Each side is an `Atom`, the part of a JSON value (here one of type `T`) that a
-/// comparison uses. The rules are those of `holds_atoms`, except that numbers have the type `T::Number` and are
-/// compared by `T::compare_numbers`. `op` must be one of the six comparisons, so neither `And` nor `Or`.
+/// Whether `left op right` holds between two `Atom`s, the parts of values of type `T` that a comparison uses. Booleans,
+/// numbers and texts compare within their kind: false before true, numbers by `T::compare_numbers`, texts by their
+/// bytes. For two nulls `==` alone holds; for every other pair `!=` alone. Precondition: `op` is one of the six
+/// comparisons, so neither `And` nor `Or`.
 ///
 /// ```text
 /// let (seven, eight) = (Atom::Number(Decimal::of_u64(7)), Atom::Number(Decimal::of_u64(8)));

@@ -128,9 +128,10 @@ fn ordered_spots<'a>(
     Ok(placed)
 }
 
-/// Goes through a list of nodes and drops each that is at or below the node that it kept last. If the list is in
-/// document order (parents before children, members by their names' bytes, items by index), this keeps the nodes with
-/// no ancestor in the list, one for each location. The only error is `NoMemory`.
+/// Goes through a list of nodes in its order, and returns those that it keeps: it leaves out each node that is at or
+/// below the location of the node that it kept last. If the list is in document order (parents before children, members
+/// by their names' bytes, items by index), this keeps the nodes with no ancestor in the list, one for each location.
+/// The only error is `NoMemory`.
 ///
 /// ```text
 /// let below = Spot::root(alloc, &document).below(alloc)?;

@@ -23,7 +23,7 @@ use std::marker::Model;
 pub enum LocStep {
     /// A step of a location (a normalized path): from an object to its member of this name.
     Name(String),
-    /// A step to the item at this index, from 0, in an array.
+    /// A step of a location (a normalized path): from an array to its item at this index, counted from 0.
     Index(usize),
 }
 

@@ -40,7 +40,7 @@ pub trait Mark<'a>: Drop + Sized {
 
     ghost content: { Self → Document };
 
-    /// The value of the node.
+    /// A method that implementors provide: returns the value of this node.
     fn value(&self) -> &'a Value
         ensures { document_of (view result.now) ≡ content self.now };
 
@@ -54,8 +54,8 @@ pub trait Mark<'a>: Drop + Sized {
     ) -> Result<(), NoMemory>
         ensures { OnOk result (MarksGain located stand content (single_steps (plain_step_of plain.now)) (stand self.now) (content self.now) out.old.items out.new.items) };
 
-    /// Appends to `out` the member of this name, if this node is an object that has one. The name is taken literally,
-    /// without quotes or escapes.
+    /// A method that implementors provide: appends to `out` the member of this name, if this node is an object that has
+    /// one. The name is taken literally, without quotes or escapes.
     fn add_named_member(
         &self,
         alloc: Global,
@@ -79,10 +79,11 @@ pub trait Mark<'a>: Drop + Sized {
     fn add_flattened(&self, alloc: Global, out: &mut Vec<Self>) -> Result<(), NoMemory>
         ensures { OnOk result (MarksGain located stand content flat (stand self.now) (content self.now) out.old.items out.new.items) };
 
-    /// Appends to `out` the values that a filter after `..` tests when it is applied to this node, if the filter has a
-    /// relative query with at least one segment, such as `@.a`. These are the node's descendants that are not arrays,
-    /// each once. Their order is that of `..*`, with each array replaced by its items (and these again, if they are
-    /// arrays); of a value found twice, the first occurrence counts.
+    /// A method that implementors provide: appends to `out` the values that a filter after `..` tests when it is
+    /// applied to this node, if the filter has a relative query with at least one segment, such as `@.a`. These are all
+    /// descendants of the node that are not arrays, each once. For their order, take what `..*` selects from the node,
+    /// put its items in place of each array again and again, until no array is left, and keep only the first occurrence
+    /// of each value.
     ///
     /// For proofs, the postconditions also say that in each object at or below this node the member names are in
     /// ascending order, as in every `Value`.
@@ -150,8 +151,8 @@ impl<'a> Mark<'a> for &'a Value {
     }
 }
 
-/// A node as a `Spot`: its value with its location. The `Spot`s of its children share the steps of this location
-/// instead of copying them.
+/// Implements the trait `Mark` (a node of a document) for `Spot`: such a node has its value and its location. The
+/// `Spot`s of a node's children share the steps of the node's location instead of copying them.
 impl<'a> Mark<'a> for Spot<'a> {
     ghost located = { true };
 

@@ -161,7 +161,8 @@ impl<'a> Spot<'a> {
         Ok(found.pop())
     }
 
-    /// The item at this index, from 0, as a node, if this node is an array that has one. The only error is `NoMemory`.
+    /// Returns the item of this node at this index, counted from 0, as a node. Returns `None` if this node is no array,
+    /// or if the array has no item at this index. The only error is `NoMemory`.
     ///
     /// ```text
     /// let none = Spot::root(alloc, &document).item(alloc, 0)?;

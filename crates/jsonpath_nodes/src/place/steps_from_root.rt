@@ -101,8 +101,9 @@ impl<'b, 'a> Iterator for StepsFromRoot<'b, 'a> {
     }
 }
 
-/// Iterates from the root down without allocating memory: to find each step, it goes back from the last one, so the
-/// work is quadratic in the number of steps. The iterator ends after `usize::MAX` steps.
+/// Makes an iterator over the steps to a node, from the root down. The iterator allocates no memory: to find each step,
+/// it goes back from the node's last step, so the work is quadratic in the number of steps. It ends after `usize::MAX`
+/// steps.
 ///
 /// ```text
 /// let document = read_document(alloc, br#"{"a": [1, {"b": 2}]}"#)?;

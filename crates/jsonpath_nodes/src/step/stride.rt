@@ -28,16 +28,17 @@ pub enum Selection<'t> {
     Every,
     /// A name selector: from each object, it selects the member with this name.
     Named(CowStr<'t, Global>),
-    /// The members with these names, in an object, in the list's order.
+    /// A selector: from an object, it selects the members with these names, in the list's order.
     Listed(Vec<CowStr<'t, Global>>),
-    /// The item of an array at this index. A negative index counts from the end, and selects the first item if it
-    /// reaches beyond the front.
+    /// An index selector: from each array, it selects the item at this index. A negative index counts from the end, and
+    /// selects the first item if it reaches beyond the front. An index past the end selects nothing.
     Nth(i64),
-    /// The items of an array at these indexes, in the list's order. A negative index counts from the end, and selects
-    /// the first item if it reaches beyond the front.
+    /// A selector: from an array, it selects the items at these indexes, in the order of this list. A negative index
+    /// counts from the end, and selects the first item if it reaches beyond the front.
     Union(&'t [i64]),
-    /// A slice `from:to:step` of an array: the items at `from`, `from + step` and so on, before `to`. A negative `from`
-    /// or `to` counts from the end. If missing, they are 0, the length and 1. A `step` of 0 selects nothing.
+    /// A selector: a slice `from:to:step`. It selects the items of an array at `from`, `from + step` and so on, before
+    /// `to`. A negative `from` or `to` counts from the end. If missing, `from` is 0, `to` the length, `step` 1. A
+    /// `step` of 0 selects nothing.
     Range(Option<i64>, Option<i64>, Option<u64>),
 }
 

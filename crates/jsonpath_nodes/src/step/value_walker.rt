@@ -17,8 +17,9 @@ use std::alloc::Global;
 
 /// The steps (segments) of a path, each as a function that applies it to a list of nodes at once.
 ///
-/// Every call returns what its step selects from each node, in the order of the nodes, with duplicates, except for
-/// `walk_dedup_all` and `candidates_below`, which return each location once. The only error is `NoMemory`.
+/// Every function returns what its step selects from each node, in the order of the nodes, with duplicates. But
+/// `walk_dedup_all` and `candidates_below`, which return the values that a filter tests, return each location once. The
+/// only error is `NoMemory`.
 ///
 /// ```text
 /// let document = read_document(alloc, b"[{\"a\": 1}, {\"a\": 2}]")?;
@@ -31,7 +32,8 @@ use std::alloc::Global;
 pub struct ValueWalker;
 
 impl ValueWalker {
-    /// `*`: the children of each node that is an array or object, node after node: items by index, members by name.
+    /// The step `*`: returns the children of each node that is an array or object, node after node. Items come by
+    /// index, members in the order of their names' bytes.
     ///
     /// ```text
     /// let document = Value::from_str(alloc, r#"[{"a": 1, "b": 2}, [3, 4, 5]]"#)?;

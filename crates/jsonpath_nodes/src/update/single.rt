@@ -15,10 +15,10 @@ use serde_json::{Map, Value};
 /// Updates the value at one location by a closure.
 ///
 /// The closure gets the value there; `Some` replaces it, `None` removes the member or item, and later items of the
-/// array move down by one. Returns whether the closure was called. At the root, and if the location doesn't exist, it
-/// isn't called and nothing changes. A name selects in objects alone, an index in arrays alone.
+/// array move down by one. At the root, and if the location doesn't exist, the closure isn't called and nothing
+/// changes. A name in the location leads only into an object, an index only into an array.
 ///
-/// The update allocates no memory, so the call always returns `Ok`.
+/// The update allocates no memory, so the result is always `Ok`: it says whether the closure was called.
 ///
 /// ```text
 /// let mut document = read_document(alloc, b"[1, 2]")?;

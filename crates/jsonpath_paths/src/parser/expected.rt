@@ -25,12 +25,14 @@ pub enum Expected {
     /// What a path could go on with at a syntax error: any token of this kind. `Kind::Key` means that any word (a name
     /// or number without quotes) is allowed, as it is after a dot.
     Token(Kind),
-    /// A word (an unquoted token) that is an index, such as `0` or `-1`.
+    /// What a path could go on with at a syntax error: a word (an unquoted token) that is an index, such as `0` or
+    /// `-1`.
     Index,
-    /// A word (an unquoted token) that is the step of a slice, such as `2`.
+    /// What a path could go on with at a syntax error: a word (an unquoted token) that is the step of a slice, such as
+    /// `2`.
     RangeStep,
-    /// A word (an unquoted token) that is `true` or `false` (in any letter case), an integer, or the part of a number
-    /// before its decimal point.
+    /// What a path could go on with at a syntax error: a word (an unquoted token) that is `true` or `false` (in any
+    /// letter case), an integer, or the part of a number before its decimal point.
     Literal,
     /// What a path could go on with at a syntax error: a word (an unquoted token) that consists of digits, namely those
     /// after the decimal point of a number.
@@ -46,10 +48,12 @@ pub enum Expected {
 /// ```
 #[derive(Debug, PartialEq, Eq, Drop)]
 pub struct ExpectedTokens {
-    /// The tokens that a path could go on with: first kinds of token such as `[`, in a fixed order, each at most once;
-    /// last a word (an unquoted name or number), if one could come. Empty if the path could only have ended there.
+    /// A field: the tokens that would have been allowed at the position of a path text's syntax error. First come kinds
+    /// of token such as `[`, in a fixed order, each at most once; then one kind of word (an unquoted name or number),
+    /// if a word was allowed. The list is empty if the path could only have ended there.
     pub tokens: Vec<Expected>,
-    /// Whether the path could have ended where the error is, that is, whether the text before it is itself a path.
+    /// A field: whether the path could have ended at the position of its syntax error, that is, whether the tokens
+    /// before that position are themselves a path.
     pub end: bool,
 }
 

@@ -96,7 +96,7 @@ impl<'a> Model for StrReader<'a> {
 }
 
 impl<'a> StrReader<'a> {
-    /// A reader at the beginning of the text.
+    /// Makes a `StrReader`, which reads this text character by character. Its position is at the beginning of the text.
     ///
     /// ```text
     /// let reader = StrReader::new("a가b");

@@ -39,7 +39,7 @@ impl<'a> Model for TokenReader<'a> {
 }
 
 impl<'a> TokenReader<'a> {
-    /// A reader at the beginning of the text.
+    /// Makes a reader that takes the tokens of this path text one by one, from the beginning of the text.
     ///
     /// ```text
     /// let mut reader = TokenReader::new("*");

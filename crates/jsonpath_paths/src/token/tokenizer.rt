@@ -255,7 +255,7 @@ impl<'a> Model for Tokenizer<'a> {
 }
 
 impl<'a> Tokenizer<'a> {
-    /// A tokenizer at the beginning of the text.
+    /// Makes a `Tokenizer`, which reads this path text token by token. Its position is at the beginning of the text.
     ///
     /// ```text
     /// let mut tokenizer = Tokenizer::new("가.b");
@@ -366,7 +366,8 @@ impl<'a> Tokenizer<'a> {
 
     /// Takes the next token. If no token begins at the tokenizer's position, returns an error, and the position stays,
     /// so that each later call returns the same error. The error is `Eof` at the end of the text, at a quoted text that
-    /// is not closed, or if a single character is left; else it is `Position` with the tokenizer's position.
+    /// is not closed, or if the character at the position is the last one of the text. Else it is `Position` with the
+    /// tokenizer's position.
     ///
     /// ```text
     /// let mut tokenizer = Tokenizer::new("=1");

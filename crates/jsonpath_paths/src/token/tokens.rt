@@ -26,11 +26,11 @@ use std::fmt;
 pub enum TokenError {
     /// A syntax error: the path text ends too early, or its last token or character is wrong.
     Eof,
-    /// A syntax error at this byte position of the text. From `PathParser`, the wrong token or character ends there.
-    /// From `Tokenizer`, and from `next_token` and `peek_token` of `TokenReader`, the wrong character begins there.
-    /// From `to_error` of `TokenReader`, the text was read or peeked up to there.
+    /// An error: a syntax error of a path text, at this byte position. If `PathParser` returns it, the wrong token or
+    /// character ends there. If `Tokenizer`, or `next_token` or `peek_token` of `TokenReader` returns it, the wrong
+    /// character begins there. If `to_error` of `TokenReader` returns it, the text was read or peeked up to there.
     Position(usize),
-    /// Memory ran out.
+    /// An error of reading a path text: memory ran out.
     OutOfMemory,
 }
 
@@ -320,21 +320,21 @@ impl Token {
 /// ```
 #[derive(Clone, Copy, Debug, PartialEq, Eq)]
 pub enum FilterToken {
-    /// The comparison `==`.
+    /// An operator of a filter: the comparison `==`.
     Equal,
-    /// The comparison `!=`.
+    /// An operator of a filter: the comparison `!=`.
     NotEqual,
     /// The comparison `<`.
     Little,
-    /// The comparison `<=`.
+    /// An operator of a filter: the comparison `<=`.
     LittleOrEqual,
     /// The comparison `>`.
     Greater,
-    /// The comparison `>=`.
+    /// An operator of a filter: the comparison `>=`.
     GreaterOrEqual,
-    /// The connective `&&`.
+    /// An operator of a filter: the connective `&&`, which joins two conditions.
     And,
-    /// The connective `||`.
+    /// An operator of a filter: the connective `||`.
     Or,
 }
 
@@ -375,9 +375,11 @@ pub enum ParseToken {
     /// The token that begins a step after `..`: the step selects among the children of each node that the steps before
     /// it have selected, and among the children of all descendants of these nodes.
     Leaves,
-    /// `*`: the step selects all children.
+    /// A token of a path's token list (the syntax tree written out as a list): `*`, with which a step selects all
+    /// children.
     All,
-    /// The span of one name that a step selects, or of a quoted text that is a side of a comparison.
+    /// A token of a path's token list (the syntax tree written out as a list): one name that a step selects, or a
+    /// quoted text that is a side of a comparison. It is given by its span (position and length) in the path text.
     Key(StrRange),
     /// A token of a path's token list (the syntax tree written out as a list): two or more names that one step selects.
     /// Each name is given by its span in the path text, in the text's order.
@@ -385,18 +387,21 @@ pub enum ParseToken {
     /// A token of a path's token list (the syntax tree written out as a list): the `[` that opens a step in brackets,
     /// such as `['a']`.
     Array,
-    /// The `]` that ends a step.
+    /// A token of a path's token list (the syntax tree written out as a list): the `]` that ends a step in brackets.
     ArrayEof,
-    /// A comparison or a connective of a filter. In the token list of a path it comes after the tokens of its two
-    /// sides.
+    /// A token of a path's token list (the syntax tree written out as a list): a comparison, such as `==`, or a
+    /// connective, `&&` or `||`, of a filter. It comes after the tokens of its two sides.
     Filter(FilterToken),
-    /// A slice that a step selects: its start, end and step, each of which may be missing.
+    /// A token of a path's token list (the syntax tree written out as a list): the slice that a step selects. Its
+    /// fields are the slice's start, end and step, each of which may be missing.
     Range(Option<i64>, Option<i64>, Option<u64>),
-    /// The indexes that a step selects, two or more, in the order of the path text.
+    /// A token of a path's token list (the syntax tree written out as a list): two or more indexes that one step
+    /// selects, in the order of the path text.
     Union(Items<i64>),
     /// A token: the single index that a step selects, or a number literal that is a side of a comparison.
     Number(Decimal),
-    /// A boolean that is a side of a comparison.
+    /// A token of a path's token list (the syntax tree written out as a list): a boolean literal that is a side of a
+    /// comparison in a filter.
     Bool(bool),
     /// A token that never occurs in a compiled path; it is here because the Rust crate `jsonpath_lib` has it.
     Eof,

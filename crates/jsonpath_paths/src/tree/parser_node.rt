@@ -35,7 +35,7 @@ pub struct ParserNode {
 pub struct ParserStep {
     /// Whether `..` begins the step, so that it selects among the children of each node and of all its descendants.
     pub leaves: bool,
-    /// Whether the step is written in brackets.
+    /// A field of a path's step in the syntax tree: whether the step is written in brackets, such as `['a']`.
     pub bracket: bool,
     /// What the step selects: names, indexes, a slice, all children, or what meets a filter's condition.
     pub inner: Inner,
@@ -51,8 +51,8 @@ pub struct ParserStep {
 #[cycle(tree)]
 #[derive(Drop)]
 pub enum Inner {
-    /// What a step selects if it is no filter, given as one token: a name or several, an index or several, a slice, or
-    /// all children.
+    /// What a step of a path selects, given as one token: one name or several, one index or several, a slice, or all
+    /// children. A step that is a filter is not given so.
     Token(ParseToken),
     /// A filter as what a step selects: of the values that it tests, the step selects those that meet this condition.
     /// It tests the values that the steps before it have selected or, after `..`, what `..*` selects from them. But if
@@ -71,11 +71,12 @@ pub enum Inner {
 #[cycle(tree)]
 #[derive(Drop)]
 pub enum Condition {
-    /// A path alone, as in `[?(@.a)]`: the condition holds if the path selects something.
+    /// A filter's condition that is a path alone, as in `[?(@.a)]`: it holds if the path selects something.
     Lone(ParserNode),
-    /// A comparison: the left side, the operator and the right side.
+    /// A condition of a filter: a comparison, given by its left side, its operator and its right side.
     Compare(Term, FilterToken, Term),
-    /// Two conditions joined by `&&` or `||`, which have the same precedence: `a && b || c` is `a && (b || c)`.
+    /// A condition of a filter: two conditions joined by `&&` or `||`. These have the same precedence: `a && b || c` is
+    /// `a && (b || c)`.
     Join(FilterToken, Box<Condition>, Box<Condition>),
 }
 

@@ -13,8 +13,8 @@ use crate::tree::parser_node::{Condition, Inner, ParserNode, ParserStep, Term};
 use crate::tree::parser_token_handler::ParserTokenHandler;
 use crate::tree::token_list::root_token;
 
-/// A walk over a syntax tree. It passes the tree's token list (the tree written out as a list of `ParseToken`s), token
-/// by token, to a `ParserTokenHandler`.
+/// A trait: a walk over a syntax tree. It passes the tree's token list (the tree written out as a list of
+/// `ParseToken`s), token by token, to a receiver, which is a `ParserTokenHandler`.
 ///
 /// ```text
 /// struct Walker;

@@ -5,8 +5,9 @@ ghost use Rattle.std.specs.Prelude.{◌≡◌, ◌++◌, ◌∷◌, [], List, Bo
 use crate::text::str_reader::StrRange;
 use crate::token::tokens::ParseToken;
 
-/// Receives the token list of a syntax tree (the tree written out as a list), one `ParseToken` at a time, each with a
-/// function that turns a span of the path text into a `V`, for example a `&str`.
+/// A trait of receivers: a receiver gets the token list of a syntax tree (the tree written out as a list), one
+/// `ParseToken` at a time. With each token it gets a function that turns a span of the path text into a `V`, for
+/// example a `&str`.
 ///
 /// ```text
 /// impl<V> ParserTokenHandler<V> for Collector {
@@ -36,7 +37,8 @@ pub trait ParserTokenHandler<V> {
     ghost use Rattle.jsonpath_paths.specs.tree.Visit.{MayRead};
     ghost use denote.Ref.{Bor};
 
-    /// For proofs: the tokens that this receiver has received, in their order.
+    /// A function that implementors define, for proofs alone: the list of the tokens that this receiver has received,
+    /// in their order.
     ghost tokens: { Self → List ParseToken };
 
     /// For proofs: whether this receiver of tokens has failed to receive some token. Once it has, the list `tokens` of
@@ -48,10 +50,10 @@ pub trait ParserTokenHandler<V> {
     /// allowed.
     ghost takes: { Self → StrRange → V → Type 0 } = { λ _ _ _. Unit {0} };
 
-    /// Receives the next token of a path. If that fails, for example since memory runs out, `failed` returns true from
-    /// then on. For each span in the token, the receiver may call `reader`, the closure that is passed along, to get
-    /// what the path text has at this span. Precondition: each value that `reader` returns for a span is allowed by
-    /// `takes`, a predicate of this receiver that only proofs use.
+    /// A method that implementors provide: receives the next token of a path. If that fails, for example since memory
+    /// runs out, `failed` returns true from then on. For each span in the token, the receiver may call the closure
+    /// `reader` to get what the path text has at this span. Precondition: each value that `reader` returns for a span
+    /// is allowed by `takes`, a predicate of this receiver that only proofs use.
     fn handle<R: Fn(&StrRange) -> V>(&mut self, token: &ParseToken, reader: &R)
         requires may { MayRead (R.pre reader.now) token.now }
         requires reads { (s : Bor StrRange) (v : V) → R.post reader.now s v → takes self.old s.now v }
@@ -59,7 +61,8 @@ pub trait ParserTokenHandler<V> {
         ensures given { has_failed self.new ≡ false → tokens self.new ≡ tokens self.old ++ token.now ∷ [] }
         ensures still_takes { (s : StrRange) (v : V) → takes self.old s v → takes self.new s v };
 
-    /// Whether this receiver of tokens has failed to receive some token, for example since memory ran out.
+    /// A method that implementors provide: returns whether this receiver of tokens has failed to receive some token,
+    /// for example since memory ran out.
     fn failed(&self) -> bool
         ensures { result ≡ has_failed self.now };
 }

@@ -35,9 +35,9 @@ use std::rc::Rc;
 /// ```
 #[derive(Clone, Copy)]
 pub struct PathParts<'p> {
-    /// The text of a compiled path.
+    /// A field of the parts of a compiled path: its text.
     pub text: &'p str,
-    /// The syntax tree of a compiled path.
+    /// A field of the parts of a compiled path: its syntax tree.
     pub tree: &'p ParserNode,
     /// The token list of a compiled path: its syntax tree written out as a list.
     pub tokens: &'p [ParseToken],

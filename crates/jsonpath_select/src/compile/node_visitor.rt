@@ -7,7 +7,7 @@ use crate::compile::node::Node;
 use jsonpath_paths::laws::one_tree_per_text;
 use jsonpath_paths::{Condition, Inner, ParseToken, ParserNode, ParserStep, Term};
 
-/// Receives the tokens of a compiled path, one after another.
+/// A trait of receivers: a receiver gets the tokens of a compiled path, one after another.
 ///
 /// ```text
 /// impl NodeVisitor for Tokens {
@@ -47,7 +47,8 @@ pub trait NodeVisitor {
     ghost use Rattle.jsonpath_paths.specs.tree.Tree.{Path};
     ghost use Rattle.jsonpath_paths.specs.tree.Visit.{path_tokens};
 
-    /// For proofs: the tokens that this receiver has received, in their order.
+    /// A function that implementors define, for proofs alone: the list of the tokens that this receiver has received,
+    /// in their order.
     ghost tokens: { Self → List ParseToken };
 
     /// For proofs: whether this receiver of tokens has failed to receive some token. Once it has, the list `tokens` of

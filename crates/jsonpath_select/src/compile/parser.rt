@@ -24,7 +24,7 @@ pub enum ParseFault {
     /// for each byte of the text up to the end of the wrong token, or one for each of its bytes if the text ends too
     /// early.
     Text(String),
-    /// Memory ran out. Printed as `out of memory`.
+    /// An error of compiling a path text: memory ran out. It is printed as `out of memory`.
     OutOfMemory,
 }
 

@@ -30,9 +30,10 @@ pub enum Entry {
     Logical,
 }
 
-/// Whether the text and the tokens can be passed to `select_tokens`. True exactly if `tokens` is the token list of some
-/// path (its syntax tree written out as a list), however deeply nested, and `text` has a name, quoted or not, at each
-/// span in `tokens`. The text need not be a path. The only error is `OutOfMemory`.
+/// Whether the text and the tokens can be passed to `select_tokens`, the function that selects by a path's token list
+/// (its syntax tree written out as a list). True exactly if `tokens` is the token list of some path, however deeply
+/// nested, and `text` has a name, quoted or not, at each span in `tokens`. The text need not be a path. The only error
+/// is `OutOfMemory`.
 ///
 /// ```text
 /// let tokens = [ParseToken::Absolute, ParseToken::In, ParseToken::Key(StrRange::new(2, 1))];

@@ -14,8 +14,8 @@ use serde_json::Value;
 use std::alloc::Global;
 
 impl<P: AnyPath> HeldPair<P, Value> {
-    /// Replaces each selected value of the selector's document by null, except the root and values inside another
-    /// replaced value. All else stays as it is.
+    /// Replaces each selected value of the selector's document by null, and returns the selector. The root, and values
+    /// inside another replaced value, are not replaced. All else stays as it is.
     ///
     /// Errors: `EmptyPath` exactly if there is no path, `EmptyValue` exactly if there is a path and no document, else
     /// `OutOfMemory` alone; nothing has changed then.
@@ -62,9 +62,9 @@ impl<P: AnyPath> HeldPair<P, Value> {
         }
     }
 
-    /// Replaces each selected value of the selector's document by a copy of `new`, except the root and values inside
-    /// another replaced value. Errors: `EmptyPath` (no path), `EmptyValue` (a path, no document), else `OutOfMemory`;
-    /// nothing has changed then.
+    /// Replaces each selected value of the selector's document by a copy of the value `new`, and returns the selector.
+    /// The root, and values inside another replaced value, are not replaced. Errors: `EmptyPath` (no path),
+    /// `EmptyValue` (a path, no document), else `OutOfMemory`; nothing has changed then.
     ///
     /// ```text
     /// let mut held = SelectorMut::new();

@@ -26,7 +26,8 @@ pub trait HeldValue {
     // The value.
     ghost held: { Self → Value };
 
-    /// Borrows the value that a selector type, such as `Selector`, stores, whether it owns or borrows the value.
+    /// A method that implementors provide: returns a reference to the value that a selector type, such as `Selector`,
+    /// stores, whether the selector owns or borrows this value.
     ///
     /// ```text
     /// let document = read_document(alloc, b"7")?;

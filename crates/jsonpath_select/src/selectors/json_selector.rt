@@ -70,8 +70,9 @@ impl<'p, V: HeldValue> HeldPair<Rc<PathParser<'p>>, V> {
         }
     }
 
-    /// Replaces the selector's path by the given one; its value stays. The only error is `OutOfMemory`; nothing has
-    /// changed then, and the given path is dropped. Named as in the Rust crate `jsonpath_lib`.
+    /// Replaces the selector's path by the given one, and returns the selector; its value stays. The only error is
+    /// `OutOfMemory`; nothing has changed then, and the given path is dropped. Named as in the Rust crate
+    /// `jsonpath_lib`.
     ///
     /// ```text
     /// let document = read_document(alloc, b"[1, 2, 3]")?;
@@ -96,9 +97,9 @@ impl<'p, V: HeldValue> HeldPair<Rc<PathParser<'p>>, V> {
         }
     }
 
-    /// Replaces the selector's path, as `reset_parser` does. It returns no `&mut Self`, so that its contract (its
-    /// proved specification) can also say what the selector has after an error. The only error is `OutOfMemory`;
-    /// nothing has changed then.
+    /// Replaces the selector's path by the given one; its value stays. The method `reset_parser` does the same, but
+    /// returns the selector as `&mut Self`. This method doesn't, so that its contract (its proved specification) can
+    /// also say what the selector has after an error. The only error is `OutOfMemory`; nothing has changed then.
     ///
     /// ```text
     /// let mut held = JsonSelectorMut::new(alloc, compile_path(alloc, "$[1:]")?)?;
@@ -115,8 +116,8 @@ impl<'p, V: HeldValue> HeldPair<Rc<PathParser<'p>>, V> {
         Ok(())
     }
 
-    /// Replaces the selector's path by this shared one; its value stays. The call allocates no memory. Named as in the
-    /// Rust crate `jsonpath_lib`.
+    /// Replaces the selector's path by the given one, which is shared (in an `Rc`), and returns the selector. Its value
+    /// stays. The call allocates no memory. Named as in the Rust crate `jsonpath_lib`.
     ///
     /// ```text
     /// let document = read_document(alloc, b"[1, 2, 3]")?;

@@ -13,8 +13,8 @@ use serde_json::Value;
 use std::alloc::Global;
 
 impl<'a, P: AnyPath> HeldPair<P, &'a Value> {
-    /// Sets the value that the selector searches, in place of the one before. The call allocates no memory. Named as in
-    /// the Rust crate `jsonpath_lib`.
+    /// Sets the value that the selector searches, in place of the one before, and returns the selector. The call
+    /// allocates no memory. Named as in the Rust crate `jsonpath_lib`.
     ///
     /// ```text
     /// let document = read_document(alloc, b"[1, 2, 3]")?;
@@ -29,8 +29,8 @@ impl<'a, P: AnyPath> HeldPair<P, &'a Value> {
         self
     }
 
-    /// Does nothing, since a selector caches no answer. It is here for code that was written for the Rust crate
-    /// `jsonpath_lib`.
+    /// Does nothing and returns the selector, since a selector caches no answer. It is here for code that was written
+    /// for the Rust crate `jsonpath_lib`.
     ///
     /// ```text
     /// let document = read_document(alloc, b"[1, 2, 3]")?;

@@ -41,9 +41,9 @@ pub type Selector<'a, 'b> = HeldPair<WalkedPath<'b>, &'a Value>;
 pub type SelectorMut = HeldPair<Node, Value>;
 
 impl<P: OfNode + Drop, V: HeldValue> HeldPair<P, V> {
-    /// Compiles a path text and replaces the selector's path. Errors: `Path` exactly if the text is outside the
-    /// grammar, with a message that shows the text and a row of `^` up to its error; or `OutOfMemory`. The selector is
-    /// then unchanged. Named as in the Rust crate `jsonpath_lib`.
+    /// Compiles a path text, replaces the selector's path by it, and returns the selector. Errors: `Path` exactly if
+    /// the text is outside the grammar, with a message that shows the text and a row of `^` up to its error; or
+    /// `OutOfMemory`. The selector is then unchanged. Named as in the Rust crate `jsonpath_lib`.
     ///
     /// ```text
     /// let document = read_document(alloc, b"[1, 2, 3]")?;
@@ -88,7 +88,8 @@ impl<P: OfNode + Drop, V: HeldValue> HeldPair<P, V> {
 }
 
 impl<'a, 'b> Selector<'a, 'b> {
-    /// A selector with no path and no value. The call allocates no memory.
+    /// Makes a selector, which is an object with a compiled path and a borrowed value to search; path and value are not
+    /// set yet. The call allocates no memory.
     ///
     /// ```text
     /// let held = Selector::new();

@@ -55,9 +55,9 @@ impl<P: AnyPath> HeldPair<P, Value> {
         path.remove_in(alloc, value)
     }
 
-    /// Replaces each selected value of the selector's document by a copy of `new`, all at once, except the root and
-    /// values inside another replaced value, as `set` does. Errors: `EmptyPath` (no path), `EmptyValue` (a path, no
-    /// document), `OutOfMemory`; nothing has changed then.
+    /// Replaces each selected value of the selector's document by a copy of the value `new`, as `set` does, but returns
+    /// no `&mut Self`. The root, and values inside another replaced value, are not replaced. Errors: `EmptyPath` (no
+    /// path), `EmptyValue` (a path, no document), `OutOfMemory`; nothing has changed then.
     ///
     /// ```text
     /// let mut held = SelectorMut::new();
@@ -76,9 +76,10 @@ impl<P: AnyPath> HeldPair<P, Value> {
         path.set_in(alloc, value, new)
     }
 
-    /// Calls the closure once for each selected location below the root, as `replace_with` does, but returns no `&mut
-    /// Self`. The closure gets the value there: `Some` replaces it, `None` removes it. Errors, before the closure is
-    /// called: `EmptyPath` (no path), `EmptyValue` (a path, no document), `OutOfMemory`.
+    /// Calls the closure once for each selected location below the root, with the value that the earlier updates left
+    /// there: if the closure returns `Some`, this replaces the value; if `None`, the value is removed. A location that
+    /// no longer exists is skipped. The method `replace_with` does the same, but returns `&mut Self`. Errors, before
+    /// the closure is called: `EmptyPath` (no path), `EmptyValue` (a path, no document), `OutOfMemory`.
     ///
     /// ```text
     /// let mut held = SelectorMut::new();

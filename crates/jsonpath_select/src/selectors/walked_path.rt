@@ -19,9 +19,9 @@ use std::alloc::Global;
 /// ```
 #[derive(Drop)]
 pub enum WalkedPath<'b> {
-    /// A compiled path that the `Selector` owns.
+    /// The compiled path of a `Selector`: one that the `Selector` owns.
     Own(Node),
-    /// A compiled path that the `Selector` borrows.
+    /// One of the two forms in which a `Selector` has its path: a compiled path that it borrows.
     Lent(&'b Node),
 }
 
@@ -57,15 +57,16 @@ impl<'b> AnyPath for WalkedPath<'b> {
     }
 }
 
-/// A type of compiled path that can be made from a `Node`, the compiled path that owns its text. A selector type, such
-/// as `Selector`, whose path has such a type can compile path texts.
+/// A trait for types of compiled path that can be made from a `Node`, the compiled path that owns its text. If the path
+/// of a selector, such as `Selector`, is of such a type, the selector can compile path texts.
 ///
 /// ```text
 /// let path: WalkedPath<'_> = OfNode::of_node(Parser::compile(alloc, "$.a")?);
 /// assert!(rt; path.parts().text == "$.a");
 /// ```
 pub trait OfNode: AnyPath {
-    /// Makes a compiled path of this type from a `Node`, which is a compiled path that owns its text.
+    /// A method that implementors provide: makes a compiled path of this type from a `Node`, which is a compiled path
+    /// that owns its text.
     ///
     /// ```text
     /// let node: Node = OfNode::of_node(Parser::compile(alloc, "$.a")?);

@@ -32,8 +32,8 @@ fn write_guarded<W: fmt::Write>(name: &str, f: &mut fmt::Formatter<W>) -> fmt::R
     Ok(())
 }
 
-/// Prints the step as in a path, in brackets: an index, or a name between single quotes, with a backslash before each
-/// single quote and each backslash in it.
+/// Prints a `LocStep`, one step of a location, in brackets, as in a normalized path: an index, or a name between single
+/// quotes. In the name, a backslash is put before each single quote and each backslash.
 impl fmt::Display for LocStep {
     ghost output = { λ step. Some (encode_utf8_all (step_chars (owned_step step))) };
 
