@@ -38,7 +38,9 @@ pub enum Task<'a> {
     Count(Vec<Query<'a>>),
     /// A task of `jpath`: it writes nothing; only its exit status says whether the paths select any value.
     Quiet(Vec<Query<'a>>),
-    /// Writes a table: a row for each value that one path selects, and in it a field for each of the other paths.
+    /// A task of `jpath`: it writes a table, with a row for each value that the path of the rows selects. For each
+    /// column, the row has a field with the first value that the column's path selects in the row's value; the field is
+    /// empty if the path selects nothing.
     Table(Table<'a>),
     /// A task of `jpath`: it writes each document after these edits, which are made one after another, in the order of
     /// the command line.
@@ -106,7 +108,8 @@ impl<'a> Wanted<'a> {
     }
 }
 
-/// Why `jpath` reads no document after its command line was parsed.
+/// The reasons why `jpath`, after its command line was parsed, reads no document: the command line has an error, memory
+/// ran out, or the option `--check` asks for no more than a check of the paths.
 #[derive(Drop)]
 pub enum Refused {
     /// An error after the command line is parsed: options contradict each other, or an option or the path is missing.

@@ -23,7 +23,8 @@ pub enum Action {
     Compile,
 }
 
-/// A question about what a compiled path selects in a document; the time of the answer is measured.
+/// The kinds of questions about what a compiled path selects in a document. The program measures how long an answer
+/// takes.
 #[derive(Clone, Copy)]
 pub enum Asked {
     /// A question whose answer is timed: which values does the compiled path select in the document?

@@ -19,8 +19,8 @@ pub struct Kept {
 }
 
 impl Kept {
-    /// The state of a run before its first document is read: there is no memory to use again, and no edit has been
-    /// noted.
+    /// Makes the state of a run before its first document is read: there is no memory to use again, and of no edit it
+    /// is noted yet that it has changed a document.
     pub fn new(alloc: Global) -> Kept {
         Kept {
             scratch: Scratch::new(alloc),

@@ -40,7 +40,8 @@ pub enum Numbers {
 }
 
 impl Numbers {
-    /// Whether the copy of a document on which paths are run has the numbers unchanged, as `serde_json` read them.
+    /// Whether this way to represent a document's numbers, in the copy on which paths are run, leaves them unchanged,
+    /// as `serde_json` read them. The other ways scale or replace them.
     pub fn is_as_read(&self) -> bool
         ensures { result ≡ is_as_read self.now }
     {

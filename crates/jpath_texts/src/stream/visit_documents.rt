@@ -85,7 +85,7 @@ pub struct Ended<S> {
 
 /// Reads a stream of documents, skipping a byte order mark at its beginning, and calls the visitor for each document,
 /// in order, as soon as its bytes are read. At the end of the stream the visitor is also called for the blanks there,
-/// even if there are none. Returns how many matches the documents have together, and why the visits ended. A malformed
+/// even if there are none. Returns the sum of the matches that the visitor reported, and why the visits ended. A malformed
 /// document is visited, too, as soon as its first wrong byte is read; the next document is then searched for after the
 /// line on which the malformed one begins.
 pub fn visit_documents<R: Input, V: Visitor>(

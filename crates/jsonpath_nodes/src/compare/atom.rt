@@ -18,17 +18,17 @@ use serde_json::{Number, Value};
 /// ```
 #[derive(Clone, Copy, Debug)]
 pub enum Atom<'a, N = Decimal> {
-    /// A value as comparisons see it: the JSON value `null`.
+    /// One kind of value, as comparisons see it: the JSON value `null`.
     Null,
-    /// A value as comparisons see it: a boolean, `true` or `false`.
+    /// One kind of value, as comparisons see it: a boolean, `true` or `false`.
     Bool(bool),
-    /// A value as comparisons see it: a number, of the type `N`. If `N` is `Decimal`, it is an `i64`, a `u64`, or a
+    /// One kind of value, as comparisons see it: a number, of the type `N`. If `N` is `Decimal`, it is an `i64`, a `u64`, or a
     /// number literal of a path; such a literal is exact to 18 decimal places.
     Number(N),
-    /// A value as comparisons see it: a text, that is, a JSON string or a quoted text of a path. The field has its
+    /// One kind of value, as comparisons see it: a text, that is, a JSON string or a quoted text of a path. The field has its
     /// content, without the quotes and with the escapes resolved.
     Text(&'a str),
-    /// A value as comparisons see it: a number that is neither an `i64` nor a `u64`, such as 1.5. Its value is not
+    /// One kind of value, as comparisons see it: a number that is neither an `i64` nor a `u64`, such as 1.5. Its value is not
     /// kept: any comparison with it by `!=` holds, and no other comparison does.
     Unread,
     /// A value to be compared, of which only the kind is kept: an array. Its items are not stored, since comparisons
