@@ -13,7 +13,7 @@ use json_recognizer::{
 };
 use std::fmt::{self, Display, Formatter};
 
-/// What is wrong with a document of a file.
+/// The kinds of errors of a document of a file: what is wrong with the document.
 #[derive(Clone, Copy, Debug, Drop, PartialEq, Eq)]
 pub enum Reason {
     /// An error in a document of a file: one of its bytes is wrong. The field says what could have been in place of

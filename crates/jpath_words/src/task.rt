@@ -59,8 +59,8 @@ pub struct Table<'a> {
     pub has_header: bool,
 }
 
-/// An edit by `jpath`: its path, compiled; what the path's filters compare; and the edit option, which says what is
-/// done with the values that the path selects.
+/// An edit by `jpath`: its compiled path; whether the path's filters compare numbers, and with which number literals;
+/// and the edit option, which says what is done with the values that the path selects.
 #[derive(Drop)]
 pub struct Edit<'a> {
     pub query: Query<'a>,

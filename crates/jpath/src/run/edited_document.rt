@@ -19,8 +19,8 @@ pub struct Kept {
 }
 
 impl Kept {
-    /// Makes the state of a run before its first document is read: there is no memory to use again, and of no edit it
-    /// is noted yet that it has changed a document.
+    /// Makes the state of a run before its first document is read. No buffer is kept for reuse yet, and no edit is
+    /// recorded as having changed a document.
     pub fn new(alloc: Global) -> Kept {
         Kept {
             scratch: Scratch::new(alloc),
