@@ -77,6 +77,12 @@ def wants(command, status, output, error="", given=None):
 
 wants("jpath '$.a' a.json", 0, "1\n")
 
+# a text without its quotes: the hint names the option that takes it so, where there is one
+unquoted = "jpath: {0} wants JSON, and this is none: Ada\nhint: a text has quotes here, as '\"Ada\"'{1}\n"
+wants("jpath --set '$.a' Ada a.json", 2, "", unquoted.format("--set", "; --set-text takes it without"))
+wants("jpath --add '$.z' Ada a.json", 2, "", unquoted.format("--add", "; --add-text takes it without"))
+wants("jpath --append '$.a' Ada a.json", 2, "", unquoted.format("--append", ""))
+
 # a name that comes again stands once, at its first place, with its last value; an edit leaves it as it is
 
 again = b'{"a":1,"b":[{"c":1,"c":2}],"a":3}'

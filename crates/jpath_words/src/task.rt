@@ -437,9 +437,12 @@ fn text_of_json_value(
         Err(DocumentRefusal::OutOfMemory) => Err(Refused::OutOfMemory),
         Err(_) => {
             let _ = eprintln!(rt; "jpath: {option} wants JSON, and this is none: {json}");
-            let _ = eprintln!(rt;
-                "hint: a text has quotes here, as '\"Ada\"'; --set-text and --add-text take it without"
-            );
+            let without = match option {
+                "--set" => "; --set-text takes it without",
+                "--add" => "; --add-text takes it without",
+                _ => "",
+            };
+            let _ = eprintln!(rt; "hint: a text has quotes here, as '\"Ada\"'{without}");
             Err(Refused::Told)
         }
     }
