@@ -6,31 +6,26 @@ use std::alloc::Global;
 use std::hint::black_box;
 use std::time::{Duration, Instant};
 
-/// What is timed: a call of the library. It asks what a path selects, changes a copy of the document, or compiles the
-/// path text.
+/// A timed library call: it asks what a path selects, changes a copy of the document, or compiles the path text.
 #[derive(Clone, Copy)]
 pub enum Action {
     /// A call of the library that is timed: it asks what the compiled path selects in the document. The field says what
     /// is asked for, such as the values or their number.
     Ask(Asked),
-    /// A call of the library that is timed: in a copy of the document, it replaces by null what the compiled path
-    /// selects.
+    /// A timed call of the library: in a copy of the document, it replaces by null what the compiled path selects.
     Delete,
-    /// A call of the library that is timed: it removes, from a copy of the document, the values below the root that the
-    /// compiled path selects.
+    /// A timed library call: removes, from a copy of the document, what the compiled path selects below the root.
     Remove,
     /// A library call whose time is measured: it compiles the path text.
     Compile,
 }
 
-/// The kinds of questions about what a compiled path selects in a document. The program measures how long an answer
-/// takes.
+/// The kinds of questions about what a compiled path selects in a document; the program times the answers.
 #[derive(Clone, Copy)]
 pub enum Asked {
     /// A question whose answer is timed: which values does the compiled path select in the document?
     Values,
-    /// A question whose answer is timed: which nodes (values with their locations) does the compiled path select in the
-    /// document?
+    /// A timed question: which nodes (values with their locations) does the compiled path select in the document?
     Spots,
     /// A question whose answer is timed: how many values does the compiled path select in the document?
     Count,
@@ -41,8 +36,7 @@ pub enum Asked {
 }
 
 impl Action {
-    /// Returns the `Action`, a call of the library that is to be timed, that this word of the command line names, such
-    /// as `select`; `None` if the word names none.
+    /// Returns the `Action` (a library call to time) that a command-line word, such as `select`, names; else `None`.
     pub fn of(word: &str) -> Option<Action> {
         match word {
             "select" => Some(Action::Ask(Asked::Values)),
@@ -61,8 +55,7 @@ impl Action {
 /// Runs the library call that `action` names (a selection, an update or a compilation) `count` times, and measures the
 /// time. Returns the total time and the number of results of one call: how many values or nodes the path selects (for
 /// an update, too); 0 or 1 for `First` and `Exists`; 1 for a compilation. Each update changes a fresh copy of the
-/// document; the time for making the copies is not counted. Errors: `path` is no path, memory ran out, or the clock
-/// can't be read.
+/// document; making it is not timed. Errors: `path` is no path, memory ran out, or the clock can't be read.
 pub fn measure(
     rt: &HostRuntime,
     action: Action,

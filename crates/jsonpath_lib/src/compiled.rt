@@ -1,6 +1,5 @@
-//! Compiled paths for many documents: `Compiled`, which owns its text, `PathCompiled`, which borrows it, and
-//! `CompiledPath`, which stores an error in place of the path if the text is no path; and several path texts compiled
-//! in order, by `compile_paths`.
+//! Compiled paths for many documents: `Compiled` owns its text, `PathCompiled` borrows it, `CompiledPath` stores an
+//! error in place of the path if the text is no path; `compile_paths` compiles several path texts in order.
 
 pub(crate) mod kept_path;
 pub(crate) mod owned_path;

@@ -18,8 +18,7 @@ fn main(rt: HostRuntime) -> ExitCode {
     }
 }
 
-// Carries out the words behind the program's name on standard input and output, and answers the exit status. A word
-// that is no UTF-8 is a wrong one (`Usage`).
+// Runs the arguments on standard input and output; returns the exit status. A non-UTF-8 argument is a `Usage` error.
 fn run_from_arguments(rt: &HostRuntime) -> Result<u8, Fault> {
     let alloc = rt.alloc();
     let arguments = match env::args(rt) {

@@ -1,9 +1,8 @@
 //! Lemmas about documents, locations, steps and updates. Each is the contract of a function that changes nothing.
 //!
-//! The candidates meant here are those of a filter that uses a relative query with at least one segment (an `@`, in no
-//! deeper filter, that is followed by a step): the non-array values left after flattening nested arrays, each location
-//! once. Locations are disjoint if no two are equal and none is below another. They are apart if no two are equal and
-//! no index steps lead from one to another.
+//! Candidates here are those of a filter with a relative query of at least one segment (an `@`, in no deeper filter,
+//! followed by a step): the non-array values left after flattening nested arrays, each location once. Locations are
+//! disjoint if none equals or is below another, and apart if none equals another or leads to it by index steps.
 
 ghost use Rattle.std.specs.Prelude.{◌≡◌, List, map, Option, option_map};
 ghost use Rattle.std.specs.Fn.{Called};
@@ -35,8 +34,7 @@ pub fn documents_keep_data_apart()
     ensures { DocumentsKeepDataApart }
 {}
 
-/// Lemma: the list of the root and all its descendants has every location at which the document has a value, and no
-/// other.
+/// Lemma: the list of the root and all its descendants has exactly the locations at which the document has a value.
 ///
 /// ```text
 /// laws::all_locations_stand_below_root();
@@ -55,9 +53,8 @@ pub fn locations_below_root_ascend()
     ensures { BelowAscends }
 {}
 
-/// Lemma: if a list of locations is sorted into document order (parents before children, members by their names' bytes,
-/// items by index) and its repeats are dropped, the result is a strictly ascending list. It has exactly the locations
-/// of the original list.
+/// Lemma: sorting a list of locations into document order (parents before children, members by their names' bytes,
+/// items by index) and dropping its repeats gives a strictly ascending list with exactly the original locations.
 ///
 /// ```text
 /// laws::locations_once_in_order_ascend();
@@ -77,8 +74,7 @@ pub fn equal_locations_are_same()
 {}
 
 /// Lemma: let a list of nodes and a list of locations be equally long, and let each node have the location with the
-/// same index in the second list, and the document's value there. Then the list of the nodes' locations, in order, is
-/// the second list.
+/// same index, and the document's value there. Then the list of the nodes' locations, in order, is the second list.
 ///
 /// ```text
 /// laws::spots_show_their_locations();
@@ -146,11 +142,10 @@ pub fn nulling_and_taking_ignore_order()
     ensures { SetsAlone }
 {}
 
-/// Lemma: what is found from a list of locations depends, as a set, only on the set of these locations, not on their
-/// order or on repeats. This holds for the nodes that a step or `..` selects from them, for the values that a filter
-/// tests, for the locations that meet a condition, and for whether there is such a location. Two lists with the same
-/// set of locations become equal when they are put in document order (parents before children, members by their names'
-/// bytes, items by index), each location once.
+/// Lemma: what is found from a list of locations depends, as a set, only on the set of these locations, not on order or
+/// repeats. This holds for the nodes that a step or `..` selects, the values that a filter tests, the locations that
+/// meet a condition, and whether there is one. Two lists with the same set of locations become equal in document order
+/// (parents before children, members by their names' bytes, items by index), each location once.
 /// ```text
 /// laws::steps_ignore_order_and_repeats();
 /// ```
@@ -217,11 +212,10 @@ pub fn steps_keep_locations_disjoint()
     ensures candidates { CandidatesStayDisjoint }
 {}
 
-/// Lemma: locations are called apart if no two are equal and none can be reached from another by indexes alone; a
-/// single location is apart. The candidates of a filter are the values that it tests: those at the locations where it
-/// starts, each array replaced by its items, and these again if they are arrays, until no array is left. If a filter
-/// starts from locations that are apart, no candidate is found twice. From whatever locations it starts, the locations
-/// of its candidates, each taken once, are apart.
+/// Lemma: locations are called apart if no two are equal and none is reached from another by indexes alone; a single
+/// one is apart. A filter's candidates are the values that it tests: those at its starting locations, each array
+/// replaced by its items, again and again until no array is left. If a filter starts from locations that are apart, no
+/// candidate is found twice. From any locations, its candidates' locations, each taken once, are apart.
 ///
 /// ```text
 /// laws::apart_locations_meet_candidates_once();
@@ -235,9 +229,8 @@ pub fn apart_locations_meet_candidates_once()
 
 /// Lemma: locations are called apart if no two are equal and none can be reached from another by indexes alone. From
 /// different locations, a name or a list of different names leads to locations that are apart. So does `..` before a
-/// name from a single location. From locations that are apart, an index, a slice, or a list of different indexes that
-/// are not negative leads to locations that are apart. If locations are apart, so are those of them that meet a
-/// filter's condition.
+/// name from one location. From locations that are apart, an index, a slice, or a list of different non-negative
+/// indexes leads to locations that are apart. If locations are apart, so are those that meet a filter's condition.
 ///
 /// ```text
 /// laws::steps_keep_locations_apart();
@@ -252,11 +245,10 @@ pub fn steps_keep_locations_apart()
     ensures kept { KeptStandApart }
 {}
 
-/// Lemma: three kinds of lists have no location twice. First, the list of all locations at or below one location, if in
-/// each object of the document the names ascend. Second, what a step selects from a list that has no location twice, if
-/// the step has no name twice and, where it has several indexes, none twice and none negative; for `*`, the names in
-/// each object at these locations must ascend, too. Third, those locations of a list without repeats that meet a
-/// filter's condition.
+/// Lemma: three kinds of lists have no location twice. First, all locations at or below one location, if in each object
+/// of the document the names ascend. Second, what a step selects from a list without repeats, if the step has no name
+/// twice and, of several indexes, none twice and none negative; for `*`, the names in each object at these locations
+/// must ascend, too. Third, those locations of a list without repeats that meet a filter's condition.
 ///
 /// ```text
 /// laws::steps_lead_without_repeats();
@@ -306,8 +298,7 @@ fn object_is_document(members: &Map<String, Value>)
     }
 }
 
-/// Lemma: if the value is an object, its member names ascend strictly by their bytes. Nothing is said of the objects
-/// below it.
+/// Lemma: if the value is an object, its member names ascend strictly by bytes. Objects below it are not covered.
 ///
 /// ```text
 /// let document = read_document(alloc, br#"{"b":1,"a":2}"#)?;

@@ -17,8 +17,7 @@ use crate::step::stride::{Stride, listed_names, plain_step_of_selection};
 use std::alloc::Global;
 
 /// Returns the children that a step other than a filter, such as `[0]`, selects from each node, node after node, with
-/// duplicates. The children of one node come in the order that the comments of `PlainStep`, the type of the step, give
-/// for it.
+/// duplicates. The comments of `PlainStep`, the step's type, give the order of one node's children.
 ///
 /// ```text
 /// let items = steps_on_marks::plain_step_from_each(alloc, &[&document], &PlainStep::Every)?;
@@ -67,8 +66,7 @@ fn selected_children_of_each<'a, M: Mark<'a>>(
     Ok(found)
 }
 
-/// The member of the given name, from each node that is an object and has one, in the order of the nodes. The name is
-/// taken literally, without quotes or escapes.
+/// The member of the given name (literal: no quotes or escapes) from each node that has one, in the nodes' order.
 ///
 /// ```text
 /// let found = steps_on_marks::named_member_from_each(alloc, &[&document], "a")?;
@@ -89,8 +87,7 @@ pub fn named_member_from_each<'a, M: Mark<'a>>(
     Ok(found)
 }
 
-/// Appends to a list of nodes the member of the given name, if the node is an object that has one. The name is taken
-/// literally, without quotes or escapes.
+/// Appends the node's member of this name, taken literally (no quotes or escapes), if any, to a list of nodes.
 ///
 /// ```text
 /// let mut found: Vec<&Value> = Vec::new(alloc);
@@ -161,10 +158,9 @@ pub fn stride_from_each<'a, M: Mark<'a>>(
     }
 }
 
-/// For each node in order, returns the node itself if it is no array, else the non-array values that are left if each
-/// array is replaced by its items again and again. A value that is found from two nodes is listed twice. If no value is
-/// listed twice, this list has exactly the values that a filter with a relative query of at least one segment, such as
-/// `[?(@.a)]`, tests from these nodes.
+/// For each node in order, returns the node if it is no array, else the non-array values left if each array is replaced
+/// by its items repeatedly. A value found from two nodes is listed twice. If none is, the list has exactly the values
+/// that a filter with a relative query of at least one segment, such as `[?(@.a)]`, tests from these nodes.
 ///
 /// ```text
 /// let found = steps_on_marks::flattened_from_each(alloc, &[&document])?;
@@ -181,9 +177,8 @@ pub fn flattened_from_each<'a, M: Mark<'a>>(alloc: Global, marks: &[M]) -> Resul
     Ok(found)
 }
 
-/// The values that a filter tests when it is applied to one node, if the filter has a relative query with at least one
-/// segment, such as `@.a`: the node itself if it is no array, else the non-array values that are left if each array is
-/// replaced by its items again and again.
+/// The values that a filter with a relative query of at least one segment, such as `@.a`, tests if applied to one node:
+/// the node if it is no array, else the non-array values left after replacing arrays by their items repeatedly.
 ///
 /// ```text
 /// let found = steps_on_marks::flattened_from_mark(alloc, &&document)?;
@@ -198,10 +193,9 @@ pub fn flattened_from_mark<'a, M: Mark<'a>>(alloc: Global, mark: &M) -> Result<V
     Ok(found)
 }
 
-/// The values that a filter after `..` tests when it is applied to one node, if the filter has a relative query with at
-/// least one segment, such as `@.a`. These are the node's descendants that are not arrays, each once. Their order is
-/// that of `..*`, with each array replaced by its items (and these again, if they are arrays); of a value found twice,
-/// the first occurrence counts.
+/// The values that a filter after `..` with a relative query of at least one segment, such as `@.a`, tests when applied
+/// to one node: the node's descendants that are not arrays, each once, in the order of `..*` with each array replaced
+/// by its items (and these again, if arrays); of a value found twice, the first occurrence counts.
 ///
 /// ```text
 /// let found = steps_on_marks::candidates_below_mark(alloc, &&document)?;

@@ -24,17 +24,13 @@ use std::cmp::Ordering;
 pub trait Tree: Copy + Drop {
     /// An associated type, chosen by the implementor: the name of a member of an object, as the document stores it.
     type Name: Copy;
-    /// An associated type, chosen by the implementor: the type of a handle to an array of the document, through which
-    /// its items are read.
+    /// An associated type, chosen by the implementor: a handle to an array of the document, to read its items.
     type Array: Copy;
-    /// An associated type, chosen by the implementor: the type of a handle to an object of the document, through which
-    /// its members are read.
+    /// An associated type, the implementor's choice: a handle to an object of the document, to read its members.
     type Object: Copy;
-    /// An associated type, chosen by the implementor: the state of an iteration over an array's items, that is, the
-    /// items that were not yet returned.
+    /// An associated type, chosen by the implementor: an array iteration's state, the items not yet returned.
     type ItemsLeft: Drop;
-    /// An associated type, chosen by the implementor: the state of an iteration over an object's members, that is, the
-    /// members not yet returned.
+    /// An associated type, chosen by the implementor: an iteration's state, the object members not yet returned.
     type MembersLeft: Drop;
     /// An associated type, chosen by the implementor: the type of the numbers that comparisons use, such as `Decimal`.
     type Number: Drop;
@@ -60,8 +56,7 @@ pub trait Tree: Copy + Drop {
     fn atom(&self) -> Result<Atom<'_, Self::Number>, Self::Error>
         ensures { IfOk result (λ atom. seen_with fraction_of atom ≡ seen (content self.now)) };
 
-    /// A method that implementors provide: compares two numbers exactly, and returns their order: less, equal or
-    /// greater.
+    /// A method that implementors provide: returns the exact order of two numbers: less, equal or greater.
     fn compare_numbers(left: &Self::Number, right: &Self::Number) -> Ordering
         ensures { result ≡ fraction_order (fraction_of left.now) (fraction_of right.now) };
 
@@ -81,8 +76,7 @@ pub trait Tree: Copy + Drop {
     fn len(array: Self::Array) -> usize
         ensures { result ≡ items_len (items array) };
 
-    /// A method that implementors provide: returns the item of the array at this index, counted from 0; `None` if the
-    /// array has no item there.
+    /// A method that implementors provide: returns the array's item at this index (from 0); `None` if it has none.
     fn item_at(array: Self::Array, index: usize) -> Option<Self>
         ensures { option_map (λ v. content v) result ≡ get_item index (items array) };
 

@@ -1,5 +1,4 @@
-//! `Decimal`, a number of a path or a document, kept as a whole multiple of 10^-18: how it is made of parts and read as
-//! units.
+//! `Decimal`, a number of a path or document, kept as a whole multiple of 10^-18: made from parts, read as units.
 
 ghost use Rattle.std.specs.Prelude.{◌≡◌, ◌<◌, ◌^◌, ◌&&◌, Some, None, nat_le, nat_lt, pos, if◌then◌else◌};
 ghost use Rattle.jsonpath_paths.specs.Numbers.{decimal_from, decimal_units, whole_bound};

@@ -20,9 +20,8 @@ ghost use Rattle.jsonpath_paths.specs.declared.token.tokens.Kind.{Kind};
 ghost use Rattle.jsonpath_paths.specs.declared.token.tokens.Token.{Token};
 ghost use Rattle.jsonpath_paths.specs.declared.token.tokens.TokenError.{TokenError};
 
-/// Lemma: the first token of a text is the longest prefix of the text that is a token, and it has one kind alone. If a
-/// text has no first token, none of its prefixes is a token. A text has at most one first token, and that token has
-/// only one possible end.
+/// Lemma: the first token of a text is its longest prefix that is a token, and has one kind alone. A text with no first
+/// token has no prefix that is a token. A text has at most one first token, with only one possible end.
 ///
 /// ```text
 /// laws::longest_front();
@@ -35,8 +34,7 @@ pub fn longest_front()
     ensures one_token { (from to other : Place) (t u : Token) → TakesToken from t to → TakesToken from u other → (t ≡ u) × (to ≡ other) }
 {}
 
-/// Lemma: if a path text begins with an unquoted name or number whose first character is not `$`, its first token is
-/// all of this name or number.
+/// Lemma: if a path text begins with an unquoted name or number, but not with `$`, all of this is its first token.
 ///
 /// ```text
 /// laws::word_is_first_token();
@@ -55,8 +53,7 @@ pub fn one_tree_per_text()
     ensures { (text : List ℕ) (p q : Path) → Spells text p → Spells text q → p ≡ q }
 {}
 
-/// Lemma: no two syntax trees that the grammar allows have the same token list (the tree written out as a list of
-/// `ParseToken`s).
+/// Lemma: no two syntax trees that the grammar allows have the same token list (the tree written as `ParseToken`s).
 ///
 /// ```text
 /// laws::one_tree_per_token_list();
@@ -76,9 +73,8 @@ pub fn spelled_tree()
     ensures only { (text : List ℕ) (p : Path) → Spells text p → tree_of_text text ≡ Some p }
 {}
 
-/// Lemma: a text has its syntax error at a position exactly if `place_of_text`, a function for proofs, computes this
-/// position from the text. So a text has one such position at most, and a proof can show where a constant text has its
-/// error, just by evaluating the function.
+/// Lemma: a text has its syntax error at a position exactly if `place_of_text`, a function for proofs, computes it from
+/// the text. So it has at most one, and a proof finds a constant text's just by evaluating the function.
 ///
 /// ```text
 /// laws::error_position();

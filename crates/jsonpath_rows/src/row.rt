@@ -36,8 +36,7 @@ pub struct Outcome {
 }
 
 impl Outcome {
-    /// Whether this run of the program `jsonpath_run` has the exit status, the output and the error text that the test
-    /// case `row` expects.
+    /// Whether a run of `jsonpath_run` has the exit status, output and error text that the test case `row` expects.
     pub fn is_of(&self, row: &Row) -> bool {
         let is_error = match &row.error {
             Some(error) => self.error.as_str() == error.as_str(),

@@ -12,14 +12,11 @@ use std::alloc::Global;
 /// token list (its syntax tree written out as a list). All of them have to give the same answer.
 #[derive(Clone, Copy)]
 pub enum Method {
-    /// A way in which a test selects by a path: it selects values by a `JsonSelector`, an object that has a path and a
-    /// document.
+    /// A way for a test to select by a path: values, by a `JsonSelector`, an object with a path and a document.
     JsonSelector,
-    /// A way in which a test selects by a path: it selects values by a `Selector`, an object that has a path and a
-    /// document.
+    /// A way for a test to select values by a path: by a `Selector`, an object that has a path and a document.
     Selector,
-    /// A way in which a test selects by a path: it selects nodes (values with their locations) by a `Selector`, an
-    /// object that has a path and a document.
+    /// A way for a test to select by a path: nodes (values with locations), by a `Selector` with path and document.
     SelectorSpots,
     /// A way in which a test selects by a path: it passes the path's token list, which is its syntax tree written out
     /// as a list, first to `tokens_fit`, which checks it, and then to `select_tokens`, which selects by it.
@@ -30,8 +27,7 @@ pub enum Method {
 }
 
 impl Method {
-    /// Returns the name of this way in which a test selects by a path, such as `Selector`. It is used in error
-    /// messages.
+    /// Returns the name of this way in which a test selects by a path, such as `Selector`. Error messages use it.
     pub fn name(self) -> &'static str {
         match self {
             Method::JsonSelector => "JsonSelector",
@@ -43,9 +39,8 @@ impl Method {
     }
 }
 
-/// Runs a test case in the way that `way` says, and returns whether the selected values or the error are those that the
-/// test case `row` expects. `None` if the test case is not about the command `select` with one path. The only error is
-/// `OutOfMemory`.
+/// Runs a test case in the way `way`, and returns whether the selected values or the error are those that the case
+/// `row` expects. `None` if the case is not about the command `select` with one path. The only error: `OutOfMemory`.
 pub fn is_selected(alloc: Global, row: &Row, way: Method) -> Result<Option<bool>, JsonPathError> {
     let [command, path] = row.words.as_slice() else {
         return Ok(None);

@@ -16,8 +16,7 @@ pub enum Fault {
     /// An error of the program `jsonpath_run`: its command line is not valid. It has an unknown command, a wrong number
     /// of arguments, or an argument that is not UTF-8.
     Usage,
-    /// An error of the program `jsonpath_run`: a path or the input is wrong, the output has a number that can't be
-    /// printed, or memory ran out.
+    /// An error of `jsonpath_run`: a wrong path or input, an output number that can't be printed, or memory ran out.
     Refused(JsonPathError),
     /// An error of the program `jsonpath_run`: a read of its input or a write of its output failed.
     Io,

@@ -10,8 +10,7 @@ ghost use Rattle.jsonpath_run.specs.Words.{IsCall, IsUsage, IsCount};
 /// ```
 #[derive(Clone, Copy, Debug, PartialEq, Eq)]
 pub enum Command {
-    /// The command that writes, as a JSON array, the values that a path selects in the document, in the order in which
-    /// the path finds them, with duplicates.
+    /// The command that writes, as a JSON array, the values a path selects, in the order found, with duplicates.
     Select,
     /// The command that writes the document with null in place of each value that a path selects, except the root.
     Delete,
@@ -19,8 +18,7 @@ pub enum Command {
     Remove,
     /// The command that writes `ok` if a text is a path; if it is none, `run` returns the error `Refused`.
     Check,
-    /// The command that writes the document with null in place of each value below the root that any of one or more
-    /// paths selects.
+    /// The command that writes the document with null for each non-root value that any of one or more paths selects.
     Mask,
 }
 
@@ -36,12 +34,10 @@ pub enum Command {
 /// ```
 #[derive(Clone, Copy)]
 pub struct Call<'w, 'a> {
-    /// A field of the parsed command line of the program `jsonpath_run`: the command that the program's first argument
-    /// names.
+    /// A field of the parsed command line of `jsonpath_run`: the command that the program's first argument names.
     pub command: Command,
-    /// The path texts that follow the command on the command line, in order; they may have syntax errors. If
-    /// `parse_call`, which parses the command line, has made this list, it has one text or more for the command `mask`,
-    /// and exactly one for every other command.
+    /// The path texts after the command on the command line, in order; they may have syntax errors. If made by the
+    /// parser `parse_call`, the list has at least one text for the command `mask`, exactly one for any other.
     pub paths: &'w [&'a str],
 }
 

@@ -1,5 +1,4 @@
-//! What a path selects: nodes, values, locations and the first value, as text and as typed values; updates of what
-//! is selected; documents read and printed.
+//! What a path selects (nodes, values, locations, first value; as text, typed); updates; documents read and printed.
 
 pub(crate) mod count_first_exists;
 pub(crate) mod document;

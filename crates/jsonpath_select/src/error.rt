@@ -36,9 +36,8 @@ pub enum JsonPathError {
     /// text and a line of `^`: one for each byte up to that position, or for each byte of the text where the message
     /// would be `Eof`. The error is printed as `path error: `, a line end, the message and a line end.
     Path(String),
-    /// An error: a text is no JSON, a value can't be deserialized to the wanted type, or a number that has to be
-    /// printed or deserialized is neither an `i64` nor a `u64`. It is printed as `serde error: `, a line end, the
-    /// message in the field, and a line end.
+    /// An error: a text is no JSON, a value can't be deserialized to the wanted type, or a number to be printed or
+    /// deserialized is neither an `i64` nor a `u64`. Printed as two lines: `serde error: ` and the field's message.
     Serde(String),
     /// An error: memory ran out. It is printed as `out of memory`.
     OutOfMemory,
@@ -75,10 +74,9 @@ impl fmt::Debug for JsonPathError {
 impl Error for JsonPathError {}
 
 impl JsonPathError {
-    /// Returns the byte position just after the wrong token or character of a syntax error; `None` for any other error.
-    /// The result is also `None` if the text ends too early or its last token or character is wrong. In these two cases
-    /// an error of `Parser`, which compiles to a path that owns its text, gives the text's length instead: the length
-    /// of the row of `^` in its message.
+    /// Returns the byte position just after the wrong token or character of a syntax error; `None` for any other error,
+    /// and if the text ends too early or its last token or character is wrong. In the last two cases, an error of
+    /// `Parser` (for a path that owns its text) gives the text's length: that of the row of `^` in its message.
     ///
     /// ```text
     /// match compile_path(alloc, "$.a[b]") {
@@ -95,11 +93,10 @@ impl JsonPathError {
         }
     }
 
-    /// Shows where in `path` this syntax error is; `path` has to be the text that was compiled, which is not tested.
+    /// Shows where in `path` this syntax error is; `path` must be the text that was compiled, which is not tested.
     /// Returns `path`, a line end, and a `^` for each byte of `path` up to the end of the wrong token, or for all its
-    /// bytes if the text ends too early. An error of `Parser`, which compiles to a path that owns its text, has the
-    /// same text as its message. Returns `None` if this error is no syntax error. The call itself fails only if memory
-    /// runs out.
+    /// bytes if the text ends too early. An error of `Parser`, which compiles to a path that owns its text, has this
+    /// text as its message. Returns `None` if this is no syntax error. The call fails only if memory runs out.
     ///
     /// ```text
     /// let refused = compile_path(alloc, "$.a[b]")
@@ -137,8 +134,7 @@ fn number_in_message(message: &str) -> Option<usize>
     message.strip_prefix("Position:")?.parse::<usize>().ok()
 }
 
-// The path with a row of `^` below it: as many as the message's position says, but at most as many as the path has
-// bytes, and so many where the message has none.
+// The path over as many `^` as the message's position says, at most the path's bytes, and so many if it has none.
 fn path_with_carets_of_message(
     alloc: Global,
     message: &str,
@@ -169,8 +165,7 @@ pub fn path_error(alloc: Global, error: &TokenError) -> JsonPathError
     message.map_or(JsonPathError::OutOfMemory, JsonPathError::Path)
 }
 
-/// Converts an error of `Parser`: `Text` to `Path` with a copy of its message, `OutOfMemory` to itself. If memory runs
-/// out for the copy, the result is `OutOfMemory`.
+/// Converts an error of `Parser`: `Text`, if memory allows, to `Path` with a copied message, else to `OutOfMemory`.
 ///
 /// ```text
 /// match Parser::compile(alloc, "$[") {

@@ -48,12 +48,11 @@ pub fn swapped_sides_select_alike()
     ensures { OrderIsFree }
 {}
 
-/// Lemma: let `a` and `b` be condition texts. Then the paths `$[?((a) && (b))]` and `$[?((b) && (a))]` select the same
-/// list, and so do those with `||`. The lemma assumes that these paths, and also `$[?(a)]` and `$[?(b)]`, are in the
-/// grammar. This rules out a text such as `@.x) || (@.y` for `a`: in this grammar one pair of parentheses encloses the
-/// whole condition of a filter, so `$[?(a)]`, which would be `$[?(@.x) || (@.y)]`, is no path. The inner parentheses
-/// are needed, since `&&` and `||` have the same precedence and group to the right: without them, if `a` is `@.x &&
-/// @.y`, `a || b` means `@.x && (@.y || b)`.
+/// Lemma: for condition texts `a` and `b`, the paths `$[?((a) && (b))]` and `$[?((b) && (a))]` select the same list,
+/// and so do those with `||`. It assumes that these paths, and also `$[?(a)]` and `$[?(b)]`, are in the grammar. This
+/// rules out a text such as `@.x) || (@.y` for `a`: one pair of parentheses must enclose a filter's whole condition, so
+/// `$[?(@.x) || (@.y)]` is no path. The inner parentheses are needed, since `&&` and `||` have the same precedence and
+/// group to the right: without them, if `a` is `@.x && @.y`, `a || b` means `@.x && (@.y || b)`.
 ///
 /// ```text
 /// laws::swapped_condition_texts_select_alike();
@@ -66,9 +65,8 @@ pub fn swapped_condition_texts_select_alike()
     connective_joins_conditions();
 }
 
-/// Lemma: the text of a location, as `{}` prints it, is a path of the grammar. In a document that has the location, the
-/// path selects it alone; in any other document, it selects nothing. The lemma assumes that each name is UTF-8 text and
-/// each index is below 2^63.
+/// Lemma: the text of a location, as `{}` prints it, is a path of the grammar. It selects this location alone in a
+/// document that has it, and nothing in any other. Assumed: each name is UTF-8 text and each index is below 2^63.
 ///
 /// ```text
 /// laws::location_text_selects_itself();
@@ -125,8 +123,7 @@ pub fn refused_for_memory_alone()
     ensures { NeverRefused }
 {}
 
-/// Lemma: a document has a value at each location that a path selects in it, so the path selects as many values as
-/// locations, in the same order.
+/// Lemma: each location that a path selects in a document has a value: as many values as locations, in that order.
 ///
 /// ```text
 /// laws::each_location_has_a_value();
@@ -176,9 +173,8 @@ pub fn dropping_repeats_keeps_the_set()
     steps_ignore_order_and_repeats();
 }
 
-/// Lemma: let some steps of a path be applied to a list of locations. The locations from which these steps select
-/// nothing can be left out of that list beforehand: from the other locations alone, the steps select the same list, in
-/// the same order and with the same duplicates.
+/// Lemma: of a list of locations to which steps of a path are applied, those from which the steps select nothing can be
+/// left out beforehand: the others alone yield the same list, in the same order, with the same duplicates.
 ///
 /// ```text
 /// laws::what_leads_on_suffices();

@@ -70,8 +70,7 @@ pub fn compile_bare_name(alloc: Global) -> Result<PathParser<'static>, TokenErro
     PathParser::compile(alloc, "$.a[b]")
 }
 
-/// Whether the path selects exactly `count` values in the document, duplicates included. Errors: `Path` if the text is
-/// no path, or `OutOfMemory`.
+/// Whether a path selects exactly `count` values, with duplicates. Errors: `Path` (text is no path), `OutOfMemory`.
 pub fn selects_exactly(
     alloc: Global,
     json: &Value,

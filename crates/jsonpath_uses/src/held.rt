@@ -41,9 +41,8 @@ pub fn set_path_in_pair<P: OfNode + Drop, V: HeldValue>(
     Ok(())
 }
 
-/// Sets `first` as the path of a `Selector`, then `second` in its place, and returns what `second` selects in `json`,
-/// in the order in which its steps find the values, with duplicates. Errors: `Path` for a text that is no path, or
-/// `OutOfMemory`.
+/// Sets a `Selector`'s path to `first`, then to `second`, and returns what `second` selects in `json`, in the order in
+/// which its steps find the values, with duplicates. Errors: `Path` for a text that is no path, or `OutOfMemory`.
 pub fn select_by_second_path<'a>(
     alloc: Global,
     json: &'a Value,
@@ -80,9 +79,8 @@ pub fn select_in_two_documents<'a>(
     Ok((first, second))
 }
 
-/// The document with null in place of what the path selects below the root, made by calls on a `JsonSelectorMut` that
-/// are not chained. `None` only if the selector had no document, which can't happen here. The only error is
-/// `OutOfMemory`.
+/// The document with null in place of what the path selects below the root, made by unchained calls on a
+/// `JsonSelectorMut`. `None` only if the selector had no document, which can't happen here. Only error: `OutOfMemory`.
 pub fn delete_in_statements(
     alloc: Global,
     json: Value,

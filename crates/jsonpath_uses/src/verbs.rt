@@ -27,8 +27,7 @@ pub fn select<'v>(
     path.select(alloc, json)
 }
 
-/// The nodes (values with locations) that the path selects, in the order in which it finds them, with duplicates.
-/// Error: `OutOfMemory`.
+/// The nodes (values with locations) the path selects, in the order found, with duplicates. Error: `OutOfMemory`.
 pub fn select_spots<'v>(
     alloc: Global,
     json: &'v Value,
@@ -65,9 +64,8 @@ pub fn select_as_str(
     path.select_as_str(alloc, json)
 }
 
-/// The values that the path selects, in the order in which it finds them, with duplicates, each made a `T`. Errors:
-/// `OutOfMemory`, or `Serde` if one can't be made a `T` or contains a number that is neither an `i64` nor a `u64`, such
-/// as 1.5.
+/// The values that the path selects, in the order found, with duplicates, each made a `T`. Errors: `OutOfMemory`, or
+/// `Serde` if a value can't be made a `T` or contains a number that is neither an `i64` nor a `u64`, such as 1.5.
 pub fn select_as<T: DeserializeOwned>(
     alloc: Global,
     json: &Value,
@@ -87,8 +85,7 @@ pub fn count(alloc: Global, json: &Value, path: &PathParser<'_>) -> Result<usize
     path.count(alloc, json)
 }
 
-/// The first value that the path selects in the document, in the order in which it finds them, or `None`. The only
-/// error is `OutOfMemory`.
+/// The value that the path finds first in the document, or `None` if it finds none. The only error: `OutOfMemory`.
 pub fn first<'v>(
     alloc: Global,
     json: &'v Value,
@@ -108,8 +105,7 @@ pub fn exists(alloc: Global, json: &Value, path: &PathParser<'_>) -> Result<bool
     path.exists(alloc, json)
 }
 
-/// Puts null, in the document `value`, in place of each value that the path selects below the root. The only error is
-/// `OutOfMemory`; `value` is then unchanged.
+/// Replaces by null each value the path selects below `value`'s root. The only error: `OutOfMemory`, with no change.
 pub fn delete_in(
     alloc: Global,
     value: &mut Value,
@@ -122,8 +118,7 @@ pub fn delete_in(
     path.delete_in(alloc, value)
 }
 
-/// Removes, from the document `value`, the values that the path selects below the root. The only error is
-/// `OutOfMemory`; `value` is then unchanged.
+/// Removes from `value` what the path selects below its root. The only error: `OutOfMemory`; then nothing changes.
 pub fn remove_in(
     alloc: Global,
     value: &mut Value,
@@ -151,9 +146,8 @@ pub fn set_in(
     path.set_in(alloc, value, new)
 }
 
-/// Replaces the value at each location that the path selects below the root, in document order (parents first), by the
-/// closure's result, or removes it at `None`. The only error is `OutOfMemory`; then nothing has changed and the closure
-/// was not called.
+/// At each location that the path selects below the root, in document order (parents first), replaces the value by the
+/// closure's result, or removes it at `None`. The only error: `OutOfMemory`, before any closure call or change.
 pub fn replace_in<F: FnMut(Value) -> Option<Value>>(
     alloc: Global,
     value: &mut Value,
@@ -189,8 +183,7 @@ pub fn try_replace_in<E, F: FnMut(&Value) -> Result<Option<Value>, E>>(
     path.try_replace_in(alloc, value, fun)
 }
 
-/// Returns the text from which a path was compiled. In the contracts (proved specifications) of a compiled path's
-/// methods, this text has the name `spelling`.
+/// Returns the text a path was compiled from, named `spelling` in its methods' contracts (proved specifications).
 pub fn spelling_of<P: AnyPath>(path: &P) -> &str
     ensures { result.now ≡ P.spelling path.now }
 {

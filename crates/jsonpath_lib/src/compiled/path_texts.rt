@@ -21,17 +21,14 @@ use std::fmt;
 /// ```
 #[derive(Drop)]
 pub struct PathsFault {
-    /// A field of the error of compiling a list of path texts: the index, from 0, of the first text in the list that is
-    /// no path; `None` if memory ran out.
+    /// A field of a compile error: the index, from 0, of the first text that is no path; `None` if memory ran out.
     pub index: Option<usize>,
-    /// In the error of compiling a list of path texts: the cause. It is `Path`, with a message, for the first text that
-    /// is no path, or `OutOfMemory`.
+    /// Why compiling path texts failed: `OutOfMemory`, or `Path` with a message for the first text that is no path.
     pub fault: JsonPathError,
 }
 
 /// Prints an error of compiling a list of path texts: the word `path`, the index (from 0) of the wrong text in the
-/// list, a colon, and the text of the cause. If memory ran out, there is no index, and only the text of the cause is
-/// printed.
+/// list, a colon, and the text of the cause. If memory ran out, there is no index, and the cause alone is printed.
 impl fmt::Display for PathsFault {
     ghost output = { λ fault. Some (paths_fault_text fault.index fault.fault) };
 
@@ -50,8 +47,7 @@ impl fmt::Debug for PathsFault {
 
 impl Error for PathsFault {}
 
-/// Converts the error of compiling a list of path texts to its cause, the field `fault`. The index of the wrong text,
-/// which the error also has, is dropped.
+/// Converts the error of compiling a list of path texts to its cause, `fault`; drops the index of the wrong text.
 impl From<PathsFault> for JsonPathError {
     ghost from_gives = { λ refused error. error ≡ refused.fault };
 

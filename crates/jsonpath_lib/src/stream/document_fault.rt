@@ -23,8 +23,7 @@ use std::fmt;
 /// ```
 #[derive(Clone, Copy, Debug, Drop, PartialEq, Eq)]
 pub enum FaultKind {
-    /// An error in a stream of documents: a byte is wrong, that is, no JSON document can continue with it. The error's
-    /// position is that of this byte.
+    /// An error in a stream of documents: no JSON document can continue with the byte at the error's position.
     WrongByte,
     /// An error of reading a stream of documents: the stream ends inside a document. The error's position is that of
     /// the stream's last byte; if this byte is a line end, the position is column 0 of the next line.
@@ -32,12 +31,10 @@ pub enum FaultKind {
     /// An error of reading a stream of documents: `serde_json` rejects the document, for example because a number is
     /// too large. The error's position is the one that `serde_json` reports, counted from the beginning of the stream.
     Unread,
-    /// An error of reading a stream of documents: a read of the input failed. The error's position is just after the
-    /// last byte that was read.
+    /// An error of a document stream: a read of the input failed. Its position is just after the last byte read.
     ReadFailed,
-    /// An error of reading the next document of a stream: memory ran out. If a document was being parsed, the error's
-    /// position is the one that `serde_json` reports, counted from the beginning of the stream. Else it is the position
-    /// just after the last byte read.
+    /// An error of reading the next document of a stream: memory ran out. Its position is just after the last byte
+    /// read, or, if a document was being parsed, the one from `serde_json`, counted from the stream's beginning.
     OutOfMemory,
     /// An error of reading a stream of documents: the stream has more bytes than 64 bits can count. The error's
     /// position is just after the last returned document.
@@ -68,8 +65,7 @@ pub struct DocumentFault {
     pub error: JsonPathError,
 }
 
-/// Prints an error of reading a stream of documents: its field `error`, which is a message that ends with the line and
-/// column, or `out of memory`.
+/// Prints an error of reading documents: its field `error`, a message with line and column, or `out of memory`.
 impl fmt::Display for DocumentFault {
     ghost output = { λ fault. Some (error_text fault.error) };
 
@@ -89,8 +85,7 @@ impl fmt::Debug for DocumentFault {
 
 impl Error for DocumentFault {}
 
-/// Converts an error of reading a stream of documents to the error in its field `error`, which is a message that ends
-/// with the line and column, or `OutOfMemory`.
+/// Converts a document stream's error to its field `error`: a message ending in line and column, or `OutOfMemory`.
 impl From<DocumentFault> for JsonPathError {
     ghost from_gives = { λ fault error. error ≡ fault.error };
 

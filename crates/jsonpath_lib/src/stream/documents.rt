@@ -13,9 +13,8 @@ use std::alloc::Global;
 /// Iterator over the JSON documents of a text or stream, separated by line ends or blanks (none needed after a closing
 /// bracket, a quote or a word such as `true`). It reads one at a time, so reading a log takes the memory of one record.
 ///
-/// A number ends before a blank, `[`, `{` or `"`, or at the stream's end; any other document is returned as soon as its
-/// last byte is read. The first error is the last item of the iterator. A syntax error is at the first byte with which
-/// no document can continue.
+/// A number ends before a blank, `[`, `{`, `"` or the stream's end; any other document is returned once its last byte
+/// is read. The first error is the last item. A syntax error is at the first byte that can continue no document.
 ///
 /// ```text
 /// let log = b"{\"ms\": 7}\n{\"ms\": 900}\n[1][2]";
@@ -107,8 +106,7 @@ impl<R: Input> Documents<R> {
     }
 }
 
-/// Returns the next document of the stream, or the error with its line and column; `None` at the end, and after an
-/// error.
+/// Returns the stream's next document, or the error with line and column; `None` at the end and after an error.
 impl<R: Input + Drop> Iterator for Documents<R> {
     ghost use Rattle.std.specs.Iterator.{at_most};
     ghost use Rattle.jsonpath_lib.specs.stream.Documents.{Gives, most_left};

@@ -18,8 +18,7 @@ use std::alloc::Global;
 use std::error::Error;
 use std::fmt;
 
-/// The error of masking (replacing by null) or removing the values that several path texts select. It has the original
-/// document, unchanged.
+/// The error of masking (setting to null) or removing what several path texts select. It has the original document.
 ///
 /// ```text
 /// let document = read_document(alloc, b"[1]")?;
@@ -36,8 +35,7 @@ pub struct MaskFault {
     /// A field of the error of an update by several path texts: the index, from 0, of the first text that has a syntax
     /// error. `None` if memory ran out.
     pub index: Option<usize>,
-    /// In the error of a change by several path texts: the cause. It is `Path`, with a message, for the first text that
-    /// is no path, or `OutOfMemory`.
+    /// Why a change by path texts failed: `Path`, with a message, for the first that is no path, or `OutOfMemory`.
     pub fault: JsonPathError,
     /// A field of the error of a change by several path texts: the document that was passed to the failed call in order
     /// to be changed. It is as it was before the call.

@@ -31,8 +31,7 @@ pub enum Atom<'a, N = Decimal> {
     /// One kind of value, as comparisons see it: a number that is neither an `i64` nor a `u64`, such as 1.5. Its value is not
     /// kept: any comparison with it by `!=` holds, and no other comparison does.
     Unread,
-    /// A value to be compared, of which only the kind is kept: an array. Its items are not stored, since comparisons
-    /// don't use them.
+    /// An array, as a value to be compared. Its items are not stored, since comparisons don't use them.
     List,
     /// An object, as a value to be compared. Its members are not stored, since comparisons don't use them.
     Object,
@@ -57,8 +56,7 @@ pub fn to_num(number: &Number) -> Option<Decimal>
 }
 
 impl<'a> Atom<'a> {
-    /// Makes the `Atom` of a value, which is what comparisons use of it: its kind, with the content of a boolean, a
-    /// text, or a number that is an `i64` or a `u64`.
+    /// Makes a value's `Atom` for comparisons: its kind, with the content of a boolean, text, `i64` or `u64`.
     ///
     /// ```text
     /// assert!(rt; matches!(Atom::of(&Value::Null), Atom::Null));

@@ -69,8 +69,7 @@ impl<C: Compares> Cmp for C {
     }
 }
 
-/// A type for the comparison `==`, with the methods of the trait `Cmp`. For example, `cmp_string` returns whether two
-/// texts are equal.
+/// A type for the comparison `==`, with the trait `Cmp`'s methods: `cmp_string` returns whether two texts are equal.
 ///
 /// ```text
 /// assert!(rt; CmpEq.cmp_string("a", "a"));
@@ -87,9 +86,8 @@ impl Compares for CmpEq {
     }
 }
 
-/// A type for the comparison `!=`, with the methods of the trait `Cmp`. The method `default` returns whether a
-/// comparison holds between values of different kinds, such as a text and a number. It returns true for `!=`, and false
-/// for the other five comparisons.
+/// A type for the comparison `!=`, with the methods of the trait `Cmp`. `default` returns whether a comparison holds
+/// between values of different kinds, such as a text and a number: true for `!=`, false for the other five.
 ///
 /// ```text
 /// assert!(rt; CmpNe.default());
@@ -140,8 +138,7 @@ impl Compares for CmpGe {
     }
 }
 
-/// A type for the comparison `<`, with the methods of the trait `Cmp`. For example, `cmp_num` returns whether its first
-/// number is less than its second.
+/// A type for comparison by `<`, with the trait `Cmp`: `cmp_num` returns whether its first number is the lesser one.
 ///
 /// ```text
 /// assert!(rt; CmpLt.cmp_num(Decimal::of_i64(-1), Decimal::of_i64(0)));
@@ -191,10 +188,9 @@ fn is_satisfied_by_order(op: FilterToken, order: Ordering) -> bool
     }
 }
 
-/// Whether `left op right` holds between two `Atom`s, the parts of values of type `T` that a comparison uses. Booleans,
-/// numbers and texts compare within their kind: false before true, numbers by `T::compare_numbers`, texts by their
-/// bytes. For two nulls `==` alone holds; for every other pair `!=` alone. Precondition: `op` is one of the six
-/// comparisons, so neither `And` nor `Or`.
+/// Whether `left op right` holds for two `Atom`s, the parts of values of type `T` that comparisons use. Booleans,
+/// numbers and texts compare within their kind: false before true, numbers by `T::compare_numbers`, texts by bytes. For
+/// two nulls only `==` holds; for other pairs only `!=`. Precondition: `op` is a comparison, not `And` or `Or`.
 ///
 /// ```text
 /// let (seven, eight) = (Atom::Number(Decimal::of_u64(7)), Atom::Number(Decimal::of_u64(8)));
@@ -221,9 +217,8 @@ pub fn holds_by_tree<T: Tree>(
 /// Whether `left op right` holds, for two atoms: an `Atom` is the part of a value that a comparison uses. `op` must be
 /// one of the six comparisons, so neither `And` nor `Or`.
 ///
-/// Booleans, numbers and texts compare within their kind: false before true, numbers exactly, texts by their bytes. For
-/// two nulls `==` alone is true (`<=` and `>=` are false, unlike in RFC 9535); for every other pair, such as two arrays
-/// or a number and a text, `!=` alone is true.
+/// Booleans compare false before true, numbers exactly, texts by bytes. For two nulls only `==` is true (`<=` and `>=`
+/// aren't, unlike in RFC 9535); for any other pair, such as two arrays or a number and a text, only `!=` is.
 ///
 /// ```text
 /// assert!(rt; holds_atoms(FilterToken::Equal, &Atom::Null, &Atom::Null));

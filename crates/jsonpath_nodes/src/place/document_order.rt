@@ -78,8 +78,7 @@ fn clone_spots<'a>(alloc: Global, spots: &[Spot<'a>]) -> Result<Vec<Spot<'a>>, N
     Ok(same)
 }
 
-/// The indexes, from 0 and ascending, of the nodes in `spots` whose location is also the location of a node in
-/// `others`. The only error is `NoMemory`.
+/// The ascending indexes, from 0, of the nodes in `spots` whose location a node in `others` has. Error: `NoMemory`.
 ///
 /// ```text
 /// let spots = Spot::root(alloc, &document).children(alloc)?;
@@ -128,10 +127,9 @@ fn ordered_spots<'a>(
     Ok(placed)
 }
 
-/// Goes through a list of nodes in its order, and returns those that it keeps: it leaves out each node that is at or
-/// below the location of the node that it kept last. If the list is in document order (parents before children, members
-/// by their names' bytes, items by index), this keeps the nodes with no ancestor in the list, one for each location.
-/// The only error is `NoMemory`.
+/// Goes through a list of nodes in order, and returns it without each node that is at or below the location of the node
+/// kept last. If the list is in document order (parents before children, members by their names' bytes, items by
+/// index), this keeps the nodes with no ancestor in the list, one for each location. The only error: `NoMemory`.
 ///
 /// ```text
 /// let below = Spot::root(alloc, &document).below(alloc)?;

@@ -110,8 +110,7 @@ impl Clone for Location {
     }
 }
 
-/// Clones a step of a location: the clone is equal to it. `clone` returns a `Result`; its only error is out of memory,
-/// when the step is a name.
+/// Clones a step of a location: the clone is equal to it. Returns an error only if it is a name and memory runs out.
 impl Clone for LocStep {
     ghost is_clone = { λ step copy. owned_step copy ≡ owned_step step };
 

@@ -23,9 +23,8 @@ use std::alloc::Global;
 /// its location. Evaluation code is generic over both. The only error of the methods that append nodes to a list is
 /// `NoMemory`; some of the nodes may then be appended already.
 ///
-/// Contracts (proved specifications) say that a list of nodes is at a list of locations. This means: both lists are
-/// equally long, and each node has the value at the location with the same index; if the node is a `Spot`, it also has
-/// this location.
+/// In contracts (proved specifications), a list of nodes is at a list of locations if both lists are equally long and
+/// each node has the value at the location with the same index and, if the node is a `Spot`, this location, too.
 ///
 /// ```text
 /// let mut found = Vec::new(alloc);
@@ -79,21 +78,18 @@ pub trait Mark<'a>: Drop + Sized {
     fn add_flattened(&self, alloc: Global, out: &mut Vec<Self>) -> Result<(), NoMemory>
         ensures { OnOk result (MarksGain located stand content flat (stand self.now) (content self.now) out.old.items out.new.items) };
 
-    /// A method that implementors provide: appends to `out` the values that a filter after `..` tests when it is
-    /// applied to this node, if the filter has a relative query with at least one segment, such as `@.a`. These are all
-    /// descendants of the node that are not arrays, each once. For their order, take what `..*` selects from the node,
-    /// put its items in place of each array again and again, until no array is left, and keep only the first occurrence
-    /// of each value.
+    /// A method that implementors provide: appends to `out` the values that a filter after `..` tests when applied to
+    /// this node, if the filter has a relative query with at least one segment, such as `@.a`. These are the node's
+    /// non-array descendants, each once. For their order, take what `..*` selects from the node, replace each array by
+    /// its items again and again, until no array is left, and keep only each value's first occurrence.
     ///
-    /// For proofs, the postconditions also say that in each object at or below this node the member names are in
-    /// ascending order, as in every `Value`.
+    /// For proofs, it also ensures that in objects at or below this node member names ascend, as in every `Value`.
     fn add_candidates_below(&self, alloc: Global, out: &mut Vec<Self>) -> Result<(), NoMemory>
         ensures gains { OnOk result (MarksGain located stand content candidates_below (stand self.now) (content self.now) out.old.items out.new.items) }
         ensures document { OnOk result (IsOrderedDocument (content self.now)) };
 }
 
-/// Implements the trait `Mark` (a node of a document) for `&Value`: such a node has only its value, and does not keep
-/// its location.
+/// Implements the trait `Mark` (a document's node) for `&Value`: a node that has its value, but not its location.
 impl<'a> Mark<'a> for &'a Value {
     ghost located = { false };
 

@@ -8,8 +8,7 @@ ghost use Rattle.jsonpath_nodes.specs.place.SpotPlace.{location_at, path_locatio
 use crate::place::spot::{PathStep, Steps};
 use crate::place::trail::{PathTo, Trail};
 
-/// Iterator over the steps to a node, from the root down. It allocates no memory: to find each step, it goes back from
-/// the node's last step.
+/// Iterator over the steps from the root to a node. Allocates no memory: finds each by going back from the last.
 ///
 /// ```text
 /// for list in root.children(alloc)?.as_slice() {
@@ -101,9 +100,8 @@ impl<'b, 'a> Iterator for StepsFromRoot<'b, 'a> {
     }
 }
 
-/// Makes an iterator over the steps to a node, from the root down. The iterator allocates no memory: to find each step,
-/// it goes back from the node's last step, so the work is quadratic in the number of steps. It ends after `usize::MAX`
-/// steps.
+/// Makes an iterator over the steps to a node, from the root down. It allocates no memory: for each step, it goes back
+/// from the node's last step, so the work is quadratic in the number of steps. It ends after `usize::MAX` steps.
 ///
 /// ```text
 /// let document = read_document(alloc, br#"{"a": [1, {"b": 2}]}"#)?;

@@ -27,8 +27,7 @@ pub enum PathToObject<'b, 'a> {
     Item(&'b Rc<Trail<'a>>, u32),
 }
 
-// What leads to an array or an object, held for what stands in it to share: the trail to it, or the trail to the array
-// that has it as an item, and its index there.
+// What leads to an array or object, held for its contents: its trail, or its array's trail and its index there.
 #[derive(Drop)]
 pub enum HeldPathToContainer<'a> {
     Whole(Rc<Trail<'a>>),

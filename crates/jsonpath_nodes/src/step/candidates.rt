@@ -101,9 +101,8 @@ pub(crate) fn add_flattened_members<M: Descends>(
 
 // ---- behind `..`
 
-// Adds the candidates of a filter behind `..`, whose own `@` has a step, from the value of a node: what is no array and
-// is reached through arrays alone from what stands below the value, each once. Its clauses also tell that the names
-// ascend in each object there.
+// Adds the candidates of a filter behind `..`, whose own `@` has a step, from a node's value: each non-array reached
+// through arrays alone from below the value, once. Its clauses also say that names ascend in each object there.
 pub(crate) fn add_candidates_below<M: Descends>(
     alloc: Global,
     node: &M,

@@ -1,5 +1,4 @@
-//! Looking up children of a value: whether it may have any, and the one at an index or of a name; indexes also as a
-//! path writes them.
+//! Looking up a value's children: whether it may have any, and the one of a name or at an index, even negative.
 
 ghost use Rattle.std.specs.Prelude.{◌≡◌, ◌≤◌, option_map, unwrap_or};
 ghost use Rattle.jsonpath_nodes.specs.document.Find.{item_at};

@@ -10,8 +10,7 @@ use crate::step::plain_step::PlainStep;
 use std::alloc::Global;
 use std::borrow::CowStr;
 
-/// What a step of a path, other than a filter, selects among a value's children. Names are without the path's quotes
-/// and escapes.
+/// What a non-filter step of a path selects among a value's children. Names lack the path's quotes and escapes.
 ///
 /// ```text
 /// let both = Stride {
@@ -23,8 +22,7 @@ use std::borrow::CowStr;
 /// ```
 #[derive(Drop)]
 pub enum Selection<'t> {
-    /// A selector: `*`, which selects all children of an array or object, items by index, members in the order of their
-    /// names' bytes.
+    /// A selector: `*` selects all children of an array or object, items by index, members by their names' bytes.
     Every,
     /// A name selector: from each object, it selects the member with this name.
     Named(CowStr<'t, Global>),
@@ -36,9 +34,8 @@ pub enum Selection<'t> {
     /// A selector: from an array, it selects the items at these indexes, in the order of this list. A negative index
     /// counts from the end, and selects the first item if it reaches beyond the front.
     Union(&'t [i64]),
-    /// A selector: a slice `from:to:step`. It selects the items of an array at `from`, `from + step` and so on, before
-    /// `to`. A negative `from` or `to` counts from the end. If missing, `from` is 0, `to` the length, `step` 1. A
-    /// `step` of 0 selects nothing.
+    /// A selector: a slice `from:to:step`, an array's items at `from`, `from + step` and so on, before `to`. Negative
+    /// `from`, `to` count from the end. Defaults: `from` 0, `to` the length, `step` 1. `step` 0 selects nothing.
     Range(Option<i64>, Option<i64>, Option<u64>),
 }
 
@@ -55,8 +52,7 @@ pub enum Selection<'t> {
 /// ```
 #[derive(Drop)]
 pub struct Stride<'t> {
-    /// Whether `..` comes before this step. If so, the step is applied to each value found so far and to all
-    /// descendants of these values.
+    /// Whether `..` precedes this step: if so, it is applied to each value found so far and to all its descendants.
     pub leaves: bool,
     /// What this step selects among the children of each value to which it is applied.
     pub selection: Selection<'t>,

@@ -47,8 +47,7 @@ impl ValueWalker {
         plain_step_from_each(alloc, spots, &PlainStep::Every)
     }
 
-    /// Selects the member with this name from each node that is an object and has one. The name is taken literally,
-    /// without quotes or escapes.
+    /// From each node that is an object, selects the member with this name, taken literally (no quotes or escapes).
     ///
     /// ```text
     /// let found = ValueWalker::next_with_str(alloc, items.as_slice(), "b")?;
@@ -99,9 +98,8 @@ impl ValueWalker {
         plain_step_from_each(alloc, spots, &PlainStep::Nth(n))
     }
 
-    /// From each node that is an array, the items at these indexes, in the order in which the indexes are given. A
-    /// negative index counts from the end, and selects the first item if it reaches beyond the front; an index past the
-    /// end selects nothing.
+    /// From each node that is an array, the items at these indexes, in the given order. A negative index counts from
+    /// the end, and selects the first item if it reaches beyond the front; an index past the end selects nothing.
     ///
     /// ```text
     /// let found = ValueWalker::next_with_nums(alloc, items.as_slice(), &[2, 0])?;
@@ -117,9 +115,8 @@ impl ValueWalker {
         plain_step_from_each(alloc, spots, &PlainStep::Union(ns))
     }
 
-    /// Applies a slice to each node that is an array: selects its items at `from`, `from + step` and so on, before
-    /// `to`. A negative `from` or `to` counts from the end. If missing, `from` is 0, `to` the array's length, and
-    /// `step` 1. A `step` of 0 selects nothing.
+    /// Slices the nodes that are arrays: selects the items at `from`, `from + step` and so on, before `to`. Negative
+    /// `from` or `to` count from the end. Defaults: `from` 0, `to` the length, `step` 1. `step` 0 selects nothing.
     ///
     /// ```text
     /// let found = ValueWalker::next_with_range(alloc, items.as_slice(), Some(1), None, None)?;
@@ -185,8 +182,7 @@ impl ValueWalker {
         plain_step_from_all_below(alloc, spots, &PlainStep::Nth(n))
     }
 
-    /// Returns the given nodes, each followed by all its descendants in preorder: each value comes before its children,
-    /// items by index, members by name.
+    /// Returns each given node and its descendants in preorder: parents first, items by index, members by name.
     ///
     /// ```text
     /// let found = ValueWalker::below(alloc, &root)?;

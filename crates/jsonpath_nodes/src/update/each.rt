@@ -34,9 +34,8 @@ pub fn replace_at<F: FnMut(Value) -> Option<Value>>(
     }
 }
 
-/// Puts null, in a document, at each location of a list. The root is skipped, and so is each location that doesn't
-/// exist, or that is below another location of the list, other than the root. The locations may come in any order and
-/// repeat.
+/// Puts null, in a document, at each location of a list. Skips the root, and each location that doesn't exist, or that
+/// is below another location of the list, other than the root. The locations may come in any order and repeat.
 ///
 /// ```text
 /// let mut document = read_document(alloc, b"[1, [2, 3]]")?;

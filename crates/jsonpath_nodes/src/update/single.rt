@@ -144,8 +144,7 @@ fn update_member<F: FnMut(Value) -> Option<Value>>(
     }
 }
 
-// Hands the member of a name to the closure, and puts its answer there, or takes the member away where it is None. It
-// answers whether there is such a member.
+// Sets the member of a name to the closure's answer for it, or removes it if None. Returns whether there was one.
 fn replace_or_remove_member<F: FnMut(Value) -> Option<Value>>(
     map: &mut Map<String, Value>,
     name: &str,

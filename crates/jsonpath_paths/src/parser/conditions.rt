@@ -1,6 +1,5 @@
-//! The conditions of filters: connectives, comparisons and their terms. Each condition and term is put on the heap by a
-//! call of its own: a level of the parser then takes little room on the stack. `levels` says how many conditions may
-//! still be opened, one in the other.
+//! Filters' conditions: connectives, comparisons and their terms. Each condition and term is put on the heap by its own
+//! call, so that a parser level takes little stack. `levels`: how many nested conditions may still be opened.
 
 ghost use Rattle.std.specs.Prelude.{◌≡◌, ◌≤◌, length, option_map, MatchResult, false};
 ghost use Rattle.std.specs.Prelude.{◌∷◌, []};
@@ -105,8 +104,7 @@ impl TreeParser<'_> {
         self.parse_comparison_or_existence_test(levels, steps)
     }
 
-    // Makes these steps from the candidate a condition: the left side of a comparison where a sign of one is next, else
-    // the test that they reach something.
+    // Makes these steps from the candidate a condition: a comparison if its sign is next, else an existence test.
     #[cycle(nested)]
     #[inline(never)]
     fn parse_comparison_or_existence_test(

@@ -13,8 +13,7 @@ use crate::token::tokenizer::lexemes_up_to_refusal;
 use crate::token::tokens::{Kind, Lexeme};
 use std::alloc::{AllocError, Global};
 
-/// What a path could go on with at a syntax error: a token of some kind, or a word (a name or number without quotes) of
-/// some form, such as an index.
+/// What a path could go on with at a syntax error: a token of some kind, or an unquoted word such as an index.
 ///
 /// ```text
 /// let expected = expected_tokens(alloc, "$[0,a]")?;
@@ -25,22 +24,18 @@ pub enum Expected {
     /// What a path could go on with at a syntax error: any token of this kind. `Kind::Key` means that any word (a name
     /// or number without quotes) is allowed, as it is after a dot.
     Token(Kind),
-    /// What a path could go on with at a syntax error: a word (an unquoted token) that is an index, such as `0` or
-    /// `-1`.
+    /// How a path could go on at a syntax error: a word (an unquoted token) that is an index, such as `0` or `-1`.
     Index,
-    /// What a path could go on with at a syntax error: a word (an unquoted token) that is the step of a slice, such as
-    /// `2`.
+    /// What a path could go on with at a syntax error: the step of a slice, an unquoted token such as `2`.
     RangeStep,
     /// What a path could go on with at a syntax error: a word (an unquoted token) that is `true` or `false` (in any
     /// letter case), an integer, or the part of a number before its decimal point.
     Literal,
-    /// What a path could go on with at a syntax error: a word (an unquoted token) that consists of digits, namely those
-    /// after the decimal point of a number.
+    /// What a path could go on with at a syntax error: a number's digits after the decimal point, an unquoted token.
     Fraction,
 }
 
-/// What would have been allowed at the position of a path text's syntax error: which tokens, and whether the path could
-/// have ended there.
+/// What would have been allowed at a path text's syntax error: which tokens, and whether the path could end there.
 ///
 /// ```text
 /// let expected = expected_tokens(alloc, "$.a b")?;
@@ -52,8 +47,7 @@ pub struct ExpectedTokens {
     /// of token such as `[`, in a fixed order, each at most once; then one kind of word (an unquoted name or number),
     /// if a word was allowed. The list is empty if the path could only have ended there.
     pub tokens: Vec<Expected>,
-    /// A field: whether the path could have ended at the position of its syntax error, that is, whether the tokens
-    /// before that position are themselves a path.
+    /// A field: whether the path could end at its syntax error, that is, whether the tokens before it are a path.
     pub end: bool,
 }
 

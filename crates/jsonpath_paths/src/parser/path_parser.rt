@@ -25,8 +25,7 @@ use crate::tree::token_list::token_list;
 use std::alloc::{AllocError, Global};
 use std::marker::Model;
 
-/// A compiled path: a path text, its syntax tree, and its token list, which is that tree written out as a list of
-/// `ParseToken`s.
+/// A compiled path: a path text, its syntax tree, and its token list: that tree written out as `ParseToken`s.
 ///
 /// ```text
 /// let path = PathParser::compile(alloc, "$.store['book'][0]")?;

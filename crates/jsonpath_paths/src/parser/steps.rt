@@ -1,5 +1,4 @@
-//! Steps, and the brackets of a step. `levels` says how many conditions of filters may still be opened, one in the
-//! other.
+//! Steps, and the brackets of a step. `levels` says how many nested conditions of filters may still be opened.
 
 ghost use Rattle.std.specs.Prelude.{◌≡◌, ◌≤◌, ◌<◌, ◌++◌, ◌∷◌, [], length, option_map, IfOk, MatchResult};
 ghost use Rattle.jsonpath_paths.specs.plan.Parsing.{Reads};

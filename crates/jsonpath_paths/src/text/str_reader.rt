@@ -244,8 +244,7 @@ impl<'a> StrReader<'a> {
     }
 }
 
-/// Clones a reader: the clone has the same text and the same position in it. `clone` allocates no memory and always
-/// returns `Ok`.
+/// Clones a reader: the clone has the same text and position. `clone` allocates no memory and always returns `Ok`.
 impl<'a> Clone for StrReader<'a> {
     ghost use Rattle.std.specs.Prelude.{⊤};
 

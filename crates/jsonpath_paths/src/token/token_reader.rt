@@ -54,9 +54,8 @@ impl<'a> TokenReader<'a> {
         }
     }
 
-    /// Returns the next token without taking it: `next_token` then returns the same token. If no token begins at the
-    /// reader's position, returns the error that `next_token` returns there; the reader's `to_error` then reports this
-    /// position.
+    /// Returns the next token without taking it: `next_token` then returns the same. If no token begins at the reader's
+    /// position, returns the error that `next_token` returns there; `to_error` then reports this position.
     ///
     /// ```text
     /// let mut reader = TokenReader::new("==1");
@@ -75,10 +74,9 @@ impl<'a> TokenReader<'a> {
         found
     }
 
-    /// Takes the next token. If no token begins at the reader's position, returns an error, and the position stays, so
-    /// that each later call returns the same error. The error is `Eof` at the end of the text, at a quoted text that is
-    /// not closed, or if the character at the reader's position is the last of the text; else it is `Position` with the
-    /// reader's position.
+    /// Takes the next token. If none begins at the reader's position, returns an error and keeps the position, so that
+    /// each later call returns the same error: `Eof` at the end of the text, at a quoted text that is not closed, or if
+    /// the character at the position is the text's last; else `Position` with the reader's position.
     ///
     /// ```text
     /// let mut reader = TokenReader::new("@ ");
@@ -97,8 +95,7 @@ impl<'a> TokenReader<'a> {
         found
     }
 
-    /// The syntax error at the position up to which this reader has read or peeked: `Eof` if this is the end of the
-    /// text, else `Position` with this position.
+    /// The syntax error at the end of what was read or peeked: `Eof` if the text ends there, else its `Position`.
     ///
     /// ```text
     /// let mut reader = TokenReader::new("$[a]");
@@ -132,8 +129,7 @@ impl<'a> TokenReader<'a> {
     }
 }
 
-/// Clones a reader: the clone has the same text and the same position in it. `clone` allocates no memory and always
-/// returns `Ok`.
+/// Clones a reader: the clone has the same text and position. `clone` allocates no memory and always returns `Ok`.
 impl<'a> Clone for TokenReader<'a> {
     ghost use Rattle.std.specs.Prelude.{⊤};
 

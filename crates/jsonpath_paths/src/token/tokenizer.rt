@@ -163,8 +163,7 @@ fn read_rest_of_blanks_or_word(reader: &mut StrReader<'_>, c: char) -> Kind
     }
 }
 
-// Reads the rest of the operator, the blanks or the word that begins with this character, and answers its kind. `None`
-// where an operator lacks its second character.
+// Reads the rest of the operator, blanks or word begun by this character: its kind, or `None` for half an operator.
 fn read_rest_of_operator_blanks_or_word(reader: &mut StrReader<'_>, c: char) -> Option<Kind>
     ensures { ends_at (operator_blanks_or_word c (ahead reader.old)) reader.old ≡ option_map (λ kind. (kind, reader.new)) result }
 {
@@ -364,10 +363,9 @@ impl<'a> Tokenizer<'a> {
         self.reader.copy_of_place().peek_char().is_err()
     }
 
-    /// Takes the next token. If no token begins at the tokenizer's position, returns an error, and the position stays,
-    /// so that each later call returns the same error. The error is `Eof` at the end of the text, at a quoted text that
-    /// is not closed, or if the character at the position is the last one of the text. Else it is `Position` with the
-    /// tokenizer's position.
+    /// Takes the next token. If none begins at the tokenizer's position, returns an error, and the position stays, so
+    /// each later call returns the same error. It is `Eof` at the text's end, at an unclosed quoted text, or if the
+    /// character at the position is the text's last one. Else it is `Position` with the tokenizer's position.
     ///
     /// ```text
     /// let mut tokenizer = Tokenizer::new("=1");
@@ -385,8 +383,7 @@ impl<'a> Tokenizer<'a> {
     }
 }
 
-/// Clones a tokenizer: the clone has the same text and the same position in it. `clone` allocates no memory and always
-/// returns `Ok`.
+/// Clones a tokenizer, with its text and its position in it. `clone` allocates no memory and always returns `Ok`.
 impl<'a> Clone for Tokenizer<'a> {
     ghost use Rattle.std.specs.Prelude.{⊤};
 

@@ -58,8 +58,7 @@ impl From<AllocError> for TokenError {
     }
 }
 
-/// The kind of a token of a path text, such as a word (an unquoted name or number) or `[`, without its position and
-/// length.
+/// The kind of a path text's token, such as a word (an unquoted name or number) or `[`, without position or length.
 ///
 /// ```text
 /// let expected = expected_tokens(alloc, "$[0")?;
@@ -375,8 +374,7 @@ pub enum ParseToken {
     /// The token that begins a step after `..`: the step selects among the children of each node that the steps before
     /// it have selected, and among the children of all descendants of these nodes.
     Leaves,
-    /// A token of a path's token list (the syntax tree written out as a list): `*`, with which a step selects all
-    /// children.
+    /// A token of a path's token list (the syntax tree as a list): `*`, with which a step selects all children.
     All,
     /// A token of a path's token list (the syntax tree written out as a list): one name that a step selects, or a
     /// quoted text that is a side of a comparison. It is given by its span (position and length) in the path text.
@@ -384,8 +382,7 @@ pub enum ParseToken {
     /// A token of a path's token list (the syntax tree written out as a list): two or more names that one step selects.
     /// Each name is given by its span in the path text, in the text's order.
     Keys(Items<StrRange>),
-    /// A token of a path's token list (the syntax tree written out as a list): the `[` that opens a step in brackets,
-    /// such as `['a']`.
+    /// A token of a path's token list (the syntax tree written out): the `[` that opens a step such as `['a']`.
     Array,
     /// A token of a path's token list (the syntax tree written out as a list): the `]` that ends a step in brackets.
     ArrayEof,
@@ -395,13 +392,11 @@ pub enum ParseToken {
     /// A token of a path's token list (the syntax tree written out as a list): the slice that a step selects. Its
     /// fields are the slice's start, end and step, each of which may be missing.
     Range(Option<i64>, Option<i64>, Option<u64>),
-    /// A token of a path's token list (the syntax tree written out as a list): two or more indexes that one step
-    /// selects, in the order of the path text.
+    /// A token of a path's token list (its written-out syntax tree): two or more indexes of one step, in text order.
     Union(Items<i64>),
     /// A token: the single index that a step selects, or a number literal that is a side of a comparison.
     Number(Decimal),
-    /// A token of a path's token list (the syntax tree written out as a list): a boolean literal that is a side of a
-    /// comparison in a filter.
+    /// A token of a path's token list (the syntax tree written out): a boolean literal compared in a filter.
     Bool(bool),
     /// A token that never occurs in a compiled path; it is here because the Rust crate `jsonpath_lib` has it.
     Eof,

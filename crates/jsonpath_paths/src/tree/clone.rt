@@ -7,8 +7,7 @@ use crate::token::tokens::ParseToken;
 use crate::tree::parser_node::{Condition, Inner, ParserNode, ParserStep, Term, node_of_steps};
 use std::alloc::{AllocError, Global};
 
-/// Clones a token: the clone is equal to it. `clone` returns a `Result`; its only error is out of memory, when the
-/// token has a list of names or of indexes.
+/// Clones a token to an equal one. The only error is out of memory, for a token with a list of names or indexes.
 impl Clone for ParseToken {
     ghost is_clone = { λ token copy. copy ≡ token };
 

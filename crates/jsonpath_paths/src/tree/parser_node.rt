@@ -6,8 +6,7 @@ ghost use Rattle.jsonpath_paths.specs.tree.Tree.{path};
 
 use crate::token::tokens::{FilterToken, ParseToken};
 
-/// The syntax tree of a path. The path begins at the document's root (`$`) or, in a filter, at the value that the
-/// filter tests (`@`).
+/// A path's syntax tree. The path begins at the document's root (`$`) or, in a filter, at the tested value (`@`).
 ///
 /// ```text
 /// let path = PathParser::compile(alloc, "$.a[0]")?;
@@ -75,8 +74,7 @@ pub enum Condition {
     Lone(ParserNode),
     /// A condition of a filter: a comparison, given by its left side, its operator and its right side.
     Compare(Term, FilterToken, Term),
-    /// A condition of a filter: two conditions joined by `&&` or `||`. These have the same precedence: `a && b || c` is
-    /// `a && (b || c)`.
+    /// A filter's condition: two, joined by `&&` or `||`, of equal precedence: `a && b || c` is `a && (b || c)`.
     Join(FilterToken, Box<Condition>, Box<Condition>),
 }
 
@@ -95,8 +93,7 @@ pub enum Condition {
 pub enum Term {
     /// A side of a comparison in a filter: a path, whose selected values are compared.
     Path(ParserNode),
-    /// A side of a comparison in a filter: a literal, given as a token. The token is a `Key` for a quoted text, a
-    /// `Number` for a number, a `Bool` for a boolean.
+    /// A side of a filter's comparison: a literal, as a token: a `Key` for a quoted text, a `Number` or a `Bool`.
     Literal(ParseToken),
 }
 

@@ -5,9 +5,8 @@ ghost use Rattle.std.specs.Prelude.{◌≡◌, ◌++◌, ◌∷◌, [], List, Bo
 use crate::text::str_reader::StrRange;
 use crate::token::tokens::ParseToken;
 
-/// A trait of receivers: a receiver gets the token list of a syntax tree (the tree written out as a list), one
-/// `ParseToken` at a time. With each token it gets a function that turns a span of the path text into a `V`, for
-/// example a `&str`.
+/// A trait of receivers of a syntax tree's token list (the tree written out as a list), one `ParseToken` at a time.
+/// With each token, a receiver gets a function that turns a span of the path text into a `V`, such as a `&str`.
 ///
 /// ```text
 /// impl<V> ParserTokenHandler<V> for Collector {
@@ -37,17 +36,14 @@ pub trait ParserTokenHandler<V> {
     ghost use Rattle.jsonpath_paths.specs.tree.Visit.{MayRead};
     ghost use denote.Ref.{Bor};
 
-    /// A function that implementors define, for proofs alone: the list of the tokens that this receiver has received,
-    /// in their order.
+    /// A function that implementors define, only for proofs: the list of the tokens received so far, in order.
     ghost tokens: { Self → List ParseToken };
 
-    /// For proofs: whether this receiver of tokens has failed to receive some token. Once it has, the list `tokens` of
-    /// what it has received means nothing.
+    /// For proofs: whether this receiver failed to receive a token; once it has, its list `tokens` means nothing.
     ghost has_failed: { Self → Bool };
 
     /// For proofs: the values that this receiver of tokens allows for a span of the path text. The function `reader`,
-    /// which is passed to it with each token, must return only such values for that span. By default, all values are
-    /// allowed.
+    /// passed to it with each token, must return only such values for that span. By default, all are allowed.
     ghost takes: { Self → StrRange → V → Type 0 } = { λ _ _ _. Unit {0} };
 
     /// A method that implementors provide: receives the next token of a path. If that fails, for example since memory
@@ -61,8 +57,7 @@ pub trait ParserTokenHandler<V> {
         ensures given { has_failed self.new ≡ false → tokens self.new ≡ tokens self.old ++ token.now ∷ [] }
         ensures still_takes { (s : StrRange) (v : V) → takes self.old s v → takes self.new s v };
 
-    /// A method that implementors provide: returns whether this receiver of tokens has failed to receive some token,
-    /// for example since memory ran out.
+    /// A method that implementors provide: whether this token receiver failed to receive one, as if memory ran out.
     fn failed(&self) -> bool
         ensures { result ≡ has_failed self.now };
 }

@@ -75,10 +75,9 @@ pub fn select_tokens<'a>(
     Ok(machine.select_by_tokens(tokens)?)
 }
 
-/// The nodes that the path selects in the value: the same set as that of `select_path`, in any order, with or without
-/// duplicates. The time is at most the path's length times the document's size times the document's depth (the depth
-/// squared, if the condition of a filter has `..`), even if several `..` reach a node in many ways. The only error is
-/// `OutOfMemory`.
+/// The nodes that the path selects in the value: the same set as from `select_path`, in any order, with or without
+/// duplicates. The time is at most the path's length times the document's size times its depth (its depth squared, if a
+/// filter's condition has `..`), even if several `..` reach a node in many ways. The only error: `OutOfMemory`.
 ///
 /// ```text
 /// let document = read_document(alloc, b"[[[1]]]")?;

@@ -25,11 +25,9 @@ use std::fmt;
 /// ```
 #[derive(Drop)]
 pub enum TryFault<E> {
-    /// An error of an update by a closure: the library itself failed, for example because memory ran out, before it
-    /// called the closure. The document is unchanged.
+    /// An update's error: the library itself failed before calling the closure, e.g. out of memory; nothing changed.
     Unasked(JsonPathError),
-    /// An error of an update by a closure: the first error that the closure itself returned, with which the update
-    /// ended. The changes made before it remain.
+    /// An error of an update by a closure: the closure's own error, which ended the update. Earlier changes remain.
     Refused(E),
 }
 
@@ -55,8 +53,7 @@ impl<E: fmt::Display> fmt::Debug for TryFault<E> {
 
 impl<E: Error> Error for TryFault<E> {}
 
-/// Converts an error of an update by a closure to the `JsonPathError` in it. Whether the library or the closure
-/// returned this error is lost.
+/// Converts an error of an update by a closure to its `JsonPathError`. Whether library or closure failed is lost.
 impl From<TryFault<JsonPathError>> for JsonPathError {
     ghost from_gives = { λ fault error. error ≡ error_behind fault };
 

@@ -10,8 +10,7 @@ use serde_json::{Error, Value};
 use std::alloc::Global;
 
 /// Deserializes each value to a `T`, in the list's order. Errors: `OutOfMemory`, or `Serde` if `serde_json` can't make
-/// a `T` of a value. The error is also `Serde` if a value contains a number that is neither an `i64` nor a `u64`, such
-/// as 1.5, even if `T` is `f64`.
+/// a `T` of a value, or a value contains a number that is no `i64` or `u64`, such as 1.5, even if `T` is `f64`.
 ///
 /// ```text
 /// let document = read_document(alloc, b"[[1, 2], [3]]")?;

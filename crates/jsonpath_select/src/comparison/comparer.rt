@@ -110,8 +110,7 @@ impl<'t> Comparer<'t> {
         Ok(tags)
     }
 
-    // The numbers of the candidates at which the left side satisfies the comparison with a right one that is the same
-    // for all. The right one is made ready once.
+    // The numbers of the candidates whose left side satisfies the comparison with one right side, made ready once.
     fn compare_to_constant<'b>(
         &self,
         left: &Side<'b>,

@@ -58,8 +58,7 @@ pub trait AnyPath {
     // The text of the path.
     ghost spelling: { Self → List ℕ };
 
-    /// The text, the syntax tree and the token list (the tree written out) of this path, borrowed. The call allocates
-    /// no memory.
+    /// This path's text, syntax tree and token list (the tree written out), borrowed. The call allocates no memory.
     ///
     /// ```text
     /// let path = compile_path(alloc, "$.*")?;
@@ -141,9 +140,8 @@ pub trait AnyPath {
     }
 
     /// Deserializes each selected value to a `T`, in the order in which the path finds the values, with duplicates.
-    /// Errors: `OutOfMemory`, or `Serde` if `serde_json` can't make a `T` of a selected value. The error is also
-    /// `Serde` if a selected value contains a number that is neither an `i64` nor a `u64`, such as 1.5, even if `T` is
-    /// `f64`.
+    /// Errors: `OutOfMemory`, or `Serde` if `serde_json` can't make a `T` of a selected value, or if such a value
+    /// contains a number that is neither an `i64` nor a `u64`, such as 1.5, even if `T` is `f64`.
     ///
     /// ```text
     /// let document = read_document(alloc, b"[1, 2, 3]")?;

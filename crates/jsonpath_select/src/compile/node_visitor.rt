@@ -47,12 +47,10 @@ pub trait NodeVisitor {
     ghost use Rattle.jsonpath_paths.specs.tree.Tree.{Path};
     ghost use Rattle.jsonpath_paths.specs.tree.Visit.{path_tokens};
 
-    /// A function that implementors define, for proofs alone: the list of the tokens that this receiver has received,
-    /// in their order.
+    /// A function that implementors define for proofs: the list of tokens that this receiver received, in order.
     ghost tokens: { Self → List ParseToken };
 
-    /// For proofs: whether this receiver of tokens has failed to receive some token. Once it has, the list `tokens` of
-    /// what it has received means nothing.
+    /// For proofs: whether this receiver failed to receive a token; from then on, its list `tokens` means nothing.
     ghost has_failed: { Self → Bool };
 
     /// A method that implementors provide: receives the next token of a compiled path. It may fail, for example if
@@ -61,9 +59,8 @@ pub trait NodeVisitor {
         ensures stays_failed { has_failed self.old ≡ true → has_failed self.new ≡ true }
         ensures given { has_failed self.new ≡ false → tokens self.new ≡ tokens self.old ++ token.now ∷ [] };
 
-    /// A method that implementors may override; by default it does nothing. It is called after the tokens of each side
-    /// of a comparison were received. It must change neither `tokens`, which is for proofs the list of the tokens
-    /// received so far, nor what `failed` returns.
+    /// A method that implementors may override; by default it does nothing. It is called after the tokens of each
+    /// comparison side. It must not change `tokens` (for proofs: the tokens received so far) or what `failed` returns.
     fn end_term(&mut self)
         ensures failed { has_failed self.new ≡ has_failed self.old }
         ensures tokens { tokens self.new ≡ tokens self.old }

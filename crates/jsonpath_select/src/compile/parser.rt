@@ -20,9 +20,8 @@ use std::fmt;
 /// ```
 #[derive(Drop)]
 pub enum ParseFault {
-    /// An error: the text that was to be compiled is no path. The message is the text, a line end and a row of `^`: one
-    /// for each byte of the text up to the end of the wrong token, or one for each of its bytes if the text ends too
-    /// early.
+    /// An error: the text to be compiled is no path. The message is the text, a line end and a `^` for each byte of the
+    /// text up to the end of the wrong token, or for each of its bytes if the text ends too early.
     Text(String),
     /// An error of compiling a path text: memory ran out. It is printed as `out of memory`.
     OutOfMemory,

@@ -30,10 +30,9 @@ pub enum Entry {
     Logical,
 }
 
-/// Whether the text and the tokens can be passed to `select_tokens`, the function that selects by a path's token list
-/// (its syntax tree written out as a list). True exactly if `tokens` is the token list of some path, however deeply
-/// nested, and `text` has a name, quoted or not, at each span in `tokens`. The text need not be a path. The only error
-/// is `OutOfMemory`.
+/// Whether the text and the tokens can be passed to `select_tokens`, which selects by a path's token list (its syntax
+/// tree written as a list). True exactly if `tokens` is some path's token list, however deeply nested, and `text` has a
+/// name, quoted or not, at each span in `tokens`. The text need not be a path. The only error: `OutOfMemory`.
 ///
 /// ```text
 /// let tokens = [ParseToken::Absolute, ParseToken::In, ParseToken::Key(StrRange::new(2, 1))];
@@ -128,8 +127,7 @@ fn accept_open_bracket(entries: &mut Vec<Entry>) -> Result<bool, NoMemory>
     Ok(true)
 }
 
-// Takes in a bracket that closes: with what is on top of the stack it makes a step of the path below; false where that
-// may not stand in brackets, or none is open.
+// Takes in a closing bracket: the stack's top becomes a step of the path below; false if unfit or none is open.
 fn accept_close_bracket(entries: &mut Vec<Entry>) -> Result<bool, NoMemory>
     ensures { IfOk result (λ ok. Took ok entries.new.items (ended (entries_of entries.old.items))) }
 {
@@ -142,8 +140,7 @@ fn accept_close_bracket(entries: &mut Vec<Entry>) -> Result<bool, NoMemory>
     }
 }
 
-// Takes in a comparison, `&&` or `||`: the two entries on top of the stack become a condition; false where there are
-// not two, or they may not stand beside it.
+// Takes in a comparison, `&&` or `||`: the stack's top two entries become a condition; false if missing or unfit.
 fn accept_operator(op: FilterToken, entries: &mut Vec<Entry>) -> Result<bool, NoMemory>
     ensures { IfOk result (λ ok. Took ok entries.new.items (operated op (entries_of entries.old.items))) }
 {

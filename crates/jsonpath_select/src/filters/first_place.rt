@@ -1,6 +1,5 @@
-//! The first node that a path selects. The candidates of its first filter are decided, and the rest of the path
-//! applied to them, in slices of 1, 4, 16 and so on, until one slice selects something. A path without filters takes
-//! the nodes before its last step in such slices.
+//! The first node that a path selects. In slices of 1, 4, 16, .. its first filter's candidates are decided and the rest
+//! of the path applied, until one selects something. Without filters, it slices the nodes before the last step.
 
 ghost use Rattle.std.specs.Prelude.{◌<◌, ◌≤◌, [], ◌∷◌, List, IfOk, Option};
 ghost use Rattle.serde_json.specs.View.{view};
@@ -26,9 +25,8 @@ use crate::tagged::shared_lists::copied_marks;
 use jsonpath_paths::ParseToken;
 
 impl<'a, 't> Machine<'a, 't> {
-    // Marks that begin as what the path with this token list selects: the first stands where its first stands, and
-    // there is none where it selects nothing. Stops with `NeedsLocations` where the marks are references and can't tell
-    // whether a place is met twice.
+    // Marks whose first is at the first place that the path with this token list selects; none where it selects
+    // nothing. Stops with `NeedsLocations` where the marks are references and can't tell whether a place is met twice.
     pub(crate) fn first_by_tokens<M: Carried<'a>>(
         &self,
         tokens: &[ParseToken],

@@ -108,8 +108,7 @@ impl<'a, 't> Machine<'a, 't> {
         Ok(led.marks)
     }
 
-    // The marks that the next filter keeps, found from the marks before its plain steps, and, where `asks_standing` is
-    // set, how they stand to each other.
+    // The marks the next filter keeps, from those before its plain steps, and, if `asks_standing`, their `Standing`.
     fn marks_kept_by_filter<M: Carried<'a>>(
         &self,
         way: FilterApproach<'_, '_>,
@@ -193,8 +192,7 @@ impl<'a, 't> Machine<'a, 't> {
     }
 }
 
-// How many instructions stand behind the beginning of the last filter whose own `@` has a step, those in conditions
-// among them; all, where there is none.
+// Counts the instructions, conditions' too, after the start of the last filter whose own `@` has a step; else all.
 pub(crate) fn instruction_count_after_last_filter_with_own_step(left: &[Instruction<'_>]) -> usize {
     let mut end = left.len();
     for (place, instruction) in left.iter().enumerate() {

@@ -22,8 +22,7 @@ use jsonpath_nodes::steps_on_marks::flattened_from_each;
 use jsonpath_paths::ParseToken;
 
 impl<'a, 't> Machine<'a, 't> {
-    // Where plain steps, one after the other, lead from these marks, and, where `asks_standing` is set, how the places
-    // stand there to each other.
+    // Where plain steps in turn lead from these marks; if `asks_standing`, also how places stand to each other.
     pub(crate) fn follow_steps<M: Carried<'a>>(
         &self,
         steps: &[Instruction<'_>],

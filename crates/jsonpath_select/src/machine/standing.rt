@@ -93,8 +93,7 @@ impl Standing {
         }
     }
 
-    // How the places to which a name, or a list of different names, leads stand to each other, where those that it
-    // leads from stand as this says.
+    // How places stand to each other that a name, or a list of different names, reaches from places that stand so.
     pub(crate) fn after_names(self) -> Standing
         ensures { (doc : Document) (p : Plain) (ls : List Location) → goes_by_names p ≡ true → SelectsNoneTwice p → IsStanding self ls → IsStanding result (step doc p ls) }
     {
@@ -109,8 +108,7 @@ impl Standing {
         }
     }
 
-    // How the places to which `*` leads stand to each other, where those that it leads from stand as this says and the
-    // names of each object there ascend.
+    // How places after `*` stand to each other, if those before stand as this says and each object's names ascend.
     pub(crate) fn after_wildcard(self) -> Standing
         ensures { (doc : Document) (ls : List Location) → NamesInOrderAt doc ls → IsStanding self ls → IsStanding result (step doc every ls) }
     {
@@ -157,9 +155,8 @@ impl Standing {
 
 impl<'a, 't> Machine<'a, 't> {
     // How the `count` places to which one plain step leads from these marks stand to each other: `leaves` says that
-    // `..` stands before it, `standing` how the marks stand. Fewer than two places are disjoint. For a `*` that no `..`
-    // stands before, the marks' objects are looked at, for `..` the whole document, so that the proof knows that the
-    // names there ascend.
+    // `..` is before it, `standing` how the marks stand. Fewer than two places are disjoint. For a `*` with no `..`,
+    // the marks' objects are looked at, for `..` the whole document, so the proof knows that names there ascend.
     pub(crate) fn standing_after_step_from_marks<M: Mark<'a>>(
         &self,
         standing: Standing,

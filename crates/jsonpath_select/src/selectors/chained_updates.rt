@@ -17,8 +17,7 @@ impl<P: AnyPath> HeldPair<P, Value> {
     /// Replaces each selected value of the selector's document by null, and returns the selector. The root, and values
     /// inside another replaced value, are not replaced. All else stays as it is.
     ///
-    /// Errors: `EmptyPath` exactly if there is no path, `EmptyValue` exactly if there is a path and no document, else
-    /// `OutOfMemory` alone; nothing has changed then.
+    /// Errors, changing nothing: `EmptyPath` (no path), else `EmptyValue` (no document), else `OutOfMemory` alone.
     ///
     /// ```text
     /// let mut held = SelectorMut::new();
@@ -39,9 +38,8 @@ impl<P: AnyPath> HeldPair<P, Value> {
         }
     }
 
-    /// Removes the selected values below the root from the selector's document; the other items of an array keep their
-    /// order. Errors: `EmptyPath` if there is no path, else `EmptyValue` if there is no document, else `OutOfMemory`;
-    /// nothing has changed then.
+    /// Removes the selected values below the root from the selector's document; an array's other items keep their
+    /// order. Errors, changing nothing: `EmptyPath` (no path), else `EmptyValue` (no document), else `OutOfMemory`.
     ///
     /// ```text
     /// let mut held = SelectorMut::new();

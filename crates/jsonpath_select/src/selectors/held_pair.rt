@@ -14,8 +14,7 @@ use serde_json::Value;
 use std::alloc::Global;
 use std::marker::Model;
 
-/// What a selector type, such as `Selector` or `SelectorMut`, stores as the value to search: an owned `Value`, which it
-/// can change, or a reference to one.
+/// What a selector type, such as `Selector`, stores to search: an owned, changeable `Value` or a reference to one.
 ///
 /// ```text
 /// let document = read_document(alloc, b"7")?;
@@ -80,8 +79,7 @@ impl<P: AnyPath, V: HeldValue> Model for HeldPair<P, V> {
     ghost view = { λ s. record { path = option_map P.spelling s.path; value = option_map V.held s.value } };
 }
 
-/// The default of a selector type, such as `Selector` or `SelectorMut`: a selector with no path and no value. The call
-/// allocates no memory.
+/// The default of a selector type, such as `Selector`: a selector with no path and no value. Allocates no memory.
 impl<P: AnyPath, V: HeldValue> Default for HeldPair<P, V> {
     ghost is_default = { λ held. held ≡ record { path = None; value = None } };
 
@@ -123,10 +121,9 @@ impl<P: AnyPath, V: HeldValue> HeldPair<P, V> {
         path.select_locations(alloc, value.lent())
     }
 
-    /// The selected values as a JSON text: `[`, their compact texts joined by `,`, and `]`, in the order in which the
-    /// path finds the values, with duplicates. Errors: `EmptyPath` without a path, else `EmptyValue` without a value;
-    /// `OutOfMemory`; or `Serde` exactly if one of the values contains, at any depth, a number that is neither an `i64`
-    /// nor a `u64`, such as 1.5.
+    /// The selected values as the text of a compact JSON array, in the order in which the path finds them, with
+    /// duplicates. Errors: `EmptyPath` without a path, else `EmptyValue` without a value; `OutOfMemory`; or `Serde`
+    /// exactly if a value contains, at any depth, a number that is neither an `i64` nor a `u64`, such as 1.5.
     ///
     /// ```text
     /// let mut held = SelectorMut::new();
@@ -177,8 +174,7 @@ impl<P: AnyPath, V: HeldValue> HeldPair<P, V> {
         path.count(alloc, value.lent())
     }
 
-    /// Whether the selector's path selects any value. Errors: `EmptyPath` (no path), `EmptyValue` (a path, no value to
-    /// search), `OutOfMemory`.
+    /// Whether the path selects a value. Errors: `EmptyPath` (no path), else `EmptyValue` (no value), `OutOfMemory`.
     ///
     /// ```text
     /// let mut held = SelectorMut::new();

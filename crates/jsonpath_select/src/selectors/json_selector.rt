@@ -70,9 +70,8 @@ impl<'p, V: HeldValue> HeldPair<Rc<PathParser<'p>>, V> {
         }
     }
 
-    /// Replaces the selector's path by the given one, and returns the selector; its value stays. The only error is
-    /// `OutOfMemory`; nothing has changed then, and the given path is dropped. Named as in the Rust crate
-    /// `jsonpath_lib`.
+    /// Replaces the selector's path by the given one, and returns the selector; its value stays. The only error:
+    /// `OutOfMemory`; nothing changes then, and the given path is dropped. Named as in the Rust crate `jsonpath_lib`.
     ///
     /// ```text
     /// let document = read_document(alloc, b"[1, 2, 3]")?;

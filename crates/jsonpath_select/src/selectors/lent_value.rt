@@ -29,8 +29,7 @@ impl<'a, P: AnyPath> HeldPair<P, &'a Value> {
         self
     }
 
-    /// Does nothing and returns the selector, since a selector caches no answer. It is here for code that was written
-    /// for the Rust crate `jsonpath_lib`.
+    /// Only returns the selector, which caches no answer; for code written for the Rust crate `jsonpath_lib`.
     ///
     /// ```text
     /// let document = read_document(alloc, b"[1, 2, 3]")?;
@@ -45,9 +44,8 @@ impl<'a, P: AnyPath> HeldPair<P, &'a Value> {
         self
     }
 
-    /// The values that the selector's path selects, in the order in which the path's steps find them, with duplicates.
-    /// They borrow only the searched value. Errors: `EmptyPath` (no path), `EmptyValue` (a path, no value),
-    /// `OutOfMemory`.
+    /// The values that the selector's path selects, in the order its steps find them, with duplicates. They borrow only
+    /// the searched value. Errors: `EmptyPath` (no path), `EmptyValue` (a path, no value), `OutOfMemory`.
     ///
     /// ```text
     /// let document = read_document(alloc, b"[1, 2, 3]")?;
@@ -63,9 +61,8 @@ impl<'a, P: AnyPath> HeldPair<P, &'a Value> {
         path.select(alloc, *value)
     }
 
-    /// The selected nodes (values with locations), in the order in which the path's steps find them, with duplicates.
-    /// They borrow only the searched value. Errors: `EmptyPath` (no path), `EmptyValue` (a path, no value),
-    /// `OutOfMemory`.
+    /// The selected nodes (values with locations), in the order the path finds them, with duplicates. They borrow only
+    /// the searched value. Errors: `EmptyPath` (no path), `EmptyValue` (a path, no value), `OutOfMemory`.
     ///
     /// ```text
     /// let document = read_document(alloc, b"[1, 2, 3]")?;

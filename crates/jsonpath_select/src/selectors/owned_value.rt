@@ -13,8 +13,7 @@ use serde_json::Value;
 use std::alloc::Global;
 
 impl<P: AnyPath> HeldPair<P, Value> {
-    /// Gives the selector the document that it is to change; the old one is dropped. Allocates no memory. Named as in
-    /// the Rust crate `jsonpath_lib`.
+    /// Gives the selector a document to change; drops the old. Allocates nothing. Named as in Rust's `jsonpath_lib`.
     ///
     /// ```text
     /// let mut held = SelectorMut::new();
@@ -29,8 +28,7 @@ impl<P: AnyPath> HeldPair<P, Value> {
         self
     }
 
-    /// Moves the document, with all changes made so far, out of the selector, which then has none; `None` if it had
-    /// none before. Allocates no memory.
+    /// Moves the document, as changed so far, out of the selector; `None` if it has none. Allocates no memory.
     ///
     /// ```text
     /// let mut held = SelectorMut::default();

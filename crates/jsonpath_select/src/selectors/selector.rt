@@ -88,8 +88,7 @@ impl<P: OfNode + Drop, V: HeldValue> HeldPair<P, V> {
 }
 
 impl<'a, 'b> Selector<'a, 'b> {
-    /// Makes a selector, which is an object with a compiled path and a borrowed value to search; path and value are not
-    /// set yet. The call allocates no memory.
+    /// Makes a selector, for a compiled path and a borrowed value to search, both not set yet. Allocates no memory.
     ///
     /// ```text
     /// let held = Selector::new();
@@ -118,8 +117,7 @@ impl<'a, 'b> Selector<'a, 'b> {
         }
     }
 
-    /// Sets the selector's path to this compiled one, which it borrows. The call allocates no memory. Named as in the
-    /// Rust crate `jsonpath_lib`.
+    /// Sets the selector's compiled path, borrowed. Allocates no memory. Named as in the Rust crate `jsonpath_lib`.
     ///
     /// ```text
     /// let document = read_document(alloc, b"[1, 2, 3]")?;

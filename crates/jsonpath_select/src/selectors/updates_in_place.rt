@@ -13,9 +13,8 @@ use serde_json::Value;
 use std::alloc::Global;
 
 impl<P: AnyPath> HeldPair<P, Value> {
-    /// Replaces each selected value of the selector's document by null, except the root and values inside another
-    /// replaced value, as `delete` does. Errors: `EmptyPath` (no path), `EmptyValue` (a path, no document),
-    /// `OutOfMemory`; nothing has changed then.
+    /// Like `delete`, replaces each selected value of the document by null, except the root and values inside a
+    /// replaced one. Errors: `EmptyPath` (no path), `EmptyValue` (only a path), `OutOfMemory`; nothing changes then.
     ///
     /// ```text
     /// let mut held = SelectorMut::new();
@@ -35,8 +34,7 @@ impl<P: AnyPath> HeldPair<P, Value> {
     }
 
     /// Removes the selected values below the root from the selector's document, all at once, as `remove` does. Errors:
-    /// `EmptyPath` if there is no path, else `EmptyValue` if there is no document, else `OutOfMemory`; nothing has
-    /// changed then.
+    /// `EmptyPath` (no path), else `EmptyValue` (no document), else `OutOfMemory`; nothing has changed then.
     ///
     /// ```text
     /// let mut held = SelectorMut::new();

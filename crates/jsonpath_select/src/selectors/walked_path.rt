@@ -65,8 +65,7 @@ impl<'b> AnyPath for WalkedPath<'b> {
 /// assert!(rt; path.parts().text == "$.a");
 /// ```
 pub trait OfNode: AnyPath {
-    /// A method that implementors provide: makes a compiled path of this type from a `Node`, which is a compiled path
-    /// that owns its text.
+    /// A method that implementors provide: converts a `Node`, a compiled path that owns its text, to this type.
     ///
     /// ```text
     /// let node: Node = OfNode::of_node(Parser::compile(alloc, "$.a")?);

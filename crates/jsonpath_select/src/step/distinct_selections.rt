@@ -1,5 +1,4 @@
-//! Whether the names of a list all differ, and whether the indexes of a union do and count from the front, so that no
-//! child is selected twice.
+//! Whether a list's names all differ, or a union's indexes do and count from the front: no child is found twice.
 
 ghost use Rattle.std.specs.Prelude.{map, IfOk, IsTrue};
 ghost use Rattle.jsonpath_nodes.specs.step.Separate.{SelectsNoneTwice};

@@ -110,8 +110,7 @@ fn lead_each_candidate<'a, M: Carried<'a>>(
     Ok(TaggedMarks { tags, marks })
 }
 
-// The candidates that a filter decides on, for each of `count` candidates outside it. `leaves` says that `..` stands
-// before it, `deep` that its own `@` has a step.
+// A filter's candidates for each of `count` outside it. `leaves`: `..` is before it; `deep`: its own `@` has a step.
 pub(crate) fn candidates_of_filter<'a, M: Carried<'a>>(
     alloc: Global,
     leaves: bool,

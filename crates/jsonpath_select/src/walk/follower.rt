@@ -1,5 +1,4 @@
-//! How the walk follows a path through its syntax tree, for all candidates of a filter at once, in one of two manners:
-//! as lists, in which repeats stay, or as sets.
+//! The walk along a path's syntax tree, for all candidates of a filter at once: as lists (with repeats) or sets.
 
 ghost use Rattle.std.specs.Prelude.{◌≡◌, List, length, if◌then◌else◌, IfOk};
 ghost use Rattle.jsonpath_nodes.specs.document.Document.{Document};
@@ -115,8 +114,7 @@ impl<'t, G: Marked> Follower<'t, G> {
         }
     }
 
-    // Where the token or the filter of a step, behind `..` where `leaves` is set, leads the marks of each of so many
-    // lists, a location as often as it is reached.
+    // Where a step's token or filter, after `..` if `leaves`, leads each of so many lists' marks, with repeats.
     #[cycle(walk)]
     pub(crate) fn lists_after_inner(
         &self,

@@ -1,6 +1,5 @@
-//! What a path selects from the root, as a list. Where the walk follows nothing that leads to nothing, one pass forward
-//! finds the set of the places after each step, and one pass back those of them from which the later steps lead
-//! somewhere.
+//! What a path selects from the root, as a list. Where the walk follows nothing that leads nowhere, one pass forward
+//! finds the set of places after each step, and one pass back those from which the later steps lead somewhere.
 
 ghost use Rattle.std.specs.Prelude.{◌≡◌, ◌++◌, ◌∷◌, [], List, length, filter, IfOk, OnOk};
 ghost use Rattle.jsonpath_paths.specs.tree.View.{inner_of, path_of, steps_of_list};

@@ -48,8 +48,7 @@ impl<'a> DescentPath<'a> {
     }
 }
 
-// The steps down from where a descent began, with what of the path is shared: what leads to the start first, and then
-// what leads to where each step leads.
+// The steps down from a descent's start and what of the path is shared: to the start, then to each step's end.
 #[derive(Drop)]
 pub struct SharedPath<'a> {
     alloc: Global,

@@ -19,9 +19,8 @@ use std::alloc::Global;
 /// Replaces the value at each location of a list by a copy of `new`. The root and locations that don't exist are
 /// skipped. A location that is below another one of the list is skipped, too, unless that other one is the root.
 ///
-/// Precondition: the list is in document order (parents before children, members by their names' bytes, items by index)
-/// and has each location once, as `compute_paths` returns it. The only error is `NoMemory`; the value is then
-/// unchanged.
+/// Precondition: the list is in document order (parents before children, members by their names' bytes, items by
+/// index), each location once, as `compute_paths` returns it. The only error: `NoMemory`; the value is then unchanged.
 ///
 /// ```text
 /// let mut document = Value::from_str(alloc, "[1, [2, 3]]")?;
@@ -61,8 +60,7 @@ fn put_copies(value: &mut Value, locations: Vec<&Location>, copies: Vec<Value>)
     }
 }
 
-// The locations without those that stand below another one of them. The root hides none, and is kept if it is there:
-// what is put at the root changes nothing.
+// The locations not below another one. The root, if there, hides none and is kept: a put there changes nothing.
 fn topmost_locations<'l>(
     alloc: Global,
     locations: &'l [Location],

@@ -14,12 +14,10 @@ use crate::place::location::{LocStep, Location};
 use serde_json::{Map, Value};
 
 /// Removes the values at all locations of a list. The locations are those before the call: removing an item moves none
-/// of the others. The remaining items of an array keep their order; the root and locations that don't exist are
-/// skipped.
+/// of the others. An array's remaining items keep their order; the root and nonexistent locations are skipped.
 ///
-/// Precondition: the list is in document order (parents before children, members by their names' bytes, items by index)
-/// and has each location once, as `compute_paths` returns it. Removing allocates no memory, so the call always returns
-/// `Ok`.
+/// Precondition: the list is in document order (parents before children, members by their names' bytes, items by
+/// index), each location once, as `compute_paths` returns it. Removing allocates no memory and always returns `Ok`.
 ///
 /// ```text
 /// let mut document = Value::from_str(alloc, "[1, [2, 3]]")?;
@@ -53,8 +51,7 @@ fn take_from_value(value: &mut Value, locations: &[Location], depth: usize)
     }
 }
 
-// Takes away what stands at the topmost of the locations in an array; their first `depth` steps lead to it. Each item
-// that stays is moved once at most.
+// Removes the topmost locations' values from the array at their first `depth` steps. Kept items move once at most.
 #[cycle(take)]
 fn take_items(list: &mut Vec<Value>, locations: &[Location], depth: usize)
     requires { IsStrictlySortedBy location_cmp (beyond depth locations.now) }
