@@ -90,9 +90,10 @@ fn copy_members_if_numbers_fit(
 }
 
 /// Copies an exact tree, which keeps each number as written, to a `serde_json` value, with each number replaced as
-/// `numbers` says. Precondition: `numbers` is `Alike`, which replaces each number by 0, or `Ranked`, which replaces
-/// each number by the index of its key in a list. This list must have the keys of all numbers of the tree. Errors:
-/// `HugeExponent` if `numbers` is `Ranked` and a number's exponent doesn't fit in 128 bits, or `OutOfMemory`.
+/// `numbers` says. Precondition: `numbers` is not `Scaled`. `Alike` replaces each number by 0. `Ranked` replaces each by
+/// the index of its key in its list, if the list ascends and has the keys of all numbers of the tree; with another list,
+/// or for `AsRead`, the numbers of the result mean nothing. Errors: `HugeExponent` if `numbers` is `Ranked` and a
+/// number's exponent doesn't fit in 128 bits, or `OutOfMemory`.
 pub fn copy_with_numbers(
     alloc: Global,
     exact: &Exact<'_>,

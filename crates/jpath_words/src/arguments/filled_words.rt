@@ -59,9 +59,9 @@ pub fn fill_paths<'a>(
 }
 
 /// Returns a copy of the parsed command line `words` in which each path text is replaced by the one that `filled` has
-/// for it: there, the placeholders `{NAME}` are already replaced. Precondition: `filled` was made from `words`; this is
-/// not tested. The copy has no `--arg` and no `--argjson`, and its field `rest` has only the files. Errors: `Words` if
-/// there is no path, or `OutOfMemory`.
+/// for it: there, the placeholders `{NAME}` are already replaced. The copy has the paths and edits of `filled`, which
+/// should have been made from `words`; the call does not test that. The copy has no `--arg` and no `--argjson`, and its
+/// field `rest` has only the files. Errors: `Words` if there is no path, or `OutOfMemory`.
 pub fn words_with_paths<'a>(
     alloc: Global,
     words: &Words<'a>,
