@@ -15,7 +15,7 @@ const TRIES: u32 = 500;
 
 const WAIT_MILLISECONDS: u64 = 20;
 
-/// How an edited text is written to a file: by a new file, or into the file itself.
+/// How an edited text is written to a file: into a new file, which then replaces the file, or into the file itself.
 #[derive(Clone, Copy, Debug, Drop, PartialEq, Eq)]
 pub enum Way {
     /// A way in which an edited text is written to a file: a new file with this text replaces the old one.

@@ -1,17 +1,17 @@
 -- Where bytes lead, one after the other.
-use Rattle.std.proofs.Common.{rules, ◌≡◌, ℕ, zero, suc, ◌+◌, ◌<◌, ◌≤◌, List, [], ◌∷◌, ◌++◌, length, get_or, take, drop, Bool, true, map, refl, sym, ap, ap₂, subst, ◌∙◌, arith, inl, inr}
+use Rattle.std.proofs.Common.{rules, ◌≡◌, ℕ, zero, suc, ◌+◌, ◌<◌, ◌≤◌, List, [], ◌∷◌, ◌++◌, length, get_or, take, drop, Bool, true, map, refl, sym, ap, subst, ◌∙◌, arith, inl, inr}
 use Rattle.std.proofs.lemmas.Bool.{cases_lt}
 use Rattle.std.proofs.lemmas.List.{map-append, take-append-drop, drop-take, take-take}
 use Rattle.std.proofs.Math.Seq.{drop-cons}
-use Rattle.json_recognizer.specs.Classes.{class_of, is_blank, is_plain, is_tail, is_hex, is_short_escape}
+use Rattle.json_recognizer.specs.Classes.{class_of, is_plain, is_tail, is_hex, is_high, is_low, is_short_escape}
 use Rattle.json_recognizer.specs.Machine.{Next, goes, refused, goes_from, step, after_all}
-use Rattle.json_recognizer.specs.plan.Leads.{Leads, LeadsIn, AreChars, IsWord}
+use Rattle.json_recognizer.specs.plan.Leads.{Leads, LeadsIn, AreChars}
 use Rattle.json_recognizer.specs.declared.class.Class.{Class}
-use Rattle.json_recognizer.specs.declared.class.Class.TheVariants.{Space, White, AnyD}
+use Rattle.json_recognizer.specs.declared.class.Class.TheVariants.{AnyD}
 use Rattle.json_recognizer.specs.declared.machine.Mode.{Mode}
-use Rattle.json_recognizer.specs.declared.machine.Mode.TheVariants.{Value, AfterName, InText}
+use Rattle.json_recognizer.specs.declared.machine.Mode.TheVariants.{InText}
 use Rattle.json_recognizer.specs.declared.machine.TextPart.{TextPart}
-use Rattle.json_recognizer.specs.declared.machine.TextPart.TheVariants.{InChars, AfterBackslash, Unit4, Unit3, Unit2, Unit1, UnitD, Utf1, Utf2, UtfE0, UtfEd, UtfF0}
+use Rattle.json_recognizer.specs.declared.machine.TextPart.TheVariants.{InChars, AfterBackslash, Unit4, Unit3, Unit2, Unit1, UnitD, High2, High1, HighEnd, HighU, LowD, LowC, Utf1, Utf2, UtfE0, UtfEd, UtfF0}
 
 -- one byte, and those behind it
 pub by_one : (m₀ m n : Mode) (x : ℕ) (xs : List ℕ) → ((st : List Bool) (r : ℕ) → step m₀ st r (class_of x) ≡ goes m st r) → Leads m xs n → Leads m₀ (x ∷ xs) n
@@ -46,14 +46,6 @@ further_in p q e xs a b j first second is is_name = further (InText p is_name) (
 
 pub chars_further : (xs behind : List ℕ) (a b j : ℕ) → behind ≡ drop a xs → AreChars (take a xs) → AreChars (take b behind) → j ≡ a + b → AreChars (take j xs)
 chars_further xs behind a b j lies first second is = further_in InChars InChars InChars xs a b j first (subst (λ ys. AreChars (take b ys)) lies second) is
-
-pub nothing : (m : Mode) → Leads m [] m
-unfolding after_all
-nothing m st r = refl
-
--- where spaces and other blanks leave the mode as it is, so does each of them
-pub blanks_stay : (m : Mode) (st : List Bool) (r : ℕ) (c : Class) → step m st r Space ≡ goes m st r → step m st r White ≡ goes m st r → is_blank c ≡ true → step m st r c ≡ goes m st r
-blanks_stay m st r c spaces others h = grind arith
 
 -- each of them leaves the mode as it is
 pub by_each : (m : Mode) (xs : List ℕ) (n : ℕ) → n ≤ length xs → ((k : ℕ) → k < n → (st : List Bool) (r : ℕ) → step m st r (class_of (get_or xs k 0)) ≡ goes m st r) → Leads m (take n xs) m
@@ -190,8 +182,57 @@ escapes_unit x is is_name st r = ap (λ y. step (InText AfterBackslash is_name) 
 spaces : (x : ℕ) → x ≡ 32 → StepsTo InChars x InChars
 spaces x is is_name st r = ap (λ y. step (InText InChars is_name) st r (class_of y)) is
 
+high_second : (x : ℕ) → is_high (class_of x) ≡ true → StepsTo UnitD x High2
+high_second x h is_name st r = search rules
+
+high_third : (x : ℕ) → is_hex (class_of x) ≡ true → StepsTo High2 x High1
+high_third x h is_name st r = search rules
+
+high_fourth : (x : ℕ) → is_hex (class_of x) ≡ true → StepsTo High1 x HighEnd
+high_fourth x h is_name st r = search rules
+
+escapes_low : (x : ℕ) → x ≡ 92 → StepsTo HighEnd x HighU
+escapes_low x is is_name st r = ap (λ y. step (InText HighEnd is_name) st r (class_of y)) is
+
+escapes_low_unit : (x : ℕ) → x ≡ 117 → StepsTo HighU x LowD
+escapes_low_unit x is is_name st r = ap (λ y. step (InText HighU is_name) st r (class_of y)) is
+
+low_first : (x : ℕ) → class_of x ≡ AnyD → StepsTo LowD x LowC
+low_first x is is_name st r = search rules
+
+low_second : (x : ℕ) → is_low (class_of x) ≡ true → StepsTo LowC x Unit2
+low_second x h is_name st r = search rules
+
+pub high : (x y : ℕ) → class_of x ≡ AnyD → is_high (class_of y) ≡ true → LeadsIn Unit4 (x ∷ y ∷ []) High2
+high x y first second = two Unit4 UnitD High2 x y (unit_d x first) (high_second y second)
+
+pub low : (x y : ℕ) → class_of x ≡ AnyD → is_low (class_of y) ≡ true → LeadsIn LowD (x ∷ y ∷ []) Unit2
+low x y first second = two LowD LowC Unit2 x y (low_first x first) (low_second y second)
+
 pub has_escape : (xs : List ℕ) → 2 ≤ length xs → get_or xs 0 0 ≡ 92 → is_short_escape (class_of (get_or xs 1 0)) ≡ true → AreChars (take 2 xs)
 has_escape xs long is short = two_at InChars InChars xs 0 1 refl long (two InChars AfterBackslash InChars (get_or xs 0 0) (get_or xs 1 0) (escapes (get_or xs 0 0) is) (short_escape (get_or xs 1 0) short))
+
+-- the first few of a text lead so far
+abbrev AreTo : List ℕ → ℕ → TextPart → Type 0
+AreTo xs n p = LeadsIn InChars (take n xs) p
+
+module _ (xs : List ℕ) (long : 12 ≤ length xs) where
+  -- two more
+  then_two : (p q : TextPart) (i j k : ℕ) → j ≡ suc i → k ≡ i + 2 → j < 12 → AreTo xs i p → LeadsIn p (get_or xs i 0 ∷ get_or xs j 0 ∷ []) q → AreTo xs k q
+  then_two p q i j k next is lt before both = further_in InChars p q xs i 2 k before (two_at p q xs i j next (omega (arith, lt, long)) both) is
+
+  pub has_pair : get_or xs 0 0 ≡ 92 → get_or xs 1 0 ≡ 117 → LeadsIn Unit4 (get_or xs 2 0 ∷ get_or xs 3 0 ∷ []) High2 → is_hex (class_of (get_or xs 4 0)) ≡ true → is_hex (class_of (get_or xs 5 0)) ≡ true
+      → get_or xs 6 0 ≡ 92 → get_or xs 7 0 ≡ 117 → LeadsIn LowD (get_or xs 8 0 ∷ get_or xs 9 0 ∷ []) Unit2 → is_hex (class_of (get_or xs 10 0)) ≡ true → is_hex (class_of (get_or xs 11 0)) ≡ true → AreChars (take 12 xs)
+  has_pair is u high a b is₂ u₂ low c d =
+      then_two Unit2 InChars 10 11 12 refl refl (omega arith)
+      (then_two LowD Unit2 8 9 10 refl refl (omega arith)
+      (then_two HighEnd LowD 6 7 8 refl refl (omega arith)
+      (then_two High2 HighEnd 4 5 6 refl refl (omega arith)
+      (then_two Unit4 High2 2 3 4 refl refl (omega arith)
+      (two_at InChars Unit4 xs 0 1 refl (omega (arith, long)) (two InChars AfterBackslash Unit4 (get_or xs 0 0) (get_or xs 1 0) (escapes (get_or xs 0 0) is) (escapes_unit (get_or xs 1 0) u))) high)
+      (two High2 High1 HighEnd (get_or xs 4 0) (get_or xs 5 0) (high_third (get_or xs 4 0) a) (high_fourth (get_or xs 5 0) b)))
+      (two HighEnd HighU LowD (get_or xs 6 0) (get_or xs 7 0) (escapes_low (get_or xs 6 0) is₂) (escapes_low_unit (get_or xs 7 0) u₂))) low)
+      (two Unit2 Unit1 InChars (get_or xs 10 0) (get_or xs 11 0) (hex_first (get_or xs 10 0) c) (hex_second (get_or xs 11 0) d))
 
 module _ (xs : List ℕ) (six : 6 ≤ length xs) where
   pub has_two : LeadsIn InChars (get_or xs 0 0 ∷ get_or xs 1 0 ∷ []) InChars → AreChars (take 2 xs)
@@ -211,30 +252,3 @@ module _ (xs : List ℕ) (six : 6 ≤ length xs) where
 
   pub has_space : get_or xs 0 0 ≡ 32 → AreChars (take 1 xs)
   has_space is = one_at InChars InChars xs 0 (omega (arith, six)) (at_byte InChars InChars InChars (get_or xs 0 0) [] (spaces (get_or xs 0 0) is) (at_end InChars))
-
--- the quote that ends a name, and the colon
-pub name_ends : (xs : List ℕ) → 2 ≤ length xs → get_or xs 0 0 ≡ 34 → get_or xs 1 0 ≡ 58 → Leads (InText InChars true) (take 2 xs) Value
-name_ends [] long quote colon = absurd (omega (arith, long))
-name_ends (x ∷ []) long quote colon = absurd (omega (arith, long))
-name_ends (x ∷ y ∷ xs) long quote colon =
-    by_one (InText InChars true) AfterName Value x (y ∷ []) (λ st. λ r. ap (λ k. step (InText InChars true) st r (class_of k)) quote)
-    (by_one AfterName Value Value y [] (λ st. λ r. ap (λ k. step AfterName st r (class_of k)) colon) (nothing Value))
-
--- ---- words
-
-pub true_word : IsWord (116 ∷ 114 ∷ 117 ∷ 101 ∷ [])
-unfolding after_all
-true_word = (λ st. λ r. refl, λ st. λ r. refl)
-
-pub null_word : IsWord (110 ∷ 117 ∷ 108 ∷ 108 ∷ [])
-unfolding after_all
-null_word = (λ st. λ r. refl, λ st. λ r. refl)
-
-false_word : IsWord (102 ∷ 97 ∷ 108 ∷ 115 ∷ 101 ∷ [])
-unfolding after_all
-false_word = (λ st. λ r. refl, λ st. λ r. refl)
-
-pub is_false : (xs : List ℕ) → 5 ≤ length xs → take 4 xs ≡ 102 ∷ 97 ∷ 108 ∷ 115 ∷ [] → get_or xs 4 0 ≡ 101 → IsWord (take 5 xs)
-is_false xs long four last =
-    let e : take 1 (drop 4 xs) ≡ get_or xs 4 0 ∷ [] = ap (take 1) (drop-cons xs 4 0 (omega (arith, long))) in
-    subst IsWord (sym (take_both xs 4 1 ∙ ap₂ (λ (ys zs : List ℕ). ys ++ zs) four (e ∙ ap (λ x. x ∷ []) last))) false_word

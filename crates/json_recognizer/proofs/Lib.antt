@@ -11,3 +11,5 @@ pub mod Frames
 pub mod Leads
 pub mod Streams
 pub mod Chars
+pub mod Rows
+pub mod Letters

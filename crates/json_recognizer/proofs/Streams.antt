@@ -1,6 +1,5 @@
 -- What is found along a stream, byte by byte.
-use Rattle.std.proofs.Common.{◌≡◌, ℕ, suc, ◌+◌, ◌-◌, ◌<◌, ◌≤◌, List, [], ◌∷◌, ◌++◌, length, get_or, take, drop, Bool, true, false, ◌&&◌, cond, map, refl, sym, ap, ap₂, subst, ◌∙◌, arith, add-one, append_assoc, drop-cons, inl, inr}
-use Rattle.std.proofs.lemmas.Bool.{cases_lt}
+use Rattle.std.proofs.Common.{◌≡◌, ℕ, suc, ◌+◌, ◌-◌, ◌<◌, ◌≤◌, List, [], ◌∷◌, ◌++◌, length, get_or, take, drop, Bool, true, false, ◌&&◌, cond, map, refl, sym, ap, ap₂, subst, ◌∙◌, arith, add-one, append_assoc, drop-cons}
 use Rattle.std.proofs.lemmas.List.{append-nil, drop-drop, take-append-drop, length-take-le}
 use Rattle.json_recognizer.specs.Classes.{class_of}
 use Rattle.json_recognizer.specs.Grammar.{IsDocument, Begins, max_depth}
@@ -56,13 +55,6 @@ module _ (s : State) (x : ℕ) (k : Class) (is : k ≡ class_of x) (ends : Bool)
   pub ends_here : ends ≡ true → (more : List ℕ) → found_at s (x ∷ more) ≡ Ends 0
   ends_here h more = ends_before s.mode (frames s.depth s.kinds) (max_depth - s.depth) x more (sym here ∙ h)
 
-  pub leads_to : ends ≡ false → (next : Next) → step s.mode (frames s.depth s.kinds) (max_depth - s.depth) k ≡ next → (more : List ℕ) → found_at s (x ∷ more) ≡ found_by next (found_from next more)
-  leads_to h next e more = one_byte s.mode (frames s.depth s.kinds) (max_depth - s.depth) x more next (sym here ∙ h) (ap (step s.mode (frames s.depth s.kinds) (max_depth - s.depth)) (sym is) ∙ e)
-
-  pub leads_on : ends ≡ false → (next : State) → step s.mode (frames s.depth s.kinds) (max_depth - s.depth) k ≡ next_of next → (found : Found) → found ≡ cond (is_over next) (Ends 1) GoesOn
-      → (more : List ℕ) → found_at s (x ∷ more) ≡ or_later found 1 (found_at next more)
-  leads_on h next e found is_found more = leads_to h (next_of next) e more ∙ over_or_later (is_over next) (found_at next more) ∙ ap (λ f. or_later f 1 (found_at next more)) (sym is_found)
-
 -- a byte that leads on, and ends no number
 pub leads_plainly : (s next : State) (x : ℕ) → (is_final s.mode (frames s.depth s.kinds) && ends_number (class_of x)) ≡ false → step s.mode (frames s.depth s.kinds) (max_depth - s.depth) (class_of x) ≡ next_of next → (found : Found) → found ≡ cond (is_over next) (Ends 1) GoesOn
     → (more : List ℕ) → found_at s (x ∷ more) ≡ or_later found 1 (found_at next more)
@@ -76,7 +68,7 @@ refused_plainly s x none e more = one_byte s.mode (frames s.depth s.kinds) (max_
 -- ---- bytes that lead to a mode in which the document is not over
 
 -- what is over stays so
-abbrev over_next : Next → Bool
+abbrev pub over_next : Next → Bool
 over_next (goes m st r) = is_over_in m st
 over_next refused = true
 
@@ -92,7 +84,7 @@ was_open Behind [] r cs h = let over = stays_over cs r in cc
 was_open m st r cs h = refl
 
 -- what ends a number leads to where it is over
-no_end : (m : Mode) (st : List Bool) (r : ℕ) (c : Class) → is_over_in m st ≡ false → over_next (step m st r c) ≡ false → (is_final m st && ends_number c) ≡ false
+pub no_end : (m : Mode) (st : List Bool) (r : ℕ) (c : Class) → is_over_in m st ≡ false → over_next (step m st r c) ≡ false → (is_final m st && ends_number c) ≡ false
 no_end Behind [] r c o s = cc
 no_end (InNumber AfterZero) [] r Space o s = cc
 no_end (InNumber AfterZero) [] r White o s = cc
@@ -117,13 +109,6 @@ no_end (InNumber InExponent) [] r Quote o s = cc
 no_end (InNumber p) [] r c o s = refl
 no_end (InNumber p) (k ∷ st) r c o s = refl
 no_end m st r c o s = refl
-
--- a property of the first few, and of the next
-pub one_further : (P : ℕ → Type 0) (i : ℕ) → ((k : ℕ) → k < i → P k) → P i → (k : ℕ) → k < i + 1 → P k
-one_further P i before here k below = elim (cases_lt k i) [
-  | inl lt ↦ before k lt
-  | inr le ↦ let same : i ≡ k = omega (arith, le, below) in subst P same here
-]
 
 module _ (more : List ℕ) (next : Next) (is_open : over_next next ≡ false) where
   by_next : (x : ℕ) (xs : List ℕ) (m : Mode) (st : List Bool) (r : ℕ) → is_over_in m st ≡ false → (by : Next) → step m st r (class_of x) ≡ by → goes_from by (λ m. λ st. λ r. after_all m st r (map class_of xs)) ≡ next

@@ -6,12 +6,13 @@ mod buffer;
 mod class;
 mod laws;
 mod machine;
-mod moves;
+mod search;
 mod state;
+mod steps;
 mod stream;
+mod table;
 mod text;
 mod wanted;
-mod words;
 
 pub use buffer::lines::{count_blanks, place_after};
 pub use buffer::piece::{Kind, LineColumn};

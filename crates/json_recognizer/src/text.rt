@@ -1,10 +1,10 @@
 //! The characters of a quoted text, passed over many at a time.
-ghost use Rattle.std.specs.Prelude.{◌≡◌, ◌<◌, ◌≤◌, [], ◌∷◌, length, get_or, take, map, true, ℕ};
+ghost use Rattle.std.specs.Prelude.{◌≡◌, ◌↔◌, ◌<◌, ◌≤◌, [], ◌∷◌, length, get_or, take, map, true, ℕ};
 ghost use Rattle.std.specs.Simd.Lanes.{mask_l};
-ghost use Rattle.json_recognizer.specs.Classes.{class_of, is_plain, is_stop, is_tail, is_hex, is_short_escape};
-ghost use Rattle.json_recognizer.specs.plan.Leads.{Leads, LeadsIn, AreChars};
-ghost use Rattle.json_recognizer.specs.declared.machine.Mode.TheVariants.{Value, InText};
-ghost use Rattle.json_recognizer.specs.declared.machine.TextPart.TheVariants.{InChars, Unit4, Unit2, Utf1, Utf2};
+ghost use Rattle.json_recognizer.specs.Classes.{class_of, is_plain, is_stop, is_tail, is_hex, is_high, is_low, is_short_escape};
+ghost use Rattle.json_recognizer.specs.plan.Leads.{LeadsIn, AreChars};
+ghost use Rattle.json_recognizer.specs.declared.class.Class.TheVariants.{AnyD};
+ghost use Rattle.json_recognizer.specs.declared.machine.TextPart.TheVariants.{InChars, Unit4, Unit2, High2, LowD, Utf1, Utf2};
 
 use std::simd::prelude::*;
 
@@ -22,10 +22,13 @@ fn stops(bytes: u8x16) -> u64
 // How many bytes at the front stand for themselves in a text. They are looked at sixteen at a time; the last few, where
 // there aren't so many, are not counted.
 #[inline(always)]
-fn count_chars(bytes: &[u8]) -> usize
+pub(crate) fn count_chars(bytes: &[u8]) -> usize
     ensures within { result ≤ length bytes.now }
     ensures chars { (k : ℕ) → k < result → is_plain (class_of (get_or bytes.now k 0)) ≡ true }
 {
+    if !bytes.is_empty() && bytes[0] == b'"' {
+        return 0;
+    }
     let mut at = 0;
     while bytes.len() - at >= 16 {
         let found = stops(u8x16::from_slice(&bytes[at..]));
@@ -39,7 +42,7 @@ fn count_chars(bytes: &[u8]) -> usize
 
 #[inline(always)]
 fn is_tail(byte: u8) -> bool
-    ensures { result ≡ true → is_tail (class_of byte) ≡ true }
+    ensures { result ≡ is_tail (class_of byte) }
 {
     matches!(byte, 128..=191)
 }
@@ -75,7 +78,7 @@ fn begins_four(first: u8, second: u8) -> bool
 
 #[inline(always)]
 fn is_hex(byte: u8) -> bool
-    ensures { result ≡ true → is_hex (class_of byte) ≡ true }
+    ensures { result ≡ is_hex (class_of byte) }
 {
     byte.is_ascii_hexdigit()
 }
@@ -92,26 +95,101 @@ fn begins_unit(first: u8, second: u8) -> bool
     }
 }
 
-// How many bytes the first character has if it is beyond ASCII, an escape by its number, or a space; 0 if it is not.
+// Whether a backslash may stand before this letter alone.
+#[inline(always)]
+fn is_short_escape(byte: u8) -> bool
+    ensures { result ≡ is_short_escape (class_of byte) }
+{
+    matches!(byte, b'"' | b'\\' | b'/' | b'b' | b'f' | b'n' | b'r' | b't')
+}
+
+#[inline(always)]
+fn is_any_d(byte: u8) -> bool
+    ensures { result ≡ true ↔ class_of byte ≡ AnyD }
+{
+    matches!(byte, b'd' | b'D')
+}
+
+// Whether a high surrogate has this as its second digit.
+#[inline(always)]
+fn is_high(byte: u8) -> bool
+    ensures { result ≡ is_high (class_of byte) }
+{
+    matches!(byte, b'8' | b'9' | b'a' | b'b' | b'A' | b'B')
+}
+
+// Whether a low surrogate has this as its second digit.
+#[inline(always)]
+fn is_low(byte: u8) -> bool
+    ensures { result ≡ is_low (class_of byte) }
+{
+    matches!(byte, b'c'..=b'f' | b'C'..=b'F')
+}
+
+// Whether these are the first two digits of a high surrogate.
+#[inline(always)]
+fn begins_high(first: u8, second: u8) -> bool
+    ensures { result ≡ true → LeadsIn Unit4 (first ∷ second ∷ []) High2 }
+{
+    is_any_d(first) && is_high(second)
+}
+
+// Whether these are the first two digits of a low surrogate, where one is wanted.
+#[inline(always)]
+fn begins_low(first: u8, second: u8) -> bool
+    ensures { result ≡ true → LeadsIn LowD (first ∷ second ∷ []) Unit2 }
+{
+    is_any_d(first) && is_low(second)
+}
+
+// How many bytes the escape has that the backslash in front begins; 0 if none.
+#[inline(always)]
+fn escape_len(bytes: &[u8]) -> usize
+    requires long { 6 ≤ length bytes.now }
+    requires escape { get_or bytes.now 0 0 ≡ 92 }
+    ensures within { result ≤ length bytes.now }
+    ensures chars { AreChars (take result bytes.now) }
+{
+    if is_short_escape(bytes[1]) {
+        2
+    } else if bytes[1] == b'u'
+        && begins_unit(bytes[2], bytes[3])
+        && is_hex(bytes[4])
+        && is_hex(bytes[5])
+    {
+        6
+    } else if bytes.len() >= 12
+        && bytes[1] == b'u'
+        && begins_high(bytes[2], bytes[3])
+        && is_hex(bytes[4])
+        && is_hex(bytes[5])
+        && bytes[6] == b'\\'
+        && bytes[7] == b'u'
+        && begins_low(bytes[8], bytes[9])
+        && is_hex(bytes[10])
+        && is_hex(bytes[11])
+    {
+        12
+    } else {
+        0
+    }
+}
+
+// How many bytes the first character has if it is an escape, beyond ASCII, or a space; 0 if it is not.
 #[inline(always)]
 fn other_len(bytes: &[u8]) -> usize
     requires { 6 ≤ length bytes.now }
     ensures within { result ≤ length bytes.now }
     ensures chars { AreChars (take result bytes.now) }
 {
-    if are_two(bytes[0], bytes[1]) {
+    if bytes[0] == b'\\' {
+        escape_len(bytes)
+    } else if are_two(bytes[0], bytes[1]) {
         2
     } else if begins_three(bytes[0], bytes[1]) && is_tail(bytes[2]) {
         3
     } else if bytes[0] == b' ' {
         1
-    } else if bytes[0] == b'\\'
-        && bytes[1] == b'u'
-        && begins_unit(bytes[2], bytes[3])
-        && is_hex(bytes[4])
-        && is_hex(bytes[5])
-    {
-        6
     } else if begins_four(bytes[0], bytes[1]) && is_tail(bytes[2]) && is_tail(bytes[3]) {
         4
     } else {
@@ -136,65 +214,20 @@ fn count_others(bytes: &[u8]) -> usize
     at
 }
 
-// Whether a backslash may stand before this letter alone.
-#[inline(always)]
-fn is_short_escape(byte: u8) -> bool
-    ensures { result ≡ true → is_short_escape (class_of byte) ≡ true }
-{
-    matches!(byte, b'"' | b'\\' | b'/' | b'b' | b'f' | b'n' | b'r' | b't')
-}
-
-// Whether the bytes begin with an escape by one letter.
-#[inline(always)]
-fn has_short_escape(bytes: &[u8]) -> bool
-    ensures within { result ≡ true → 2 ≤ length bytes.now }
-    ensures chars { result ≡ true → AreChars (take 2 bytes.now) }
-{
-    if bytes.len() < 2 {
-        return false;
-    }
-    bytes[0] == b'\\' && is_short_escape(bytes[1])
-}
-
-// How many bytes at the front are an escape by one letter, or such characters.
-#[inline(always)]
-fn count_beyond(bytes: &[u8]) -> usize
-    ensures within { result ≤ length bytes.now }
-    ensures chars { AreChars (take result bytes.now) }
-{
-    if has_short_escape(bytes) {
-        2
-    } else {
-        count_others(bytes)
-    }
-}
-
 // How many bytes at the front are characters and escapes of the text that is being read.
-#[inline(always)]
+#[inline(never)]
 pub(crate) fn count_text(bytes: &[u8]) -> usize
     ensures within { result ≤ length bytes.now }
     ensures chars { AreChars (take result bytes.now) }
 {
     let mut at = count_chars(bytes);
     while at < bytes.len() && bytes[at] != b'"' {
-        let beyond = count_beyond(&bytes[at..]);
-        if beyond == 0 {
+        let others = count_others(&bytes[at..]);
+        if others == 0 {
             return at;
         }
-        at += beyond;
+        at += others;
         at += count_chars(&bytes[at..]);
     }
     at
-}
-
-// Whether the bytes begin with the quote that ends a name, and the colon behind it.
-#[inline(always)]
-pub(crate) fn ends_name(bytes: &[u8]) -> bool
-    ensures within { result ≡ true → 2 ≤ length bytes.now }
-    ensures leads { result ≡ true → Leads (InText InChars true) (take 2 bytes.now) Value }
-{
-    if bytes.len() < 2 {
-        return false;
-    }
-    bytes[0] == b'"' && bytes[1] == b':'
 }

@@ -10,12 +10,12 @@ pub loop-at-preserved : goal.loop-at-preserved
 loop-at-preserved c =
     let l = c.loop-at in
     let bytes = c.args.bytes.now in
-    let beyond = c.count_beyond-beyond in
+    let others = c.count_others-others in
     let more = c.count_chars-at-in-loop-at in
-    let at = l.at + beyond.result in
+    let at = l.at + others.result in
     record {
       within = omega arith;
       chars = chars_further bytes _ at more.result (at + more.result) (take_rest bytes at)
-          (chars_further bytes _ l.at beyond.result at (take_rest bytes l.at) l.invariant.chars beyond.ensures.chars refl)
+          (chars_further bytes _ l.at others.result at (take_rest bytes l.at) l.invariant.chars others.ensures.chars refl)
           (plain_chars _ more.result more.ensures.within more.ensures.chars) refl;
     }

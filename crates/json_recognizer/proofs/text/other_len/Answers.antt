@@ -1,21 +1,19 @@
+use Rattle.std.proofs.Common.{sym, ◌∙◌}
 use Rattle.json_recognizer.specs.declared.machine.TextPart.TheVariants.{InChars}
-use Rattle.json_recognizer.proofs.Leads.{has_two, has_three, has_four, has_unit, has_space, at_end}
+use Rattle.json_recognizer.proofs.Leads.{has_two, has_three, has_four, has_space, at_end}
 use Rattle.json_recognizer.proofs.text.other_len.Goals as goal
 
 pub returns-then-are_two-clause-chars : goal.returns-then-are_two-clause-chars
 returns-then-are_two-clause-chars c = has_two c.args.bytes.now c.requires (c.are_two.ensures c.if-are_two.true)
 
 pub returns-then-is_tail-clause-chars : goal.returns-then-is_tail-clause-chars
-returns-then-is_tail-clause-chars c = has_three c.args.bytes.now c.requires (c.begins_three.ensures c.if-begins_three.true) (c.is_tail.ensures c.if-is_tail.true)
+returns-then-is_tail-clause-chars c = has_three c.args.bytes.now c.requires (c.begins_three.ensures c.if-begins_three.true) (sym c.is_tail.ensures ∙ c.if-is_tail.true)
 
 pub returns-then-bytes-eq32-clause-chars : goal.returns-then-bytes-eq32-clause-chars
 returns-then-bytes-eq32-clause-chars c = has_space c.args.bytes.now c.requires c.if-bytes-eq32.true
 
-pub returns-then-is_hex-2-clause-chars : goal.returns-then-is_hex-2-clause-chars
-returns-then-is_hex-2-clause-chars c = has_unit c.args.bytes.now c.requires c.if-bytes-eq92.true c.if-bytes-eq117.true (c.begins_unit.ensures c.if-begins_unit.true) (c.is_hex.ensures c.if-is_hex.true) (c.is_hex-then-is_hex.ensures c.if-is_hex-2.true)
-
 pub returns-then-is_tail-3-clause-chars : goal.returns-then-is_tail-3-clause-chars
-returns-then-is_tail-3-clause-chars c = has_four c.args.bytes.now c.requires (c.begins_four.ensures c.if-begins_four.true) (c.is_tail-then-begins_four.ensures c.if-is_tail-2.true) (c.is_tail-then-is_tail-2.ensures c.if-is_tail-3.true)
+returns-then-is_tail-3-clause-chars c = has_four c.args.bytes.now c.requires (c.begins_four.ensures c.if-begins_four.true) (sym c.is_tail-then-begins_four.ensures ∙ c.if-is_tail-2.true) (sym c.is_tail-then-is_tail-2.ensures ∙ c.if-is_tail-3.true)
 
 pub returns-else-begins_four-clause-chars : goal.returns-else-begins_four-clause-chars
 returns-else-begins_four-clause-chars c = at_end InChars
