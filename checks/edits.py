@@ -75,8 +75,9 @@ def callers_of(edited, verdicts):
     found = set()
     for _ in verdicts:
         for name, verdict in verdicts.items():
-            called = re.search(r": it calls `([^`]+)`, which is not proved", f": {verdict}")
-            if called and called[1] in edited | found and name not in edited:
+            said = re.search(r": it calls (`[^`]+`(?: and `[^`]+`)*), which (?:is|are) not proved", f": {verdict}")
+            called = set(re.findall(r"`([^`]+)`", said[1])) if said else set()
+            if called and called <= edited | found and name not in edited:
                 found.add(name)
     return found
 
@@ -125,6 +126,7 @@ def tries():
     wrong = [said for said, passes in MADE_UP if (not faults(edit, said)) != passes]
     both = REFUSED.replace("g: proved", "g: not proved") + OPEN + "\nfn a::h: no proof: it calls `a::g`, which is not proved"
     both += "\nfn a::i: no proof: it calls `a::h`, which is not proved"
+    both += "\nfn a::j: no proof: it calls `a::h` and `a::i`, which are not proved"
     if faults(edit, both, [other]) or not faults(other, both, [edit]) or not faults(edit, both.replace("`a::g`", "`a::z`"), [other]):
         wrong.append(both)
     for said in wrong:

@@ -385,8 +385,8 @@ evaluators_mixed() {
 found=$(evaluators_mixed crates/jsonpath_select/src)
 judge "$([ -z "$found" ]; echo $?)" "an evaluator goes by the other: $found"
 mkdir -p "$work/evaluators"/{machine,filters,walk}
-echo 'use crate::walk::tree_walk::Walk;' > "$work/evaluators/filters/list.rt"
-echo 'use crate::machine::machine::Machine;' > "$work/evaluators/walk/tree_walk.rt"
+echo 'use crate::walk::follower::Follower;' > "$work/evaluators/filters/list.rt"
+echo 'use crate::machine::machine::Machine;' > "$work/evaluators/walk/follower.rt"
 echo 'use crate::tagged::moves::Move;' | tee "$work/evaluators/machine/one.rt" > "$work/evaluators/walk/two.rt"
 [ "$(evaluators_mixed "$work/evaluators" | wc -l)" = 2 ]
 judge $? 'the rule on evaluators does not find one that goes by the other'

@@ -4,7 +4,9 @@ use Rattle.std.specs.Float.Numeral.{scan_numeral, numeral_digits, tens_up, tens_
 use Rattle.std.specs.Cmp.Lexicographic.{slice_cmp}
 use Rattle.std.specs.Ordering.{nat_cmp, is_lt, match_ordering}
 use Rattle.json.specs.Json as json
+use Rattle.std.specs.Cow.{cow_str_bytes}
 use Rattle.jsonpath_paths.specs.Numbers.{is_negative, without_minus, signed}
+use Rattle.jpath_texts.specs.declared.numbers.exact_number.ExactNumber.{ExactNumber}
 use Rattle.jsonpath_nodes.specs.document.Document.{written, Document, null, boolean, number, string, array, object, Items, no_items, item, Members, no_members, member}
 
 -- the name is below that of the first of these members, if there are any
@@ -75,3 +77,6 @@ abbrev mutual
 -- the number that a text writes: a whole number, and the power of ten below it
 abbrev pub text_fraction : List ℕ → ℤ × ℕ
 text_fraction s = let p = scan_numeral (without_minus s) in (signed (is_negative s) (numeral_digits p * 10 ^ tens_up p), tens_down p)
+
+abbrev pub number_fraction : ExactNumber → ℤ × ℕ
+number_fraction n = text_fraction (cow_str_bytes n.text)

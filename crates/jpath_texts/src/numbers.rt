@@ -1,5 +1,6 @@
 //! Numbers, ordered exactly however many digits they have, and the numbers that replace them in the copy of a document.
 
+pub(crate) mod exact_number;
 pub(crate) mod number_key;
 pub(crate) mod numbers_in_copy;
 pub(crate) mod rank;

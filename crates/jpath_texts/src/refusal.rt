@@ -1,5 +1,6 @@
 //! Why nothing is written for a document: errors of reading, of numbers and of edits.
 
+use jsonpath_nodes::NoMemory;
 use std::alloc::{AllocError, AllocFailed};
 
 /// An error: the reason why `jpath` writes nothing for the text of a document. The text is no JSON document, or the
@@ -38,6 +39,12 @@ impl<T: Drop> From<AllocFailed<T>> for DocumentRefusal {
     ghost from_gives = { λ _ e. e ≡ OutOfMemory };
 
     fn from(_: AllocFailed<T>) -> DocumentRefusal {
+        DocumentRefusal::OutOfMemory
+    }
+}
+
+impl From<NoMemory> for DocumentRefusal {
+    fn from(_: NoMemory) -> DocumentRefusal {
         DocumentRefusal::OutOfMemory
     }
 }

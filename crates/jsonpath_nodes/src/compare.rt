@@ -2,3 +2,4 @@
 
 pub(crate) mod atom;
 pub(crate) mod cmp;
+pub(crate) mod fraction;

@@ -6,10 +6,10 @@
 
 ghost use Rattle.std.specs.Prelude.{◌≡◌, List, map, Option, option_map};
 ghost use Rattle.std.specs.Fn.{Called};
-ghost use Rattle.jsonpath_nodes.specs.document.Document.{Document, object};
+ghost use Rattle.jsonpath_nodes.specs.document.Document.{Document};
 ghost use Rattle.serde_json.specs.declared.value.Value.{Value};
 ghost use Rattle.serde_json.specs.View.{view};
-ghost use Rattle.jsonpath_nodes.specs.document.OfData.{document_of, value_document, items_document, members_document, DocumentsKeepDataApart};
+ghost use Rattle.jsonpath_nodes.specs.document.OfData.{document_of, value_document, DocumentsKeepDataApart};
 ghost use Rattle.jsonpath_nodes.specs.step.Candidates.{DisjointInOneDescent};
 ghost use Rattle.jsonpath_nodes.specs.DocumentLaws.{BelowIsAll, BelowAscends, OnceInOrderAscends, OnceInOrderKeepsMembers, NullsTopmost, NullsNothingElse, NullsInTurn, PutsThere, PutsNothingElse, ChangesNothing, TakesFromTheBack, SetsAlone, RunsInPlace};
 ghost use Rattle.std.specs.declared.cmp.Ordering.TheVariants.{Equal};
@@ -17,11 +17,12 @@ ghost use Rattle.jsonpath_nodes.specs.place.Location.{Location, location_cmp};
 ghost use Rattle.jsonpath_nodes.specs.place.SpotPlace.{StandAt, location_of};
 ghost use Rattle.jsonpath_nodes.specs.declared.place.spot.Spot.{Spot};
 ghost use Rattle.jsonpath_nodes.specs.update.Run.{RunsWith, update_each};
-ghost use Rattle.jsonpath_nodes.specs.place.Order.{IsOrderedDocument, AreOrderedDocuments};
+ghost use Rattle.jsonpath_nodes.specs.place.Order.{IsOrderedDocument};
 ghost use Rattle.jsonpath_nodes.specs.step.SameMembers.{StepOfASet, BelowOfASet, CandidatesOfASet, KeptOfASet, SomeOfASet, JoinedSets, EachOnceKeepsMembers, OneListOfASet, BelowOfTheTopmost, DescentOfTheTopmost};
 ghost use Rattle.jsonpath_nodes.specs.step.Separate.{ApartHasNoRepeatFlat, OneIsApart, ApartHasNoRepeat, NamesStandApart, ListsStandApart, IndexStandsApart, RangeStandsApart, StepStandsApart, KeptStandApart, CandidatesStandApart, HasNamesInOrder, StepHasNoRepeat, EveryHasNoRepeat, ChildHasNoRepeat, KeptHasNoRepeat, BelowHasNoRepeat, DescentStandsApart, LevelIsDisjoint, DisjointStandsApart, StepStaysDisjoint, KeptStayDisjoint, CandidatesStayDisjoint, BelowDisjointHasNoRepeat};
 
-use serde_json::{Map, Value};
+use crate::tree::order;
+use serde_json::Value;
 
 /// Lemma: `Value`s with different content have different documents. The document of a `Value` is the form in which
 /// contracts (proved specifications) describe it: it has the same content, with each number as `serde_json` read it.
@@ -267,35 +268,10 @@ pub fn steps_lead_without_repeats()
 /// ```text
 /// laws::value_is_document(json);
 /// ```
-#[cycle(document)]
 pub fn value_is_document(value: &Value)
     ensures { IsOrderedDocument (document_of (view value.now)) }
 {
-    match value {
-        Value::Array(items) => items_are_documents(items),
-        Value::Object(members) => object_is_document(members),
-        _ => {}
-    }
-}
-
-// The items of an array are documents: in each of their objects the names ascend strictly. It answers nothing.
-#[cycle(document)]
-fn items_are_documents(items: &Vec<Value>)
-    ensures { AreOrderedDocuments (items_document items.now.items) }
-{
-    for item in items.iter() {
-        value_is_document(item);
-    }
-}
-
-// An object is a document: in it and in each object below it the names ascend strictly. It answers nothing.
-#[cycle(document)]
-fn object_is_document(members: &Map<String, Value>)
-    ensures { IsOrderedDocument (object (members_document members.now.entries)) }
-{
-    for (_, member) in members.iter() {
-        value_is_document(member);
-    }
+    order::value_is_document(value);
 }
 
 /// Lemma: if the value is an object, its member names ascend strictly by bytes. Objects below it are not covered.
@@ -307,7 +283,5 @@ fn object_is_document(members: &Map<String, Value>)
 pub fn object_names_ascend(value: &Value)
     ensures { HasNamesInOrder (document_of (view value.now)) }
 {
-    if let Value::Object(members) = value {
-        let _ = members.iter();
-    }
+    order::object_names_ascend(value);
 }

@@ -12,9 +12,11 @@ mod update;
 
 pub use compare::atom::{Atom, to_num};
 pub use compare::cmp::{
-    Cmp, CmpEq, CmpGe, CmpGt, CmpLe, CmpLt, CmpNe, holds, holds_atoms, holds_by_tree,
+    Cmp, CmpEq, CmpGe, CmpGt, CmpLe, CmpLt, CmpNe, holds, holds_atoms, holds_by_fractions,
 };
-pub use memory::NoMemory;
+pub use compare::fraction::Fraction;
+pub use memory::{Halt, NoMemory};
+pub use place::carried::Carried;
 pub use place::document_order::{in_document_order, indexes_standing_among, topmost_spots};
 pub use place::location::{LocStep, Location};
 pub use place::mark::Mark;

@@ -1,5 +1,6 @@
 //! Locations, and nodes: values of a document with their locations.
 
+pub(crate) mod carried;
 pub(crate) mod document_order;
 pub(crate) mod location;
 pub(crate) mod mark;

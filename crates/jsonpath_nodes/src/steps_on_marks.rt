@@ -24,7 +24,7 @@ use std::alloc::Global;
 /// assert_eq!(rt; items.len(), 2);
 /// ```
 #[inline]
-pub fn plain_step_from_each<'a, M: Mark<'a>>(
+pub fn plain_step_from_each<M: Mark>(
     alloc: Global,
     marks: &[M],
     plain: &PlainStep<'_>,
@@ -52,7 +52,7 @@ pub fn plain_step_from_each<'a, M: Mark<'a>>(
 
 // The children that a step selects of each mark, one after the other.
 #[inline(always)]
-fn selected_children_of_each<'a, M: Mark<'a>>(
+fn selected_children_of_each<M: Mark>(
     alloc: Global,
     marks: &[M],
     plain: &PlainStep<'_>,
@@ -73,7 +73,7 @@ fn selected_children_of_each<'a, M: Mark<'a>>(
 /// assert!(rt; found.is_empty());
 /// ```
 #[inline]
-pub fn named_member_from_each<'a, M: Mark<'a>>(
+pub fn named_member_from_each<M: Mark>(
     alloc: Global,
     marks: &[M],
     name: &str,
@@ -95,7 +95,7 @@ pub fn named_member_from_each<'a, M: Mark<'a>>(
 /// assert!(rt; found.is_empty());
 /// ```
 #[inline]
-pub fn add_named_member<'a, M: Mark<'a>>(
+pub fn add_named_member<M: Mark>(
     alloc: Global,
     mark: &M,
     name: &str,
@@ -116,7 +116,7 @@ pub fn add_named_member<'a, M: Mark<'a>>(
 /// assert_eq!(rt; found.len(), 1);
 /// ```
 #[inline]
-pub fn plain_step_from_all_below<'a, M: Mark<'a>>(
+pub fn plain_step_from_all_below<M: Mark>(
     alloc: Global,
     marks: &[M],
     plain: &PlainStep<'_>,
@@ -142,7 +142,7 @@ pub fn plain_step_from_all_below<'a, M: Mark<'a>>(
 /// let found = steps_on_marks::stride_from_each(alloc, &[&document], &second)?;
 /// assert_eq!(rt; found.len(), 1);
 /// ```
-pub fn stride_from_each<'a, M: Mark<'a>>(
+pub fn stride_from_each<M: Mark>(
     alloc: Global,
     marks: &[M],
     stride: &Stride<'_>,
@@ -167,7 +167,7 @@ pub fn stride_from_each<'a, M: Mark<'a>>(
 /// assert_eq!(rt; found.len(), 4);
 /// ```
 #[inline]
-pub fn flattened_from_each<'a, M: Mark<'a>>(alloc: Global, marks: &[M]) -> Result<Vec<M>, NoMemory>
+pub fn flattened_from_each<M: Mark>(alloc: Global, marks: &[M]) -> Result<Vec<M>, NoMemory>
     ensures { IfOk result (λ found. MarksLeadBy M.located M.stand M.content (λ doc ls. from_each_location doc flat ls) marks.now found.items) }
 {
     let mut found = Vec::new(alloc);
@@ -185,7 +185,7 @@ pub fn flattened_from_each<'a, M: Mark<'a>>(alloc: Global, marks: &[M]) -> Resul
 /// assert_eq!(rt; found.len(), 4);
 /// ```
 #[inline]
-pub fn flattened_from_mark<'a, M: Mark<'a>>(alloc: Global, mark: &M) -> Result<Vec<M>, NoMemory>
+pub fn flattened_from_mark<M: Mark>(alloc: Global, mark: &M) -> Result<Vec<M>, NoMemory>
     ensures { IfOk result (λ found. MarksLeadBy M.located M.stand M.content flattened (mark.now ∷ []) found.items) }
 {
     let mut found = Vec::new(alloc);
@@ -202,7 +202,7 @@ pub fn flattened_from_mark<'a, M: Mark<'a>>(alloc: Global, mark: &M) -> Result<V
 /// assert_eq!(rt; found.len(), 6);
 /// ```
 #[inline]
-pub fn candidates_below_mark<'a, M: Mark<'a>>(alloc: Global, mark: &M) -> Result<Vec<M>, NoMemory>
+pub fn candidates_below_mark<M: Mark>(alloc: Global, mark: &M) -> Result<Vec<M>, NoMemory>
     ensures { IfOk result (λ found. MarksLeadBy M.located M.stand M.content (λ doc ls. flattened doc (step doc every (all_below doc ls))) (mark.now ∷ []) found.items) }
 {
     let mut found = Vec::new(alloc);

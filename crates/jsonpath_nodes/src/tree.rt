@@ -1,18 +1,22 @@
 //! What the steps of a path need of a document: its values, as small copies that lead to them. A `Tree` names no
 //! lifetime, so functions that call themselves can be generic over it.
 
-ghost use Rattle.std.specs.Prelude.{◌≡◌, List, ℕ, ℤ, None, option_map, MatchOption, IfOk, IfSome, IfNone};
+ghost use Rattle.std.specs.Prelude.{◌≡◌, List, ℕ, None, option_map, MatchOption, IfOk, IfSome, IfNone};
 ghost use Rattle.jsonpath_nodes.specs.compare.Atoms.{seen_with};
 ghost use Rattle.jsonpath_nodes.specs.compare.Comparisons.{seen};
-ghost use Rattle.jsonpath_nodes.specs.compare.Fractions.{fraction_order};
+ghost use Rattle.jsonpath_paths.specs.Numbers.{decimal_units};
 ghost use Rattle.jsonpath_nodes.specs.document.Document.{Document, Items, Members, array, object, no_items, item, no_members, member};
 ghost use Rattle.jsonpath_nodes.specs.document.Find.{items_len, as_array, as_object, get_item, get_member};
 ghost use Rattle.jsonpath_nodes.specs.place.Order.{NamesAscend};
 
 pub(crate) mod of_value;
+pub(crate) mod order;
 
 use crate::compare::atom::Atom;
-use std::cmp::Ordering;
+use crate::compare::fraction::Fraction;
+use crate::memory::NoMemory;
+use jsonpath_paths::Decimal;
+use std::alloc::{AllocError, Global};
 
 /// A trait: a small handle to a value of a document, which can be copied, such as `&Value`. The functions for steps and
 /// comparisons are generic over it.
@@ -33,9 +37,9 @@ pub trait Tree: Copy + Drop {
     /// An associated type, chosen by the implementor: an iteration's state, the object members not yet returned.
     type MembersLeft: Drop;
     /// An associated type, chosen by the implementor: the type of the numbers that comparisons use, such as `Decimal`.
-    type Number: Drop;
+    type Number: Fraction;
     /// The type of the error that is returned if a comparison gets a value that can't be compared.
-    type Error: Drop;
+    type Error: Drop + From<NoMemory> + From<AllocError>;
 
     ghost content: { Self → Document };
 
@@ -48,17 +52,20 @@ pub trait Tree: Copy + Drop {
     ghost items_left: { Self.ItemsLeft → Items };
 
     ghost members_left: { Self.MembersLeft → Members };
-    // A number as a whole number over a power of ten.
-    ghost fraction_of: { Self.Number → ℤ × ℕ };
 
     /// A method that implementors provide: returns what a comparison uses of this value, namely its kind, and the
     /// content of a boolean, a number or a text. The error says why the value can't be compared.
     fn atom(&self) -> Result<Atom<'_, Self::Number>, Self::Error>
-        ensures { IfOk result (λ atom. seen_with fraction_of atom ≡ seen (content self.now)) };
+        ensures { IfOk result (λ atom. seen_with Self.Number.fraction atom ≡ seen (content self.now)) };
 
-    /// A method that implementors provide: returns the exact order of two numbers: less, equal or greater.
-    fn compare_numbers(left: &Self::Number, right: &Self::Number) -> Ordering
-        ensures { result ≡ fraction_order (fraction_of left.now) (fraction_of right.now) };
+    /// A method that implementors provide: converts a number literal of a path to the type of the numbers that comparisons
+    /// use.
+    fn number_of_literal(
+        &self,
+        alloc: Global,
+        literal: Decimal,
+    ) -> Result<Self::Number, Self::Error>
+        ensures { IfOk result (λ number. Self.Number.fraction number ≡ (decimal_units literal, 18)) };
 
     /// A method that implementors provide: returns a handle to this value as an array, through which the items are
     /// read; `None` if the value is no array.

@@ -3,8 +3,6 @@ ghost use Rattle.std.specs.Prelude.{◌≡◌, ◌++◌, ℕ, ◌<◌, ◌^◌, 
 ghost use Rattle.jsonpath_select.specs.JsonPathErrors.{error_text, IsFaultError, IsPathErrorOf, IsPositionIn, IsPositionOf, IsMarked, IsMarkOf};
 ghost use Rattle.jsonpath_select.specs.answer.AnswerText.{IsSerdeErrorOf};
 
-pub(crate) mod halt;
-
 use crate::compile::parser::{ParseFault, caret_row_length, path_with_caret_row};
 use jsonpath_nodes::NoMemory;
 use jsonpath_paths::TokenError;

@@ -1,6 +1,5 @@
 //! What the machine and the walks share of steps: the node references between steps, and plain steps.
 
-pub(crate) mod carried_mark;
 pub(crate) mod distinct_selections;
 pub(crate) mod index;
 pub(crate) mod names;

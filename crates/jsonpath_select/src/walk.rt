@@ -2,6 +2,4 @@
 
 pub(crate) mod follower;
 pub(crate) mod leading_on;
-pub(crate) mod marked;
 pub(crate) mod own_step;
-pub(crate) mod tree_walk;

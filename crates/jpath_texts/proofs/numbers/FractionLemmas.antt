@@ -28,7 +28,7 @@ same_parts : (m : Bool) (s : List ℕ) → (if m then scan (drop 1 s) else scan 
 same_parts true s = refl
 same_parts false s = refl
 
-abbrev of_parts : Bool → Parts → ℤ × ℕ
+abbrev pub of_parts : Bool → Parts → ℤ × ℕ
 of_parts m p = (with_sign m (digits_of p * 10 ^ tens_up p), tens_down p)
 
 by_parts : (m n : Bool) (p q : Parts) → number_cmp m p n q ≡ fraction_order (of_parts m p) (of_parts n q)

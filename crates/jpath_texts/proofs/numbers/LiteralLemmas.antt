@@ -22,7 +22,9 @@ use Rattle.jpath_texts.specs.NumberPlaces.{IsTimes, StandsAt, literal_text, lite
 use Rattle.jpath_texts.specs.declared.numbers.number_key.NumberKey.{NumberKey}
 use Rattle.jpath_texts.specs.declared.numbers.numbers_in_copy.Numbers.{Numbers}
 use Rattle.jpath_texts.specs.declared.numbers.numbers_in_copy.Numbers.TheVariants.{Scaled, Ranked}
+use Rattle.jpath_texts.specs.OrderedTree.{text_fraction}
 use Rattle.jpath_texts.proofs.numbers.CopyLemmas.{rank_stands}
+use Rattle.jpath_texts.proofs.numbers.FractionLemmas.{of_parts}
 
 -- so many units of 10^-18
 abbrev units_parts : ℕ → Parts
@@ -87,3 +89,21 @@ pub ranked_literal : (numbers : Numbers) (keys : Vec NumberKey Global) (slice : 
 ranked_literal numbers keys slice d found k r is same at is_key place known =
     let there = rank_stands keys slice (literal_text d) k r same is_key place (subst (λ m. HasPlace m d) is known) in
     subst (λ m. StandsAt m (literal_text d) (decimal_units found)) (sym is) (subst (StandsAt (Ranked keys) (literal_text d)) (sym (ap decimal_units at)) there)
+
+-- ---- the fraction that a literal is
+
+of_text : (s : List ℕ) (b : Bool) (p : Parts) → is_negative s ≡ b → scan (cond b (drop 1 s) s) ≡ p → text_fraction s ≡ of_parts b p
+of_text s b p h i = ap (λ c. of_parts c (scan (cond c (drop 1 s) s))) h ∙ ap (of_parts b) i
+
+fraction_of_units : (b : Bool) (n : ℕ) → n < 10 ^ 64 → of_parts b (units_parts n) ≡ (with_sign b n, 18)
+fraction_of_units b n small =
+    let value : digits_of (units_parts n) ≡ n = ap (digits_value 10) (append-nil (decimal n)) ∙ (decimal_is_IsNumeral_wide n small).1 in
+    let once : n * 10 ^ 0 ≡ n = omega arith in
+    ap (λ v. (with_sign b v, 18)) (ap (λ v. v * 10 ^ 0) value ∙ once)
+
+units_fraction : (u : ℤ) → unsigned_abs u < 10 ^ 64 → text_fraction (signed_decimal u ++ codes "e-18") ≡ (u, 18)
+units_fraction (pos n) small = of_text (decimal n ++ codes "e-18") false (units_parts n) (plus_sign n small) (scanned n small) ∙ fraction_of_units false n small
+units_fraction (negsuc n) small = of_text (45 ∷ (decimal (suc n) ++ codes "e-18")) true (units_parts (suc n)) refl (scanned (suc n) small) ∙ fraction_of_units true (suc n) small
+
+pub literal_fraction : (d : Decimal) → FitsSigned w128 (decimal_units d) → text_fraction (literal_text d) ≡ (decimal_units d, 18)
+literal_fraction d fits = units_fraction (decimal_units d) (abs_small (decimal_units d) fits)

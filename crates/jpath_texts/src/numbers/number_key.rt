@@ -1,6 +1,8 @@
 //! Keys that order numbers exactly, however many digits they have.
 
-ghost use Rattle.std.specs.Prelude.{◌≡◌, ◌≢◌, ℕ, List, ◌<◌, ◌≤◌, ◌-ℤ◌, ◌+ℤ◌, length, get_or, take, pos, IfOk, IfSome, IfErr};
+ghost use Rattle.std.specs.Prelude.{◌≡◌, ◌≢◌, ℕ, List, ◌<◌, ◌≤◌, ◌-ℤ◌, ◌+ℤ◌, length, get_or, take, pos, IfOk, IfSome, IfErr, FitsSigned, string_bytes};
+ghost use Rattle.std.specs.Int.{w128};
+ghost use Rattle.jsonpath_paths.specs.Numbers.{decimal_units};
 ghost use Rattle.jpath_texts.specs.NumberKey.{zeros, power, turned, IsKey, IsKeyOf, IsPlaced, IsTrailed, text_cmp};
 ghost use Rattle.jpath_texts.specs.NumberPlaces.{literal_text};
 ghost use Rattle.jpath_texts.specs.Unplaced.{IsUnplaced};
@@ -164,7 +166,15 @@ pub(crate) fn literal_key(alloc: Global, literal: Decimal) -> Result<NumberKey, 
     ensures key { IfOk result (IsKeyOf (literal_text literal)) }
     ensures refused { IfErr result IsUnplaced }
 {
-    let units = literal.units();
-    let text = format!(in alloc; "{units}e-18")?;
+    let text = literal_text(alloc, literal)?;
     read_key_or_refuse(alloc, text.as_str())
+}
+
+// A number that a path is written with, as the text of a document writes it.
+pub(crate) fn literal_text(alloc: Global, literal: Decimal) -> Result<String, AllocError>
+    ensures text { IfOk result (λ text. string_bytes text ≡ literal_text literal) }
+    ensures fits { IfOk result (λ _. FitsSigned w128 (decimal_units literal)) }
+{
+    let units = literal.units();
+    Ok(format!(in alloc; "{units}e-18")?)
 }

@@ -3,24 +3,17 @@
 ghost use Rattle.std.specs.Prelude.{◌≡◌, true, is_some, IfSome};
 ghost use Rattle.std.specs.Slice.Iter.{iter_rest};
 ghost use Rattle.json.specs.Value.{value_view, items_view, members_view};
-ghost use Rattle.jpath_texts.specs.NumberKey.{IsKeyOf};
-ghost use Rattle.jpath_texts.specs.OrderedTree.{is_ordered, are_items_ordered, are_members_ordered, document_of_tree, items_of_tree, members_of_tree, text_fraction};
+ghost use Rattle.jpath_texts.specs.OrderedTree.{is_ordered, are_items_ordered, are_members_ordered, document_of_tree, items_of_tree, members_of_tree};
 
-use crate::numbers::number_key::{NumberKey, read_key_or_refuse};
+use crate::numbers::exact_number::ExactNumber;
 use crate::ordered_tree::in_order::is_tree_ordered;
 use crate::refusal::DocumentRefusal;
 use json::Value as Exact;
 use jsonpath_nodes::{Atom, Tree};
+use jsonpath_paths::Decimal;
 use std::alloc::Global;
+use std::borrow::CowStr;
 use std::cmp::Ordering;
-
-/// A number as a JSON text writes it, together with the key by which it is compared.
-#[derive(Drop)]
-pub struct ExactNumber<'a> {
-    text: &'a str,
-    key: NumberKey,
-    ghost keyed: { ∥ IsKeyOf text.now key ∥₁ },
-}
 
 /// A value of an exact tree, which is the tree of a JSON text with numbers as written. Each object in it has its names
 /// in the order of their bytes, each once.
@@ -79,6 +72,13 @@ impl<'t, 'a> OrderedValue<'t, 'a> {
             None
         }
     }
+
+    /// Returns the value, in the tree of a JSON text, to which this `OrderedValue` is a handle.
+    pub fn value(&self) -> &'t Exact<'a>
+        ensures { result.now ≡ self.now.value.now }
+    {
+        self.value
+    }
 }
 
 impl<'t, 'a> Tree for OrderedValue<'t, 'a> {
@@ -108,15 +108,13 @@ impl<'t, 'a> Tree for OrderedValue<'t, 'a> {
 
     ghost members_left = { λ left. members_of_tree (members_view (iter_rest left.members)) };
 
-    ghost fraction_of = { λ n. text_fraction n.text.now };
-
     fn atom(&self) -> Result<Atom<'_, ExactNumber<'a>>, DocumentRefusal> {
         match self.value {
             Exact::Null => Ok(Atom::Null),
             Exact::Bool(truth) => Ok(Atom::Bool(*truth)),
             Exact::Number(text) => {
-                let key = read_key_or_refuse(self.alloc, text)?;
-                Ok(Atom::Number(ExactNumber { text: *text, key }))
+                let number = ExactNumber::of_text(self.alloc, CowStr::Borrowed(text))?;
+                Ok(Atom::Number(number))
             }
             Exact::String(text) => Ok(Atom::Text(*text)),
             Exact::Array(_) => Ok(Atom::List),
@@ -124,8 +122,12 @@ impl<'t, 'a> Tree for OrderedValue<'t, 'a> {
         }
     }
 
-    fn compare_numbers(left: &ExactNumber<'a>, right: &ExactNumber<'a>) -> Ordering {
-        left.key.compare(&right.key)
+    fn number_of_literal(
+        &self,
+        alloc: Global,
+        literal: Decimal,
+    ) -> Result<ExactNumber<'a>, DocumentRefusal> {
+        ExactNumber::of_literal(alloc, literal)
     }
 
     fn as_array(self) -> Option<OrderedItems<'t, 'a>> {

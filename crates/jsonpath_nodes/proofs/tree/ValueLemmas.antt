@@ -1,22 +1,19 @@
 -- A value's document, level by level, and a `BTreeMap` beside the members that it stands for.
-use Rattle.std.proofs.Common.{◌≡◌, ℕ, zero, suc, ◌<◌, ◌≤◌, List, [], ◌∷◌, length, get_or, Option, Some, None, option_map, String, BTreeMap, Global, Ordering, string_bytes, nat_cmp, refl, ap, ◌∙◌, arith}
+use Rattle.std.proofs.Common.{◌≡◌, ℕ, zero, suc, ◌<◌, ◌≤◌, List, [], ◌∷◌, length, get_or, Option, Some, None, option_map, Ordering, string_bytes, nat_cmp, refl, ap, ◌∙◌, arith}
 use Rattle.std.specs.Cmp.Lexicographic.{slice_cmp}
 use Rattle.std.specs.Borrow.{Bor}
 use Rattle.std.specs.Map.{lookup}
 use Rattle.std.specs.Ordering.{match_ordering}
 use Rattle.std.specs.BTreeMap.{is_at}
-use Rattle.serde_json.specs.declared.value.Value.{Value, Object}
+use Rattle.serde_json.specs.declared.value.Value.{Value}
 use Rattle.serde_json.specs.Data as kept
 use Rattle.serde_json.specs.Find as kept_find
 use Rattle.serde_json.specs.View.{view, items_view, members_view}
 use Rattle.serde_json.proofs.Views as views
 use Rattle.serde_json.proofs.Views.{Entry}
-use Rattle.jsonpath_nodes.specs.document.Document.{Document, object}
+use Rattle.jsonpath_nodes.specs.document.Document.{Document}
 use Rattle.jsonpath_nodes.specs.document.Find.{get, item_at, get_member, get_item, items_len}
 use Rattle.jsonpath_nodes.specs.document.OfData.{document_of, items_of, members_of, value_document, items_document, members_document}
-
-pub view-Object : (m : BTreeMap (String Global) Value) → value_document (Object m) ≡ object (members_document m.entries)
-view-Object m = ap document_of (views.view-Object m)
 
 -- ---- what is found in data is found in their document
 

@@ -8,7 +8,7 @@ ghost use Rattle.jsonpath_nodes.specs.compare.Atoms.{seen_by, seen_with, compari
 ghost use Rattle.jsonpath_nodes.specs.compare.Comparisons.{Comparison, equal, not_equal, less, less_or_equal, greater, greater_or_equal, truth, decimal, text, seen, pair, is_satisfied, is_not_equal};
 
 use crate::compare::atom::Atom;
-use crate::tree::Tree;
+use crate::compare::fraction::Fraction;
 use jsonpath_paths::{Decimal, FilterToken};
 use serde_json::Value;
 use std::cmp::Ordering;
@@ -188,26 +188,26 @@ fn is_satisfied_by_order(op: FilterToken, order: Ordering) -> bool
     }
 }
 
-/// Whether `left op right` holds for two `Atom`s, the parts of values of type `T` that comparisons use. Booleans,
-/// numbers and texts compare within their kind: false before true, numbers by `T::compare_numbers`, texts by bytes. For
+/// Whether `left op right` holds for two `Atom`s, the parts of values that comparisons use, with numbers of any type
+/// `N`. Booleans, numbers and texts compare within their kind: false before true, numbers exactly, texts by bytes. For
 /// two nulls only `==` holds; for other pairs only `!=`. Precondition: `op` is a comparison, not `And` or `Or`.
 ///
 /// ```text
 /// let (seven, eight) = (Atom::Number(Decimal::of_u64(7)), Atom::Number(Decimal::of_u64(8)));
-/// assert!(rt; holds_by_tree::<&Value>(FilterToken::Little, &seven, &eight));
+/// assert!(rt; holds_by_fractions(FilterToken::Little, &seven, &eight));
 /// ```
 #[inline]
-pub fn holds_by_tree<T: Tree>(
+pub fn holds_by_fractions<N: Fraction>(
     op: FilterToken,
-    left: &Atom<'_, T::Number>,
-    right: &Atom<'_, T::Number>,
+    left: &Atom<'_, N>,
+    right: &Atom<'_, N>,
 ) -> bool
     requires { IsSome (comparison_of op) }
-    ensures { (o : Comparison) → comparison_of op ≡ Some o → result ≡ pair o (seen_with T.fraction_of left.now) (seen_with T.fraction_of right.now) }
+    ensures { (o : Comparison) → comparison_of op ≡ Some o → result ≡ pair o (seen_with N.fraction left.now) (seen_with N.fraction right.now) }
 {
     match (left, right) {
         (Atom::Bool(a), Atom::Bool(b)) => is_satisfied_by_order(op, a.cmp(b)),
-        (Atom::Number(a), Atom::Number(b)) => is_satisfied_by_order(op, T::compare_numbers(a, b)),
+        (Atom::Number(a), Atom::Number(b)) => is_satisfied_by_order(op, a.cmp(b)),
         (Atom::Text(a), Atom::Text(b)) => is_satisfied_by_order(op, a.cmp(b)),
         (Atom::Null, Atom::Null) => op == FilterToken::Equal,
         _ => op == FilterToken::NotEqual,
@@ -228,7 +228,7 @@ pub fn holds_atoms(op: FilterToken, left: &Atom<'_>, right: &Atom<'_>) -> bool
     requires { IsSome (comparison_of op) }
     ensures { (o : Comparison) → comparison_of op ≡ Some o → result ≡ pair o (seen_by left.now) (seen_by right.now) }
 {
-    holds_by_tree::<&Value>(op, left, right)
+    holds_by_fractions(op, left, right)
 }
 
 /// Whether `left op right` holds; `op` must be neither `And` nor `Or`. Booleans, numbers and texts compare within their

@@ -1,27 +1,27 @@
-//! `Mark`, a reference to a selected node: either the value alone, or a `Spot`, which has the location too.
+//! `Mark`, a reference to a selected node: either the value alone, or a `Spot`, which has the location too. It names no
+//! lifetime, so functions that call themselves can be generic over it.
 
-ghost use Rattle.std.specs.Prelude.{◌≡◌, [], Bool, true, false, OnOk};
+ghost use Rattle.std.specs.Prelude.{◌≡◌, [], ◌∷◌, Bool, true, false, IfOk, OnOk};
 ghost use Rattle.jsonpath_nodes.specs.document.Document.{Document};
-ghost use Rattle.serde_json.specs.View.{view};
-ghost use Rattle.jsonpath_nodes.specs.document.OfData.{document_of};
 ghost use Rattle.jsonpath_nodes.specs.place.Location.{Location, flat};
-ghost use Rattle.jsonpath_nodes.specs.place.Mark.{MarksGain};
+ghost use Rattle.jsonpath_nodes.specs.place.Mark.{MarksGain, MarksStandAt, shown};
 ghost use Rattle.jsonpath_nodes.specs.place.Order.{IsOrderedDocument};
 ghost use Rattle.jsonpath_nodes.specs.place.SpotPlace.{location_of, value_of};
 ghost use Rattle.jsonpath_nodes.specs.step.Candidates.{candidates_below};
 ghost use Rattle.jsonpath_nodes.specs.step.PlainSteps.{plain_step_of};
+ghost use Rattle.jsonpath_nodes.specs.step.Separate.{HasNamesInOrder};
 ghost use Rattle.jsonpath_nodes.specs.step.Steps.{deep, named, single_steps};
 
 use crate::memory::NoMemory;
 use crate::place::spot::Spot;
 use crate::step::plain_step::PlainStep;
 use crate::step::{candidates, children, gather};
-use serde_json::Value;
+use crate::tree::{Tree, order};
 use std::alloc::Global;
 
-/// A trait of selected nodes. It has two implementors: `&Value`, a node without its location, and `Spot`, a node with
-/// its location. Evaluation code is generic over both. The only error of the methods that append nodes to a list is
-/// `NoMemory`; some of the nodes may then be appended already.
+/// A trait of selected nodes. It has two kinds of implementors: each `Tree`, such as `&Value`, is a node without its
+/// location, and `Spot` is a node with its location. Evaluation code is generic over both. The only error of the methods
+/// that append nodes to a list is `NoMemory`; some of the nodes may then be appended already.
 ///
 /// In contracts (proved specifications), a list of nodes is at a list of locations if both lists are equally long and
 /// each node has the value at the location with the same index and, if the node is a `Spot`, this location, too.
@@ -31,7 +31,7 @@ use std::alloc::Global;
 /// (&document).add_flattened(alloc, &mut found)?;
 /// assert_eq!(rt; found.len(), 4);
 /// ```
-pub trait Mark<'a>: Drop + Sized {
+pub trait Mark: Drop + Sized {
     // Whether a mark keeps its location.
     ghost located: { Bool };
     // Where a mark stands, as far as it keeps that, and its value.
@@ -39,9 +39,22 @@ pub trait Mark<'a>: Drop + Sized {
 
     ghost content: { Self → Document };
 
-    /// A method that implementors provide: returns the value of this node.
-    fn value(&self) -> &'a Value
-        ensures { document_of (view result.now) ≡ content self.now };
+    /// A method that implementors provide: returns the root node of the document that consists of this node's value.
+    fn as_root(&self, alloc: Global) -> Self
+        ensures { MarksStandAt located stand content (content self.now) ([] ∷ []) (result ∷ []) };
+
+    /// A method that implementors provide: returns a copy of this node, with the same value and location.
+    fn copy(&self) -> Result<Self, NoMemory>
+        ensures { IfOk result (λ mark. shown stand content mark ≡ shown stand content self.now) };
+
+    /// A lemma that implementors provide: in each object at or below this node, the member names ascend by their bytes.
+    /// Its call takes time, since it goes through the node's whole value.
+    fn value_is_document(&self)
+        ensures { IsOrderedDocument (content self.now) };
+
+    /// A lemma that implementors provide: if this node is an object, its member names ascend by their bytes.
+    fn object_names_ascend(&self)
+        ensures { HasNamesInOrder (content self.now) };
 
     /// Appends to `out` the children of this node that the step `plain` selects, with duplicates. Their order is the
     /// one that the comments of `PlainStep`, the type of the step, give for it.
@@ -89,17 +102,31 @@ pub trait Mark<'a>: Drop + Sized {
         ensures document { OnOk result (IsOrderedDocument (content self.now)) };
 }
 
-/// Implements the trait `Mark` (a document's node) for `&Value`: a node that has its value, but not its location.
-impl<'a> Mark<'a> for &'a Value {
+/// Implements the trait `Mark` (a document's node) for each `Tree`: a node that has its value, but not its location.
+impl<T: Tree> Mark for T {
     ghost located = { false };
 
     ghost stand = { λ mark. [] };
 
-    ghost content = { λ mark. document_of (view mark.now) };
+    ghost content = { λ mark. T.content mark };
 
     #[inline(always)]
-    fn value(&self) -> &'a Value {
+    fn as_root(&self, _alloc: Global) -> T {
         *self
+    }
+
+    #[inline(always)]
+    fn copy(&self) -> Result<T, NoMemory> {
+        Ok(*self)
+    }
+
+    fn value_is_document(&self) {
+        order::value_is_document(*self);
+    }
+
+    #[inline(always)]
+    fn object_names_ascend(&self) {
+        order::object_names_ascend(*self);
     }
 
     #[inline(always)]
@@ -107,7 +134,7 @@ impl<'a> Mark<'a> for &'a Value {
         &self,
         alloc: Global,
         plain: &PlainStep<'_>,
-        out: &mut Vec<&'a Value>,
+        out: &mut Vec<T>,
     ) -> Result<(), NoMemory> {
         children::add_selected_children(self, alloc, plain, out)
     }
@@ -117,7 +144,7 @@ impl<'a> Mark<'a> for &'a Value {
         &self,
         alloc: Global,
         name: &str,
-        out: &mut Vec<&'a Value>,
+        out: &mut Vec<T>,
     ) -> Result<(), NoMemory> {
         children::add_named_member(self, alloc, name, out)
     }
@@ -127,29 +154,25 @@ impl<'a> Mark<'a> for &'a Value {
         &self,
         alloc: Global,
         plain: &PlainStep<'_>,
-        out: &mut Vec<&'a Value>,
+        out: &mut Vec<T>,
     ) -> Result<(), NoMemory> {
         gather::add_selected_at_or_below(alloc, self, plain, out)
     }
 
     #[inline]
-    fn add_flattened(&self, alloc: Global, out: &mut Vec<&'a Value>) -> Result<(), NoMemory> {
+    fn add_flattened(&self, alloc: Global, out: &mut Vec<T>) -> Result<(), NoMemory> {
         candidates::add_flattened(alloc, self, out)
     }
 
     #[inline]
-    fn add_candidates_below(
-        &self,
-        alloc: Global,
-        out: &mut Vec<&'a Value>,
-    ) -> Result<(), NoMemory> {
+    fn add_candidates_below(&self, alloc: Global, out: &mut Vec<T>) -> Result<(), NoMemory> {
         candidates::add_candidates_below(alloc, self, out)
     }
 }
 
 /// Implements the trait `Mark` (a node of a document) for `Spot`: such a node has its value and its location. The
 /// `Spot`s of a node's children share the steps of the node's location instead of copying them.
-impl<'a> Mark<'a> for Spot<'a> {
+impl<'a> Mark for Spot<'a> {
     ghost located = { true };
 
     ghost stand = { location_of };
@@ -157,8 +180,22 @@ impl<'a> Mark<'a> for Spot<'a> {
     ghost content = { value_of };
 
     #[inline(always)]
-    fn value(&self) -> &'a Value {
-        self.value
+    fn as_root(&self, alloc: Global) -> Spot<'a> {
+        Spot::root(alloc, self.value)
+    }
+
+    #[inline(always)]
+    fn copy(&self) -> Result<Spot<'a>, NoMemory> {
+        Ok(self.clone()?)
+    }
+
+    fn value_is_document(&self) {
+        order::value_is_document(self.value);
+    }
+
+    #[inline(always)]
+    fn object_names_ascend(&self) {
+        order::object_names_ascend(self.value);
     }
 
     #[inline(always)]

@@ -1,8 +1,6 @@
 //! The tree of `serde_json`: a value is a reference, an object a map that is sorted by names.
 
-ghost use Rattle.std.specs.Prelude.{◌≡◌, string_bytes};
-ghost use Rattle.jsonpath_nodes.specs.compare.Comparisons.{fraction_cmp};
-ghost use Rattle.jsonpath_paths.specs.Numbers.{decimal_units};
+ghost use Rattle.std.specs.Prelude.{string_bytes};
 ghost use Rattle.std.specs.Slice.Iter.{iter_rest};
 ghost use Rattle.serde_json.specs.View.{view};
 ghost use Rattle.jsonpath_nodes.specs.document.OfData.{document_of, items_document, members_document};
@@ -12,7 +10,7 @@ use crate::memory::NoMemory;
 use crate::tree::Tree;
 use jsonpath_paths::Decimal;
 use serde_json::{Map, Value};
-use std::cmp::Ordering;
+use std::alloc::Global;
 use std::collections::btree_map;
 
 impl<'a> Tree for &'a Value {
@@ -42,19 +40,14 @@ impl<'a> Tree for &'a Value {
 
     ghost members_left = { λ left. members_document left };
 
-    ghost fraction_of = { λ d. (decimal_units d, 18) };
-
     #[inline(always)]
     fn atom(&self) -> Result<Atom<'_, Decimal>, NoMemory> {
         Ok(Atom::of(self))
     }
 
     #[inline(always)]
-    #[tactic(auto, using(crate::specs::compare::Fractions::units_cmp))]
-    fn compare_numbers(left: &Decimal, right: &Decimal) -> Ordering
-        ensures { result ≡ fraction_cmp (decimal_units left.now) 18 (decimal_units right.now) 18 }
-    {
-        left.cmp(right)
+    fn number_of_literal(&self, _alloc: Global, literal: Decimal) -> Result<Decimal, NoMemory> {
+        Ok(literal)
     }
 
     #[inline(always)]

@@ -6,7 +6,6 @@ use Rattle.std.specs.Ordering.{is_ne}
 use Rattle.std.proofs.Math.Bool.{or-true}
 use Rattle.std.proofs.lemmas.Bool.{or_parts}
 use Rattle.std.proofs.lemmas.Cmp.{nat_list_cmp_total}
-use Rattle.jsonpath_nodes.specs.compare.Atoms.{seen_by, DecimalAtom}
 use Rattle.jsonpath_nodes.specs.compare.Comparisons.{not_equal, Seen, truth, text, pair}
 use Rattle.jsonpath_nodes.specs.compare.Fractions.{fraction_total}
 use Rattle.jsonpath_select.specs.plan.Deciders.{IsAmong}
@@ -34,17 +33,17 @@ first_decides f (y ∷ ys) h x =
     grind (arith, first_decides f ys parts.1 x, same)
 
 -- two that differ decide
-pub two_decide : (f a : Seen) (ys : List Seen) → pair not_equal f a ≡ true → IsAmong a ys → (x : Seen) → (pair not_equal x f || (pair not_equal x a || false)) ≡ (pair not_equal x f || list_any (pair not_equal x) ys)
+pub two_decide : (f a : Seen) (ys : List Seen) → pair not_equal f a ≡ true → IsAmong a ys → (x : Seen) → (pair not_equal x a || (pair not_equal x f || false)) ≡ (pair not_equal x f || list_any (pair not_equal x) ys)
 two_decide f a ys differ among x = by (pair not_equal x f) refl
   where
-    by : (b : Bool) → pair not_equal x f ≡ b → (b || (pair not_equal x a || false)) ≡ (b || list_any (pair not_equal x) ys)
-    by true is = refl
+    by : (b : Bool) → pair not_equal x f ≡ b → (pair not_equal x a || (b || false)) ≡ (b || list_any (pair not_equal x) ys)
+    by true is = or-true (pair not_equal x a)
     by false is =
         let unequal : pair not_equal x a ≡ true = alike x f is a ∙ differ in
         ap (λ b. b || false) unequal ∙ sym (among (pair not_equal x) unequal)
 
 -- a value at a place is among them
-pub among_at : (atoms : List DecimalAtom) (i : ℕ) (a d : DecimalAtom) → a ≡ get_or atoms i d → i < length atoms → IsAmong (seen_by a) (map seen_by atoms)
-among_at [] i a d is below test h = absurd (omega arith)
-among_at (b ∷ atoms) zero a d is below test h = ap (λ (c : DecimalAtom). test (seen_by c) || list_any test (map seen_by atoms)) (sym is) ∙ ap (λ c. c || list_any test (map seen_by atoms)) h
-among_at (b ∷ atoms) (suc i) a d is below test h = ap (λ c. test (seen_by b) || c) (among_at atoms i a d is (omega arith) test h) ∙ or-true (test (seen_by b))
+pub among_at : {A : Type 0} (see : A → Seen) (atoms : List A) (i : ℕ) (a d : A) → a ≡ get_or atoms i d → i < length atoms → IsAmong (see a) (map see atoms)
+among_at see [] i a d is below test h = absurd (omega arith)
+among_at {A} see (b ∷ atoms) zero a d is below test h = ap (λ (c : A). test (see c) || list_any test (map see atoms)) (sym is) ∙ ap (λ c. c || list_any test (map see atoms)) h
+among_at see (b ∷ atoms) (suc i) a d is below test h = ap (λ c. test (see b) || c) (among_at see atoms i a d is (omega arith) test h) ∙ or-true (test (see b))

@@ -1,13 +1,11 @@
 -- Marks that stand at locations of a document.
 use Rattle.std.proofs.Common.{Option, ◌≡◌, ℕ, zero, suc, ◌<◌, Bool, List, [], ◌∷◌, map, length, drop, Some, refl, sym, ap, ◌∙◌, get_or, arith, filter_map}
 use Rattle.std.specs.List.{cons_option}
-use Rattle.std.proofs.lemmas.List.{length-map, map-id}
+use Rattle.std.proofs.lemmas.List.{length-map}
 use mathlib.Core.List.{map-map}
 use Rattle.jsonpath_nodes.specs.document.Document.{Document}
 use Rattle.jsonpath_nodes.specs.place.Location.{Location, at}
 use Rattle.jsonpath_nodes.specs.place.Mark.{shown, look_kept, MarksStandAt}
-use Rattle.jsonpath_nodes.specs.place.SpotPlace.{StandAt, look, location_of, sight_of}
-use Rattle.jsonpath_nodes.specs.declared.place.spot.Spot.{Spot}
 use Rattle.jsonpath_select.specs.plan.Shown.{MarkStandsAt}
 
 -- ---- lists that are seen alike
@@ -42,8 +40,3 @@ module _ {M : Type 0} (located : Bool) (stand_of : M → Location) (content_of :
   -- the values that stand there
   pub contents-at : (doc : Document) (ls : List Location) (marks : List M) → MarksStandAt located stand_of content_of doc ls marks → map content_of marks ≡ filter_map (at doc) ls
   contents-at doc ls marks h = sym (filter_map-some content_of marks) ∙ found_alike (λ x. x.1) (shown stand_of content_of) (look_kept located doc) marks ls h
-
--- ---- spots
-
-pub standing : (doc : Document) (ls : List Location) (spots : List Spot) → StandAt doc ls spots → map location_of spots ≡ ls
-standing doc ls spots h = sym (map-map (λ x. x.0) sight_of spots) ∙ ap (map (λ (x : Location × Option Document). x.0)) h ∙ map-map (λ x. x.0) (look doc) ls ∙ map-id ls

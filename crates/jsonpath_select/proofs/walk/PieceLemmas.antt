@@ -74,7 +74,7 @@ module _ (apart : (l m : Location) → location_cmp l m ≡ Equal → l ≡ m) (
 -- ---- from nowhere
 
 module _ (text : List ℕ) (doc : Document) where
-  follow-none : (ss : PathSteps) → follow text doc ss [] ≡ []
+  pub follow-none : (ss : PathSteps) → follow text doc ss [] ≡ []
   follow-none tree.no_steps = refl
   follow-none (tree.step_then leaves bracket (tree.plain token) rest) = grind (arith, follow-none rest)
   follow-none (tree.step_then leaves bracket (tree.filter f) rest) = grind (arith, follow-none rest)

@@ -9,12 +9,11 @@ ghost use Rattle.jsonpath_select.specs.Meaning.{Selects};
 use crate::answer::select::spot_set_by_parts;
 use crate::compile::any_path::PathParts;
 use crate::error::JsonPathError;
-use crate::error::halt::Halt;
 use crate::laws::each_location_has_a_value;
 use crate::machine::machine::Machine;
 use crate::machine::manner::manner_of_token_list;
-use jsonpath_nodes::Spot;
 use jsonpath_nodes::laws::{locations_once_in_order_ascend, value_is_document};
+use jsonpath_nodes::{Halt, Spot};
 use serde_json::Value;
 use std::alloc::Global;
 
@@ -31,15 +30,21 @@ pub(crate) fn first_by_parts<'a>(
 {
     let machine = Machine {
         alloc,
-        root: json,
+        root: &json,
         text: path.text,
         by_sets: false,
     };
-    match machine.first_by_tokens::<&Value>(path.tokens) {
+    match machine.first_by_tokens(path.tokens) {
         Ok(found) => Ok(found.first().copied()),
-        Err(Halt::OutOfMemory) => Err(JsonPathError::OutOfMemory),
+        Err(Halt::Refused(_)) => Err(JsonPathError::OutOfMemory),
         Err(Halt::NeedsLocations) => {
-            let found = machine.first_by_tokens::<Spot>(path.tokens)?;
+            let machine = Machine {
+                alloc,
+                root: &Spot::root(alloc, json),
+                text: path.text,
+                by_sets: false,
+            };
+            let found = machine.first_by_tokens(path.tokens)?;
             match found.first() {
                 Some(spot) => Ok(Some(spot.value())),
                 None => Ok(None),

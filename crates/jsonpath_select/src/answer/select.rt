@@ -11,12 +11,11 @@ ghost use Rattle.jsonpath_paths.specs.tree.Tree.{Path};
 use crate::answer::of_spots::values_of_selected_spots;
 use crate::compile::any_path::{AnyPath, PathParts};
 use crate::error::JsonPathError;
-use crate::error::halt::Halt;
 use crate::machine::machine::Machine;
 use crate::machine::manner::manner_of_token_list;
-use crate::walk::tree_walk::Walk;
-use jsonpath_nodes::Spot;
+use crate::walk::follower::Follower;
 use jsonpath_nodes::laws::spots_show_their_locations;
+use jsonpath_nodes::{Halt, Spot, Tree};
 use jsonpath_paths::{ParseToken, PathParser};
 use serde_json::Value;
 use std::alloc::Global;
@@ -68,7 +67,7 @@ pub fn select_tokens<'a>(
 {
     let machine = Machine {
         alloc,
-        root: json,
+        root: &Spot::root(alloc, json),
         text,
         by_sets: false,
     };
@@ -95,6 +94,44 @@ pub fn select_path_in_any_order<'a>(
     spot_set_by_parts(alloc, json, path.parts())
 }
 
+/// The values that the path selects in a document of any `Tree`, such as one with its numbers as a text writes them, in
+/// the order in which the path finds them, with duplicates. Values have no locations: if a path such as `$..*[?(@.a)]` can't
+/// be evaluated without knowing which values are at the same location, the error is `NeedsLocations`. Any other error is
+/// one of the tree, such as that a number can't be compared.
+///
+/// ```text
+/// let document = read_document(alloc, b"[1, 2, 3]")?;
+/// let path = compile_path(alloc, "$[1:]")?;
+/// assert!(rt; matches!(select_in_tree(alloc, &document, &path), Ok(found) if found.len() == 2));
+/// ```
+pub fn select_in_tree<T: Tree>(
+    alloc: Global,
+    root: T,
+    path: &PathParser<'_>,
+) -> Result<Vec<T>, Halt<T::Error>>
+    ensures { IfOk result (λ found. Selects path.now (T.content root) (map T.content found.items)) }
+{
+    values_in_tree(alloc, root, path.parts())
+}
+
+// The values that the path selects in a tree, in the path's order, by the machine. It follows values alone.
+fn values_in_tree<T: Tree>(
+    alloc: Global,
+    root: T,
+    path: PathParts<'_>,
+) -> Result<Vec<T>, Halt<T::Error>>
+    requires { ArePartsOf path.text.now path }
+    ensures { IfOk result (λ found. Selects path.entry.text.now (T.content root) (map T.content found.items)) }
+{
+    let machine = Machine {
+        alloc,
+        root: &root,
+        text: path.text,
+        by_sets: false,
+    };
+    machine.select_by_tokens(path.tokens)
+}
+
 // Nodes at what the path selects in the value, in the path's order.
 pub(crate) fn spots_by_parts<'a>(
     alloc: Global,
@@ -119,15 +156,9 @@ pub(crate) fn values_by_parts<'a>(
     ensures ok { IfOk result (λ found. Selects path.entry.text.now (document_of (view json.now)) (map (λ v. document_of (view v.now)) found.items)) }
     ensures refused { IfErr result (λ e. e ≡ JsonPathError.OutOfMemory) }
 {
-    let machine = Machine {
-        alloc,
-        root: json,
-        text: path.text,
-        by_sets: false,
-    };
-    match machine.select_by_tokens::<&Value>(path.tokens) {
+    match values_in_tree(alloc, json, path) {
         Ok(found) => Ok(found),
-        Err(Halt::OutOfMemory) => Err(JsonPathError::OutOfMemory),
+        Err(Halt::Refused(_)) => Err(JsonPathError::OutOfMemory),
         Err(Halt::NeedsLocations) => {
             let spots = spots_by_parts(alloc, json, path)?;
             let found = values_of_selected_spots(alloc, spots.as_slice())?;
@@ -149,7 +180,7 @@ pub(crate) fn spot_set_by_parts<'a>(
     spots_show_their_locations();
     let machine = Machine {
         alloc,
-        root: json,
+        root: &Spot::root(alloc, json),
         text: path.text,
         by_sets: false,
     };
@@ -167,9 +198,9 @@ pub(crate) fn spots_by_walk<'a>(
     ensures refused { IfErr result (λ e. e ≡ JsonPathError.OutOfMemory) }
 {
     let manner = manner_of_token_list(alloc, path.text, path.tokens)?;
-    let walk = Walk {
+    let walk = Follower {
         alloc,
-        root: json,
+        root: &Spot::root(alloc, json),
         text: path.text,
         sets: manner.decides_by_sets,
     };
@@ -188,15 +219,15 @@ pub(crate) fn values_by_walk<'a>(
     ensures refused { IfErr result (λ e. e ≡ JsonPathError.OutOfMemory) }
 {
     let manner = manner_of_token_list(alloc, path.text, path.tokens)?;
-    let walk = Walk {
+    let walk = Follower {
         alloc,
-        root: json,
+        root: &json,
         text: path.text,
         sets: manner.decides_by_sets,
     };
-    match walk.select_list::<&Value>(manner.keeps_what_leads_on(), path.tree) {
+    match walk.select_list(manner.keeps_what_leads_on(), path.tree) {
         Ok(found) => Ok(found),
-        Err(Halt::OutOfMemory) => Err(JsonPathError::OutOfMemory),
+        Err(Halt::Refused(_)) => Err(JsonPathError::OutOfMemory),
         Err(Halt::NeedsLocations) => {
             let spots = spots_by_walk(alloc, json, path)?;
             let found = values_of_selected_spots(alloc, spots.as_slice())?;

@@ -14,13 +14,11 @@ use crate::comparison::atoms::{atoms_of_marks, literal_atoms};
 use crate::comparison::decider::Decider;
 use crate::comparison::pairs::has_pair;
 use crate::comparison::side::Side;
-use crate::step::carried_mark::Carried;
 use crate::step::names::name_at;
 use crate::tagged::conditions::all_tags_or_none;
-use crate::tagged::marks::Found;
 use crate::tagged::operand::Operand;
 use crate::tagged::tag_lists::{candidate_end_in_tags, push_tag_if};
-use jsonpath_nodes::NoMemory;
+use jsonpath_nodes::{Carried, Fraction, NoMemory};
 use jsonpath_paths::{FilterToken, ParseToken};
 use std::alloc::Global;
 use std::borrow::CowStr;
@@ -35,12 +33,14 @@ pub struct Comparer<'t> {
 }
 
 impl<'t> Comparer<'t> {
-    // The numbers of the candidates, ascending, at which some left and some right value satisfy the comparison.
-    pub(crate) fn tags_where_comparison_holds<'a, M: Carried<'a>>(
+    // The numbers of the candidates, ascending, at which some left and some right value satisfy the comparison. `root` is
+    // the root of the document that they are of.
+    pub(crate) fn tags_where_comparison_holds<M: Carried>(
         &self,
+        root: &M,
         left: Operand<'_, M>,
         right: Operand<'_, M>,
-    ) -> Result<Vec<usize>, NoMemory>
+    ) -> Result<Vec<usize>, M::Stop>
         requires left { IsOfTerm left }
         requires right { IsOfTerm right }
         ensures { IfOk result (λ ts. (doc : Document) (a b : machine.Operand) → ShowsOperand M.located M.stand M.content self.now.text.now doc a left.entry → ShowsOperand M.located M.stand M.content self.now.text.now doc b right.entry
@@ -49,31 +49,36 @@ impl<'t> Comparer<'t> {
         let left_text = quoted_text_of_operand(self.alloc, &left, self.text)?;
         let right_text = quoted_text_of_operand(self.alloc, &right, self.text)?;
         let texts = (left_text.as_str(), right_text.as_str());
-        let tags = self.compare_operands(left, right, texts)?;
+        let tags = self.compare_operands(root, &left, &right, texts)?;
         Ok(tags)
     }
 
     // The numbers of the candidates at which two operands satisfy the comparison. `texts` has what quoted literals mean.
-    fn compare_operands<'a, M: Carried<'a>>(
+    fn compare_operands<M: Carried>(
         &self,
-        left: Operand<'_, M>,
-        right: Operand<'_, M>,
+        root: &M,
+        left: &Operand<'_, M>,
+        right: &Operand<'_, M>,
         texts: (&str, &str),
-    ) -> Result<Vec<usize>, NoMemory>
-        requires left { IsOfTerm left }
-        requires right { IsOfTerm right }
-        ensures { IfOk result (λ ts. texts.entry.0.now ≡ quoted_text_of_operand self.now.text.now left.entry → texts.entry.1.now ≡ quoted_text_of_operand self.now.text.now right.entry
-            → (doc : Document) (a b : machine.Operand) → ShowsOperand M.located M.stand M.content self.now.text.now doc a left.entry → ShowsOperand M.located M.stand M.content self.now.text.now doc b right.entry → ts.items ≡ compared doc self.now.op 0 self.now.count a b) }
+    ) -> Result<Vec<usize>, M::Stop>
+        requires left { IsOfTerm left.now }
+        requires right { IsOfTerm right.now }
+        ensures { IfOk result (λ ts. texts.entry.0.now ≡ quoted_text_of_operand self.now.text.now left.now → texts.entry.1.now ≡ quoted_text_of_operand self.now.text.now right.now
+            → (doc : Document) (a b : machine.Operand) → ShowsOperand M.located M.stand M.content self.now.text.now doc a left.now → ShowsOperand M.located M.stand M.content self.now.text.now doc b right.now → ts.items ≡ compared doc self.now.op 0 self.now.count a b) }
     {
-        let left_side = side_of_operand(self.alloc, left, texts.0, self.text)?;
-        let right_side = side_of_operand(self.alloc, right, texts.1, self.text)?;
+        let left_side = side_of_operand(self.alloc, root, left, texts.0, self.text)?;
+        let right_side = side_of_operand(self.alloc, root, right, texts.1, self.text)?;
         let tags = self.compare_sides(&left_side, &right_side)?;
         Ok(tags)
     }
 
     // The numbers of the candidates at which some left and some right atom satisfy the comparison.
-    fn compare_sides<'b>(&self, left: &Side<'b>, right: &Side<'b>) -> Result<Vec<usize>, NoMemory>
-        ensures { IfOk result (λ ts. (doc : Document) (a b : machine.Operand) → ShowsSide doc a left.now → ShowsSide doc b right.now → ts.items ≡ compared doc self.now.op 0 self.now.count a b) }
+    fn compare_sides<N: Fraction>(
+        &self,
+        left: &Side<'_, N>,
+        right: &Side<'_, N>,
+    ) -> Result<Vec<usize>, NoMemory>
+        ensures { IfOk result (λ ts. (doc : Document) (a b : machine.Operand) → ShowsSide N.fraction doc a left.now → ShowsSide N.fraction doc b right.now → ts.items ≡ compared doc self.now.op 0 self.now.count a b) }
     {
         match (left.is_constant, right.is_constant) {
             (true, true) => self.compare_constants(left, right),
@@ -91,14 +96,14 @@ impl<'t> Comparer<'t> {
     }
 
     // The numbers of all candidates, if the two sides, which all share, satisfy the comparison; else none.
-    fn compare_constants<'b>(
+    fn compare_constants<N: Fraction>(
         &self,
-        left: &Side<'b>,
-        right: &Side<'b>,
+        left: &Side<'_, N>,
+        right: &Side<'_, N>,
     ) -> Result<Vec<usize>, NoMemory>
         requires left { left.now.is_constant ≡ true }
         requires right { right.now.is_constant ≡ true }
-        ensures { IfOk result (λ ts. (doc : Document) (a b : machine.Operand) → ShowsSide doc a left.now → ShowsSide doc b right.now → ts.items ≡ compared doc self.now.op 0 self.now.count a b) }
+        ensures { IfOk result (λ ts. (doc : Document) (a b : machine.Operand) → ShowsSide N.fraction doc a left.now → ShowsSide N.fraction doc b right.now → ts.items ≡ compared doc self.now.op 0 self.now.count a b) }
     {
         let holds = has_pair(
             self.alloc,
@@ -111,21 +116,21 @@ impl<'t> Comparer<'t> {
     }
 
     // The numbers of the candidates whose left side satisfies the comparison with one right side, made ready once.
-    fn compare_to_constant<'b>(
+    fn compare_to_constant<N: Fraction>(
         &self,
-        left: &Side<'b>,
-        right: &Side<'b>,
+        left: &Side<'_, N>,
+        right: &Side<'_, N>,
     ) -> Result<Vec<usize>, NoMemory>
         requires left { left.now.is_constant ≡ false }
         requires right { right.now.is_constant ≡ true }
-        ensures { IfOk result (λ ts. (doc : Document) (a b : machine.Operand) → ShowsSide doc a left.now → ShowsSide doc b right.now → ts.items ≡ compared doc self.now.op 0 self.now.count a b) }
+        ensures { IfOk result (λ ts. (doc : Document) (a b : machine.Operand) → ShowsSide N.fraction doc a left.now → ShowsSide N.fraction doc b right.now → ts.items ≡ compared doc self.now.op 0 self.now.count a b) }
     {
         let decider = Decider::for_right_values(self.alloc, self.op, right.atoms.as_slice())?;
         let atoms = left.atoms.as_slice();
         let mut tags = Vec::with_capacity(self.alloc, self.count)?;
         let mut from = 0;
         for tag in 0..self.count {
-            let end = candidate_end_in_tags(left.tags.as_slice(), from, tag);
+            let end = candidate_end_in_tags(left.tags, from, tag);
             let holds = decider.has_pair(self.op, &atoms[from..end]);
             push_tag_if(&mut tags, holds, tag)?;
             from = end;
@@ -134,12 +139,12 @@ impl<'t> Comparer<'t> {
     }
 
     // The numbers of the candidates at which both sides satisfy the comparison, each candidate decided by itself.
-    fn compare_each_candidate<'b>(
+    fn compare_each_candidate<N: Fraction>(
         &self,
-        left: &Side<'b>,
-        right: &Side<'b>,
+        left: &Side<'_, N>,
+        right: &Side<'_, N>,
     ) -> Result<Vec<usize>, NoMemory>
-        ensures { IfOk result (λ ts. (doc : Document) (a b : machine.Operand) → ShowsSide doc a left.now → ShowsSide doc b right.now → ts.items ≡ compared doc self.now.op 0 self.now.count a b) }
+        ensures { IfOk result (λ ts. (doc : Document) (a b : machine.Operand) → ShowsSide N.fraction doc a left.now → ShowsSide N.fraction doc b right.now → ts.items ≡ compared doc self.now.op 0 self.now.count a b) }
     {
         let left_atoms = left.atoms.as_slice();
         let right_atoms = right.atoms.as_slice();
@@ -192,29 +197,30 @@ fn quoted_text_of_operand<'t, M>(
 
 // An operand as a side of the comparison: the atoms of a path's marks with their tags, or of a literal one atom for
 // all. What a quoted one means is handed in as `literal`; `text`, the path's text, is there for the clause alone.
-fn side_of_operand<'b, 'a: 'b, M: Carried<'a>>(
+fn side_of_operand<'b, M: Carried>(
     alloc: Global,
-    operand: Operand<'_, M>,
+    root: &M,
+    operand: &'b Operand<'_, M>,
     literal: &'b str,
     text: &str,
-) -> Result<Side<'b>, NoMemory>
-    requires { IsOfTerm operand }
-    ensures { IfOk result (λ side. literal.now ≡ quoted_text_of_operand text.now operand.entry → (doc : Document) (o : machine.Operand) → ShowsOperand M.located M.stand M.content text.now doc o operand.entry → ShowsSide doc o side) }
+) -> Result<Side<'b, M::Number>, M::Stop>
+    requires { IsOfTerm operand.now }
+    ensures { IfOk result (λ side. literal.now ≡ quoted_text_of_operand text.now operand.now → (doc : Document) (o : machine.Operand) → ShowsOperand M.located M.stand M.content text.now doc o operand.now → ShowsSide M.Number.fraction doc o side) }
 {
     match operand {
-        Operand::Marks(Found { is_shared, pairs }) => {
-            let atoms = atoms_of_marks(alloc, pairs.marks.as_slice())?;
+        Operand::Marks(found) => {
+            let atoms = atoms_of_marks(alloc, found.pairs.marks.as_slice())?;
             Ok(Side {
-                is_constant: is_shared,
-                tags: pairs.tags,
+                is_constant: found.is_shared,
+                tags: found.pairs.tags.as_slice(),
                 atoms,
             })
         }
         Operand::Literal(token) => {
-            let atoms = literal_atoms(alloc, token, literal, text)?;
+            let atoms = literal_atoms(alloc, root, token, literal, text)?;
             Ok(Side {
                 is_constant: true,
-                tags: Vec::new(alloc),
+                tags: &[],
                 atoms,
             })
         }
@@ -224,22 +230,22 @@ fn side_of_operand<'b, 'a: 'b, M: Carried<'a>>(
 
 // The index at which a side's atoms for this candidate end, where they begin at `from`.
 #[inline]
-fn candidate_end_in_side(side: &Side<'_>, from: usize, tag: usize) -> usize
+fn candidate_end_in_side<N>(side: &Side<'_, N>, from: usize, tag: usize) -> usize
     requires { from ≤ length side.now.atoms.items }
     ensures after { from ≤ result }
     ensures within { result ≤ length side.now.atoms.items }
-    ensures run { result ≡ (if side.now.is_constant then length side.now.atoms.items else from + prefix_len (λ u. u == tag) (drop from side.now.tags.items)) }
+    ensures run { result ≡ (if side.now.is_constant then length side.now.atoms.items else from + prefix_len (λ u. u == tag) (drop from side.now.tags.now)) }
 {
     if side.is_constant {
         side.atoms.as_slice().len()
     } else {
-        candidate_end_in_tags(side.tags.as_slice(), from, tag)
+        candidate_end_in_tags(side.tags, from, tag)
     }
 }
 
 // The index at which a side's atoms for the next candidate begin; 0 where all candidates share them.
 #[inline]
-fn next_candidate_start_in_side(side: &Side<'_>, end: usize) -> usize
+fn next_candidate_start_in_side<N>(side: &Side<'_, N>, end: usize) -> usize
     ensures goes { result ≡ (if side.now.is_constant then 0 else end) }
     ensures less { result ≤ end }
     ensures constant { side.now.is_constant ≡ true → result ≡ 0 }

@@ -6,9 +6,9 @@ use jsonpath_nodes::Atom;
 
 // What a comparison sees of a term: atoms with candidates' numbers or, of a literal or a path from `$`, atoms for all.
 #[derive(Drop)]
-pub struct Side<'t> {
+pub struct Side<'s, N> {
     pub(crate) is_constant: bool,
-    pub(crate) tags: Vec<usize>,
-    pub(crate) atoms: Vec<Atom<'t>>,
-    ghost paired: { is_constant ≡ false → length tags.items ≡ length atoms.items },
+    pub(crate) tags: &'s [usize],
+    pub(crate) atoms: Vec<Atom<'s, N>>,
+    ghost paired: { is_constant ≡ false → length tags.now ≡ length atoms.items },
 }

@@ -2,8 +2,6 @@
 //! of the path applied, until one selects something. Without filters, it slices the nodes before the last step.
 
 ghost use Rattle.std.specs.Prelude.{◌<◌, ◌≤◌, [], ◌∷◌, List, IfOk, Option};
-ghost use Rattle.serde_json.specs.View.{view};
-ghost use Rattle.jsonpath_nodes.specs.document.OfData.{document_of};
 ghost use Rattle.jsonpath_paths.specs.tree.Tree.{Path, PathSteps, Condition};
 ghost use Rattle.jsonpath_nodes.specs.place.Location.{Location};
 ghost use Rattle.jsonpath_paths.specs.Listed.{IsListOf, IsSomePath};
@@ -20,19 +18,16 @@ use crate::machine::instruction::{Instruction, instructions_of_token_list};
 use crate::machine::machine::Machine;
 use crate::machine::manner::manner_of;
 use crate::machine::standing::{Standing, StandingMarks};
-use crate::step::carried_mark::Carried;
 use crate::tagged::shared_lists::copied_marks;
+use jsonpath_nodes::Carried;
 use jsonpath_paths::ParseToken;
 
-impl<'a, 't> Machine<'a, 't> {
+impl<'r, 't, M: Carried> Machine<'r, 't, M> {
     // Marks whose first is at the first place that the path with this token list selects; none where it selects
     // nothing. Stops with `NeedsLocations` where the marks are references and can't tell whether a place is met twice.
-    pub(crate) fn first_by_tokens<M: Carried<'a>>(
-        &self,
-        tokens: &[ParseToken],
-    ) -> Result<Vec<M>, M::Stop>
+    pub(crate) fn first_by_tokens(&self, tokens: &[ParseToken]) -> Result<Vec<M>, M::Stop>
         requires { IsSomePath self.now.text.now tokens.now }
-        ensures { IfOk result (λ found. (p : Path) → IsListOf self.now.text.now p tokens.now → BeginAs M.located M.stand M.content (document_of (view self.now.root.now)) (sel self.now.text.now (document_of (view self.now.root.now)) p) found.items) }
+        ensures { IfOk result (λ found. (p : Path) → IsListOf self.now.text.now p tokens.now → BeginAs M.located M.stand M.content (M.content self.now.root.now) (sel self.now.text.now (M.content self.now.root.now) p) found.items) }
     {
         let code = instructions_of_token_list(self.alloc, tokens)?;
         let manner = manner_of(self.alloc, self.text, code.as_slice())?;
@@ -47,12 +42,9 @@ impl<'a, 't> Machine<'a, 't> {
     }
 
     // Marks that begin as where these instructions, which follow the path's `$`, lead from the root.
-    fn first_by_instructions<M: Carried<'a>>(
-        &self,
-        left: &[Instruction<'_>],
-    ) -> Result<Vec<M>, M::Stop>
+    fn first_by_instructions(&self, left: &[Instruction<'_>]) -> Result<Vec<M>, M::Stop>
         requires { (ss : PathSteps) × CodesSteps left.now ss }
-        ensures { IfOk result (λ found. (ss : PathSteps) → CodesSteps left.now ss → BeginAs M.located M.stand M.content (document_of (view self.now.root.now)) (follow self.now.text.now (document_of (view self.now.root.now)) ss ([] ∷ [])) found.items) }
+        ensures { IfOk result (λ found. (ss : PathSteps) → CodesSteps left.now ss → BeginAs M.located M.stand M.content (M.content self.now.root.now) (follow self.now.text.now (M.content self.now.root.now) ss ([] ∷ [])) found.items) }
     {
         let root = self.root_marks()?;
         match next_filter(left) {
@@ -77,7 +69,7 @@ impl<'a, 't> Machine<'a, 't> {
 
     // Marks that begin as where the instructions lead from those of the starting places at which the condition holds,
     // from all of them where there is none. They are tried in slices that grow.
-    fn first_in_slices<M: Carried<'a>>(
+    fn first_in_slices(
         &self,
         condition: Option<&[Instruction<'_>]>,
         left: &[Instruction<'_>],
@@ -86,9 +78,9 @@ impl<'a, 't> Machine<'a, 't> {
     ) -> Result<Vec<M>, M::Stop>
         requires is { (f : Option Condition) × CodesOptionalCondition condition f }
         requires steps { (ss : PathSteps) × CodesSteps left.now ss }
-        requires there { (ls : List Location) × MarksStandAt M.located M.stand M.content (document_of (view self.now.root.now)) ls starts.now × IsStanding standing ls }
-        ensures { IfOk result (λ found. (f : Option Condition) (ss : PathSteps) (ls : List Location) → CodesOptionalCondition condition.entry f → CodesSteps left.now ss → MarksStandAt M.located M.stand M.content (document_of (view self.now.root.now)) ls starts.now → IsStanding standing ls
-            → BeginAs M.located M.stand M.content (document_of (view self.now.root.now)) (follow self.now.text.now (document_of (view self.now.root.now)) ss (kept_by self.now.text.now (document_of (view self.now.root.now)) f ls)) found.items) }
+        requires there { (ls : List Location) × MarksStandAt M.located M.stand M.content (M.content self.now.root.now) ls starts.now × IsStanding standing ls }
+        ensures { IfOk result (λ found. (f : Option Condition) (ss : PathSteps) (ls : List Location) → CodesOptionalCondition condition.entry f → CodesSteps left.now ss → MarksStandAt M.located M.stand M.content (M.content self.now.root.now) ls starts.now → IsStanding standing ls
+            → BeginAs M.located M.stand M.content (M.content self.now.root.now) (follow self.now.text.now (M.content self.now.root.now) ss (kept_by self.now.text.now (M.content self.now.root.now) f ls)) found.items) }
     {
         first_is_of_first_piece();
         let mut from = 0;
@@ -106,7 +98,7 @@ impl<'a, 't> Machine<'a, 't> {
     }
 
     // Marks at where the instructions lead from the places at which the condition holds, or from all, without one.
-    fn lead_slice_to_end<M: Carried<'a>>(
+    fn lead_slice_to_end(
         &self,
         condition: Option<&[Instruction<'_>]>,
         left: &[Instruction<'_>],
@@ -114,9 +106,9 @@ impl<'a, 't> Machine<'a, 't> {
     ) -> Result<Vec<M>, M::Stop>
         requires is { (f : Option Condition) × CodesOptionalCondition condition f }
         requires steps { (ss : PathSteps) × CodesSteps left.now ss }
-        requires there { (ls : List Location) × AreStanding M.located M.stand M.content (document_of (view self.now.root.now)) ls slice }
-        ensures { IfOk result (λ found. (f : Option Condition) (ss : PathSteps) (ls : List Location) → CodesOptionalCondition condition.entry f → CodesSteps left.now ss → AreStanding M.located M.stand M.content (document_of (view self.now.root.now)) ls slice
-            → MarksStandAt M.located M.stand M.content (document_of (view self.now.root.now)) (follow self.now.text.now (document_of (view self.now.root.now)) ss (kept_by self.now.text.now (document_of (view self.now.root.now)) f ls)) found.items) }
+        requires there { (ls : List Location) × AreStanding M.located M.stand M.content (M.content self.now.root.now) ls slice }
+        ensures { IfOk result (λ found. (f : Option Condition) (ss : PathSteps) (ls : List Location) → CodesOptionalCondition condition.entry f → CodesSteps left.now ss → AreStanding M.located M.stand M.content (M.content self.now.root.now) ls slice
+            → MarksStandAt M.located M.stand M.content (M.content self.now.root.now) (follow self.now.text.now (M.content self.now.root.now) ss (kept_by self.now.text.now (M.content self.now.root.now) f ls)) found.items) }
     {
         match condition {
             Some(condition) => {

@@ -2,8 +2,6 @@
 //! steps behind it lead to something, so that no repeats are carried on that lead to nothing.
 
 ghost use Rattle.std.specs.Prelude.{◌≤◌, ◌<◌, List, drop, filter, length, take, false, IfOk};
-ghost use Rattle.serde_json.specs.View.{view};
-ghost use Rattle.jsonpath_nodes.specs.document.OfData.{document_of};
 ghost use Rattle.jsonpath_nodes.specs.place.Location.{Location};
 ghost use Rattle.jsonpath_nodes.specs.place.Mark.{MarksStandAt};
 ghost use Rattle.jsonpath_paths.specs.tree.Tree.{PathSteps, lone, path};
@@ -16,26 +14,29 @@ use crate::laws::what_leads_on_suffices;
 use crate::machine::instruction::Instruction;
 use crate::machine::machine::Machine;
 use crate::machine::standing::{Standing, StandingMarks};
-use crate::step::carried_mark::Carried;
-use jsonpath_nodes::NoMemory;
+use jsonpath_nodes::{Carried, NoMemory};
 use std::alloc::Global;
 
-impl<'a, 't> Machine<'a, 't> {
-    // Marks at where these instructions, with which a path ends, lead from places, step by step.
-    pub(crate) fn lead_on_to_end<M: Carried<'a>>(
+impl<'r, 't, M: Carried> Machine<'r, 't, M> {
+    // Marks at where these instructions, with which a path ends, lead from places, step by step. Nothing goes on from no
+    // places.
+    pub(crate) fn lead_on_to_end(
         &self,
         left: &[Instruction<'_>],
         from: StandingMarks<M>,
     ) -> Result<Vec<M>, M::Stop>
         requires steps { (ss : PathSteps) × CodesSteps left.now ss }
-        requires there { (ls : List Location) × AreStanding M.located M.stand M.content (document_of (view self.now.root.now)) ls from }
-        ensures { IfOk result (λ found. (ss : PathSteps) (ls : List Location) → CodesSteps left.now ss → AreStanding M.located M.stand M.content (document_of (view self.now.root.now)) ls from
-            → MarksStandAt M.located M.stand M.content (document_of (view self.now.root.now)) (follow self.now.text.now (document_of (view self.now.root.now)) ss ls) found.items) }
+        requires there { (ls : List Location) × AreStanding M.located M.stand M.content (M.content self.now.root.now) ls from }
+        ensures { IfOk result (λ found. (ss : PathSteps) (ls : List Location) → CodesSteps left.now ss → AreStanding M.located M.stand M.content (M.content self.now.root.now) ls from
+            → MarksStandAt M.located M.stand M.content (M.content self.now.root.now) (follow self.now.text.now (M.content self.now.root.now) ss ls) found.items) }
     {
         what_leads_on_suffices();
         let mut rest = left;
         let mut found = from;
         while !rest.is_empty() {
+            if found.marks.as_slice().is_empty() {
+                return Ok(found.marks);
+            }
             let led = self.lead_to_end(instructions_of_first_step(rest), found)?;
             rest = instructions_behind_first_step(rest);
             found = self.keep_leading_on(rest, led)?;
@@ -44,15 +45,15 @@ impl<'a, 't> Machine<'a, 't> {
     }
 
     // Those of the marks from which the steps with these instructions lead to something.
-    fn keep_leading_on<M: Carried<'a>>(
+    fn keep_leading_on(
         &self,
         steps: &[Instruction<'_>],
         marks: Vec<M>,
     ) -> Result<StandingMarks<M>, M::Stop>
         requires steps { (ss : PathSteps) × CodesSteps steps.now ss }
-        requires there { (ls : List Location) × MarksStandAt M.located M.stand M.content (document_of (view self.now.root.now)) ls marks.items }
-        ensures { IfOk result (λ found. (ss : PathSteps) (ls : List Location) → CodesSteps steps.now ss → MarksStandAt M.located M.stand M.content (document_of (view self.now.root.now)) ls marks.items
-            → AreStanding M.located M.stand M.content (document_of (view self.now.root.now)) (filter (λ l. holds self.now.text.now (document_of (view self.now.root.now)) (lone (path false ss)) l) ls) found) }
+        requires there { (ls : List Location) × MarksStandAt M.located M.stand M.content (M.content self.now.root.now) ls marks.items }
+        ensures { IfOk result (λ found. (ss : PathSteps) (ls : List Location) → CodesSteps steps.now ss → MarksStandAt M.located M.stand M.content (M.content self.now.root.now) ls marks.items
+            → AreStanding M.located M.stand M.content (M.content self.now.root.now) (filter (λ l. holds self.now.text.now (M.content self.now.root.now) (lone (path false ss)) l) ls) found) }
     {
         let machine = Machine {
             by_sets: true,

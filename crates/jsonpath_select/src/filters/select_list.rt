@@ -3,8 +3,6 @@
 
 ghost use Rattle.std.specs.Prelude.{List, filter, IfOk, IsTrue};
 ghost use Rattle.std.specs.List.{list_all};
-ghost use Rattle.serde_json.specs.View.{view};
-ghost use Rattle.jsonpath_nodes.specs.document.OfData.{document_of};
 ghost use Rattle.jsonpath_paths.specs.tree.Tree.{Condition, Path, PathSteps};
 ghost use Rattle.jsonpath_nodes.specs.place.Location.{Location};
 ghost use Rattle.jsonpath_nodes.specs.place.Mark.{MarksLeadBy, MarksStandAt};
@@ -24,24 +22,20 @@ use crate::machine::instruction::{Instruction, instructions_of_token_list};
 use crate::machine::machine::Machine;
 use crate::machine::manner::{Manner, manner_of};
 use crate::machine::standing::{Standing, StandingMarks};
-use crate::step::carried_mark::Carried;
 use crate::tagged::shared_lists::marks_shared_by_candidates;
 use jsonpath_nodes::laws::{
-    apart_locations_meet_candidates_once, candidates_of_disjoint_in_descents, value_is_document,
+    apart_locations_meet_candidates_once, candidates_of_disjoint_in_descents,
 };
-use jsonpath_nodes::{Mark, NoMemory};
+use jsonpath_nodes::{Carried, Mark, NoMemory};
 use jsonpath_paths::ParseToken;
 use std::alloc::Global;
 
-impl<'a, 't> Machine<'a, 't> {
+impl<'r, 't, M: Carried> Machine<'r, 't, M> {
     // Marks at what the path with this token list selects, in the path's order. Stops with `NeedsLocations` where the
     // marks are references and can't tell whether a place is met twice.
-    pub(crate) fn select_by_tokens<M: Carried<'a>>(
-        &self,
-        tokens: &[ParseToken],
-    ) -> Result<Vec<M>, M::Stop>
+    pub(crate) fn select_by_tokens(&self, tokens: &[ParseToken]) -> Result<Vec<M>, M::Stop>
         requires { IsSomePath self.now.text.now tokens.now }
-        ensures { IfOk result (λ found. (p : Path) → IsListOf self.now.text.now p tokens.now → MarksStandAt M.located M.stand M.content (document_of (view self.now.root.now)) (sel self.now.text.now (document_of (view self.now.root.now)) p) found.items) }
+        ensures { IfOk result (λ found. (p : Path) → IsListOf self.now.text.now p tokens.now → MarksStandAt M.located M.stand M.content (M.content self.now.root.now) (sel self.now.text.now (M.content self.now.root.now) p) found.items) }
     {
         let code = instructions_of_token_list(self.alloc, tokens)?;
         let manner = manner_of(self.alloc, self.text, code.as_slice())?;
@@ -49,12 +43,9 @@ impl<'a, 't> Machine<'a, 't> {
     }
 
     // Marks at what the path with this token list selects, as a set: by sets, where the path is better evaluated so.
-    pub(crate) fn select_set_by_tokens<M: Carried<'a>>(
-        &self,
-        tokens: &[ParseToken],
-    ) -> Result<Vec<M>, M::Stop>
+    pub(crate) fn select_set_by_tokens(&self, tokens: &[ParseToken]) -> Result<Vec<M>, M::Stop>
         requires { IsSomePath self.now.text.now tokens.now }
-        ensures { IfOk result (λ found. (p : Path) → IsListOf self.now.text.now p tokens.now → AreASetAt M.located M.stand M.content (document_of (view self.now.root.now)) (sel self.now.text.now (document_of (view self.now.root.now)) p) found.items) }
+        ensures { IfOk result (λ found. (p : Path) → IsListOf self.now.text.now p tokens.now → AreASetAt M.located M.stand M.content (M.content self.now.root.now) (sel self.now.text.now (M.content self.now.root.now) p) found.items) }
     {
         let code = instructions_of_token_list(self.alloc, tokens)?;
         let manner = manner_of(self.alloc, self.text, code.as_slice())?;
@@ -65,13 +56,13 @@ impl<'a, 't> Machine<'a, 't> {
     }
 
     // Marks at what the path with these instructions selects, in the path's order.
-    pub(crate) fn select_list<M: Carried<'a>>(
+    pub(crate) fn select_list(
         &self,
         manner: Manner,
         code: &[Instruction<'_>],
     ) -> Result<Vec<M>, M::Stop>
         requires { (p : Path) × CodesPath code.now p }
-        ensures { IfOk result (λ found. (p : Path) → CodesPath code.now p → MarksStandAt M.located M.stand M.content (document_of (view self.now.root.now)) (sel self.now.text.now (document_of (view self.now.root.now)) p) found.items) }
+        ensures { IfOk result (λ found. (p : Path) → CodesPath code.now p → MarksStandAt M.located M.stand M.content (M.content self.now.root.now) (sel self.now.text.now (M.content self.now.root.now) p) found.items) }
     {
         let machine = Machine {
             by_sets: manner.decides_by_sets,
@@ -86,15 +77,15 @@ impl<'a, 't> Machine<'a, 't> {
 
     // Marks at where these instructions, with which a path ends, lead from places. It is followed how the places stand
     // to each other as long as a filter is to come whose own `@` has a step.
-    pub(crate) fn lead_to_end<M: Carried<'a>>(
+    pub(crate) fn lead_to_end(
         &self,
         left: &[Instruction<'_>],
         from: StandingMarks<M>,
     ) -> Result<Vec<M>, M::Stop>
         requires steps { (ss : PathSteps) × CodesSteps left.now ss }
-        requires there { (ls : List Location) × AreStanding M.located M.stand M.content (document_of (view self.now.root.now)) ls from }
-        ensures { IfOk result (λ found. (ss : PathSteps) (ls : List Location) → CodesSteps left.now ss → AreStanding M.located M.stand M.content (document_of (view self.now.root.now)) ls from
-            → MarksStandAt M.located M.stand M.content (document_of (view self.now.root.now)) (follow self.now.text.now (document_of (view self.now.root.now)) ss ls) found.items) }
+        requires there { (ls : List Location) × AreStanding M.located M.stand M.content (M.content self.now.root.now) ls from }
+        ensures { IfOk result (λ found. (ss : PathSteps) (ls : List Location) → CodesSteps left.now ss → AreStanding M.located M.stand M.content (M.content self.now.root.now) ls from
+            → MarksStandAt M.located M.stand M.content (M.content self.now.root.now) (follow self.now.text.now (M.content self.now.root.now) ss ls) found.items) }
     {
         let shallow = instruction_count_after_last_filter_with_own_step(left);
         let mut rest = left;
@@ -109,7 +100,7 @@ impl<'a, 't> Machine<'a, 't> {
     }
 
     // The marks the next filter keeps, from those before its plain steps, and, if `asks_standing`, their `Standing`.
-    fn marks_kept_by_filter<M: Carried<'a>>(
+    fn marks_kept_by_filter(
         &self,
         way: FilterApproach<'_, '_>,
         condition: &[Instruction<'_>],
@@ -118,9 +109,9 @@ impl<'a, 't> Machine<'a, 't> {
     ) -> Result<StandingMarks<M>, M::Stop>
         requires steps { IsTrue (list_all is_plain_step way.steps.now) }
         requires is { (f : Condition) × CodesCondition condition.now f }
-        requires there { (ls : List Location) × AreStanding M.located M.stand M.content (document_of (view self.now.root.now)) ls from }
-        ensures { IfOk result (λ found. (f : Condition) (ls : List Location) → CodesCondition condition.now f → AreStanding M.located M.stand M.content (document_of (view self.now.root.now)) ls from
-            → AreStanding M.located M.stand M.content (document_of (view self.now.root.now)) (filter (λ l. holds self.now.text.now (document_of (view self.now.root.now)) f l) (gathered (document_of (view self.now.root.now)) way.entry.leaves way.entry.deep (along self.now.text.now (document_of (view self.now.root.now)) way.entry.steps.now ls))) found) }
+        requires there { (ls : List Location) × AreStanding M.located M.stand M.content (M.content self.now.root.now) ls from }
+        ensures { IfOk result (λ found. (f : Condition) (ls : List Location) → CodesCondition condition.now f → AreStanding M.located M.stand M.content (M.content self.now.root.now) ls from
+            → AreStanding M.located M.stand M.content (M.content self.now.root.now) (filter (λ l. holds self.now.text.now (M.content self.now.root.now) f l) (gathered (M.content self.now.root.now) way.entry.leaves way.entry.deep (along self.now.text.now (M.content self.now.root.now) way.entry.steps.now ls))) found) }
     {
         let led = self.follow_steps(way.steps, asks_standing, from)?;
         let candidates = self.candidates_of_places(way, asks_standing, led)?;
@@ -128,13 +119,13 @@ impl<'a, 't> Machine<'a, 't> {
     }
 
     // A filter's candidates, from the places that lead to it, and, if `asks_standing`, how they stand to each other.
-    pub(crate) fn candidates_of_places<M: Carried<'a>>(
+    pub(crate) fn candidates_of_places(
         &self,
         way: FilterApproach<'_, '_>,
         asks_standing: bool,
         led: StandingMarks<M>,
     ) -> Result<StandingMarks<M>, M::Stop>
-        ensures { IfOk result (λ found. (ls : List Location) → AreStanding M.located M.stand M.content (document_of (view self.now.root.now)) ls led → AreStanding M.located M.stand M.content (document_of (view self.now.root.now)) (gathered (document_of (view self.now.root.now)) way.entry.leaves way.entry.deep ls) found) }
+        ensures { IfOk result (λ found. (ls : List Location) → AreStanding M.located M.stand M.content (M.content self.now.root.now) ls led → AreStanding M.located M.stand M.content (M.content self.now.root.now) (gathered (M.content self.now.root.now) way.entry.leaves way.entry.deep ls) found) }
     {
         apart_locations_meet_candidates_once();
         match (way.leaves, way.deep) {
@@ -154,33 +145,29 @@ impl<'a, 't> Machine<'a, 't> {
     // The candidates behind `..` of a filter whose own `@` has a step, each place once. Where it is known that none of
     // the marks stands below another, the document is looked over and repeats are not looked for; else references end
     // with `NeedsLocations` where a place may be met twice.
-    fn candidates_once_below<M: Carried<'a>>(
-        &self,
-        standing: Standing,
-        marks: &[M],
-    ) -> Result<Vec<M>, M::Stop>
-        ensures { IfOk result (λ found. (ls : List Location) → IsStanding standing ls → MarksStandAt M.located M.stand M.content (document_of (view self.now.root.now)) ls marks.now
-            → MarksStandAt M.located M.stand M.content (document_of (view self.now.root.now)) (flattened (document_of (view self.now.root.now)) (step (document_of (view self.now.root.now)) every (all_below (document_of (view self.now.root.now)) ls))) found.items) }
+    fn candidates_once_below(&self, standing: Standing, marks: &[M]) -> Result<Vec<M>, M::Stop>
+        ensures { IfOk result (λ found. (ls : List Location) → IsStanding standing ls → MarksStandAt M.located M.stand M.content (M.content self.now.root.now) ls marks.now
+            → MarksStandAt M.located M.stand M.content (M.content self.now.root.now) (flattened (M.content self.now.root.now) (step (M.content self.now.root.now) every (all_below (M.content self.now.root.now) ls))) found.items) }
     {
         if marks.len() < 2 || !standing.are_disjoint() {
             return M::candidates_below_once(self.alloc, marks);
         }
-        value_is_document(self.root);
+        self.root.value_is_document();
         candidates_of_disjoint_in_descents();
         let found = candidates_below_each(self.alloc, marks)?;
         Ok(found)
     }
 
     // The candidates at which a condition holds, and how they stand to each other.
-    pub(crate) fn keep_passing_with_standing<M: Carried<'a>>(
+    pub(crate) fn keep_passing_with_standing(
         &self,
         condition: &[Instruction<'_>],
         candidates: StandingMarks<M>,
     ) -> Result<StandingMarks<M>, M::Stop>
         requires is { (f : Condition) × CodesCondition condition.now f }
-        requires there { (cs : List Location) × AreStanding M.located M.stand M.content (document_of (view self.now.root.now)) cs candidates }
-        ensures { IfOk result (λ found. (f : Condition) (cs : List Location) → CodesCondition condition.now f → AreStanding M.located M.stand M.content (document_of (view self.now.root.now)) cs candidates
-            → AreStanding M.located M.stand M.content (document_of (view self.now.root.now)) (filter (λ l. holds self.now.text.now (document_of (view self.now.root.now)) f l) cs) found) }
+        requires there { (cs : List Location) × AreStanding M.located M.stand M.content (M.content self.now.root.now) cs candidates }
+        ensures { IfOk result (λ found. (f : Condition) (cs : List Location) → CodesCondition condition.now f → AreStanding M.located M.stand M.content (M.content self.now.root.now) cs candidates
+            → AreStanding M.located M.stand M.content (M.content self.now.root.now) (filter (λ l. holds self.now.text.now (M.content self.now.root.now) f l) cs) found) }
     {
         let standing = candidates.standing.after_filter_or_indexes();
         let all = marks_shared_by_candidates(self.alloc, candidates.marks)?;
@@ -204,7 +191,7 @@ pub(crate) fn instruction_count_after_last_filter_with_own_step(left: &[Instruct
 }
 
 // The candidates behind `..` of a filter whose own `@` has a step, from one mark after the other.
-fn candidates_below_each<'a, M: Mark<'a>>(alloc: Global, marks: &[M]) -> Result<Vec<M>, NoMemory>
+fn candidates_below_each<M: Mark>(alloc: Global, marks: &[M]) -> Result<Vec<M>, NoMemory>
     ensures { IfOk result (λ found. MarksLeadBy M.located M.stand M.content (λ doc ls. from_each doc candidates_below ls) marks.now found.items) }
 {
     let mut found = Vec::new(alloc);

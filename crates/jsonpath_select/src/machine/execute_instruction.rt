@@ -3,8 +3,6 @@
 
 ghost use Rattle.std.specs.Prelude.{OnOk};
 ghost use Rattle.jsonpath_nodes.specs.document.Document.{Document};
-ghost use Rattle.serde_json.specs.View.{view};
-ghost use Rattle.jsonpath_nodes.specs.document.OfData.{document_of};
 ghost use Rattle.jsonpath_select.specs.plan.Code as code;
 ghost use Rattle.jsonpath_select.specs.plan.Shown.{led};
 ghost use Rattle.jsonpath_select.specs.plan.Stack.{EndsInOne, CanExecute, CanLeadTop, Executes, LeadsTop, Reaches};
@@ -14,27 +12,26 @@ use crate::comparison::comparer::Comparer;
 use crate::machine::instruction::Instruction;
 use crate::machine::machine::Machine;
 use crate::machine::stacks::{Stacks, pop_marks, pop_top, push_top};
-use crate::step::carried_mark::Carried;
 use crate::step::names::name_at;
 use crate::tagged::conditions::{condition_tags, join_tags};
 use crate::tagged::kept_marks::keep_marks_at_indexes;
 use crate::tagged::marks::Found;
 use crate::tagged::moves::{Move, candidates_of_filter, lead_marks_of_candidates};
 use crate::tagged::operand::Operand;
-use crate::tagged::shared_lists::{list_count_for_candidates, marks_shared_by_candidates};
+use crate::tagged::shared_lists::{distinct_marks, list_count_for_candidates};
 use crate::tagged::start_of_paths::{members_named, start_of_path};
-use jsonpath_nodes::NoMemory;
+use jsonpath_nodes::{Carried, NoMemory};
 use jsonpath_paths::{FilterToken, ParseToken, StrRange};
 
-impl<'a, 't> Machine<'a, 't> {
+impl<'r, 't, M: Carried> Machine<'r, 't, M> {
     // Executes one instruction on the two stacks.
-    pub(crate) fn execute_instruction<'c, M: Carried<'a>>(
+    pub(crate) fn execute_instruction<'c>(
         &self,
         instruction: Instruction<'c>,
         stacks: &mut Stacks<'c, M>,
     ) -> Result<(), M::Stop>
         requires { CanExecute M.located M.stand M.content self.now.text.now (instruction_of instruction) stacks.old }
-        ensures { OnOk result (Executes M.located M.stand M.content self.now.text.now (document_of (view self.now.root.now)) (instruction_of instruction.entry) stacks.old stacks.new) }
+        ensures { OnOk result (Executes M.located M.stand M.content self.now.text.now (M.content self.now.root.now) (instruction_of instruction.entry) stacks.old stacks.new) }
     {
         match instruction {
             Instruction::Start { absolute } => Ok(self.start_path(absolute, stacks)?),
@@ -49,19 +46,15 @@ impl<'a, 't> Machine<'a, 't> {
                 &mut stacks.operands,
                 Operand::Literal(token),
             )?),
-            Instruction::Compares(op) => Ok(self.compare_two_operands(op, stacks)?),
+            Instruction::Compares(op) => self.compare_two_operands(op, stacks),
             Instruction::Joins(op) => Ok(self.join_two_conditions(op, stacks)?),
         }
     }
 
     // Puts on the operands where a path begins: at the root, or at each candidate of the innermost filter.
-    fn start_path<M: Carried<'a>>(
-        &self,
-        absolute: bool,
-        stacks: &mut Stacks<'_, M>,
-    ) -> Result<(), NoMemory>
+    fn start_path(&self, absolute: bool, stacks: &mut Stacks<'_, M>) -> Result<(), NoMemory>
         requires { CanExecute M.located M.stand M.content self.now.text.now (code.start absolute) stacks.old }
-        ensures { OnOk result (Executes M.located M.stand M.content self.now.text.now (document_of (view self.now.root.now)) (code.start absolute) stacks.old stacks.new) }
+        ensures { OnOk result (Executes M.located M.stand M.content self.now.text.now (M.content self.now.root.now) (code.start absolute) stacks.old stacks.new) }
     {
         let found = start_of_path(
             self.alloc,
@@ -74,7 +67,7 @@ impl<'a, 't> Machine<'a, 't> {
     }
 
     // Puts on the operands where a path from `@` leads by its first step: each candidate's member of the name at a span.
-    pub(crate) fn start_at_member<M: Carried<'a>>(
+    pub(crate) fn start_at_member(
         &self,
         span: StrRange,
         stacks: &mut Stacks<'_, M>,
@@ -94,7 +87,7 @@ impl<'a, 't> Machine<'a, 't> {
     }
 
     // Leads the path on top of the operands one plain step on. One name, with no `..` before it, is read once for all.
-    fn take_plain_step<M: Carried<'a>>(
+    fn take_plain_step(
         &self,
         leaves: bool,
         token: &ParseToken,
@@ -120,11 +113,7 @@ impl<'a, 't> Machine<'a, 't> {
     }
 
     // Moves what the path on top of the operands has found, for each candidate by itself.
-    fn lead_top<M: Carried<'a>>(
-        &self,
-        by: Move<'_>,
-        stacks: &mut Stacks<'_, M>,
-    ) -> Result<(), M::Stop>
+    fn lead_top(&self, by: Move<'_>, stacks: &mut Stacks<'_, M>) -> Result<(), M::Stop>
         requires { CanLeadTop M.located M.stand M.content self.now.text.now stacks.old }
         ensures { OnOk result ((doc : Document) → LeadsTop M.located M.stand M.content self.now.text.now doc (led doc by.entry) stacks.old stacks.new) }
     {
@@ -136,22 +125,18 @@ impl<'a, 't> Machine<'a, 't> {
     }
 
     // Puts the candidates of the innermost filter on the operands, and in their place each location of them once.
-    fn put_candidates_aside<M: Carried<'a>>(
-        &self,
-        stacks: &mut Stacks<'_, M>,
-    ) -> Result<(), M::Stop>
+    fn put_candidates_aside(&self, stacks: &mut Stacks<'_, M>) -> Result<(), M::Stop>
         requires { CanExecute M.located M.stand M.content self.now.text.now code.distinct stacks.old }
         ensures { OnOk result ((doc : Document) → Executes M.located M.stand M.content self.now.text.now doc code.distinct stacks.old stacks.new) }
     {
         let candidates = pop_top(&mut stacks.frames);
-        let marks = M::marks_in_document_order(self.alloc, candidates.pairs.marks.as_slice())?;
-        let distinct = marks_shared_by_candidates(self.alloc, marks)?;
+        let distinct = distinct_marks(self.alloc, &candidates.pairs)?;
         push_top(&mut stacks.frames, distinct)?;
         Ok(push_top(&mut stacks.operands, Operand::Marks(candidates))?)
     }
 
     // Puts on the operands, in place of the two on top, those of the candidates put aside whose location has passed.
-    fn put_back<M: Carried<'a>>(&self, stacks: &mut Stacks<'_, M>) -> Result<(), M::Stop>
+    fn put_back(&self, stacks: &mut Stacks<'_, M>) -> Result<(), M::Stop>
         requires { CanExecute M.located M.stand M.content self.now.text.now code.put_back stacks.old }
         ensures { OnOk result ((doc : Document) → Executes M.located M.stand M.content self.now.text.now doc code.put_back stacks.old stacks.new) }
     {
@@ -165,7 +150,7 @@ impl<'a, 't> Machine<'a, 't> {
     }
 
     // Opens a filter: its candidates, found from the marks on top of the operands, are put on the frames.
-    fn begin_filter<M: Carried<'a>>(
+    fn begin_filter(
         &self,
         leaves: bool,
         deep: bool,
@@ -181,7 +166,7 @@ impl<'a, 't> Machine<'a, 't> {
     }
 
     // Closes the innermost filter: its candidates that pass the condition on top of the operands are put there.
-    fn end_filter<M: Carried<'a>>(&self, stacks: &mut Stacks<'_, M>) -> Result<(), NoMemory>
+    fn end_filter(&self, stacks: &mut Stacks<'_, M>) -> Result<(), NoMemory>
         requires { CanExecute M.located M.stand M.content self.now.text.now code.leave stacks.old }
         ensures { OnOk result ((doc : Document) → Executes M.located M.stand M.content self.now.text.now doc code.leave stacks.old stacks.new) }
     {
@@ -196,11 +181,11 @@ impl<'a, 't> Machine<'a, 't> {
     }
 
     // Puts on the operands, in place of the two on top, the tags of the candidates at which the comparison holds.
-    fn compare_two_operands<M: Carried<'a>>(
+    fn compare_two_operands(
         &self,
         op: FilterToken,
         stacks: &mut Stacks<'_, M>,
-    ) -> Result<(), NoMemory>
+    ) -> Result<(), M::Stop>
         requires { CanExecute M.located M.stand M.content self.now.text.now (code.compares op) stacks.old }
         ensures { OnOk result ((doc : Document) → Executes M.located M.stand M.content self.now.text.now doc (code.compares op) stacks.old stacks.new) }
     {
@@ -212,13 +197,12 @@ impl<'a, 't> Machine<'a, 't> {
             text: self.text,
             count: stacks.candidate_count(),
         };
-        let tags = comparison.tags_where_comparison_holds(left, right)?;
-        stacks.operands.push(Operand::Tags(tags))?;
-        Ok(())
+        let tags = comparison.tags_where_comparison_holds(self.root, left, right)?;
+        Ok(push_top(&mut stacks.operands, Operand::Tags(tags))?)
     }
 
     // Puts on the operands, in place of the two conditions on top, the tags at which their `&&` or `||` holds.
-    fn join_two_conditions<M: Carried<'a>>(
+    fn join_two_conditions(
         &self,
         op: FilterToken,
         stacks: &mut Stacks<'_, M>,

@@ -2,8 +2,6 @@
 
 ghost use Rattle.std.specs.Prelude.{◌≡◌, ◌<◌, Bool, List, false, filter, length, true, IfOk, IsTrue};
 ghost use Rattle.jsonpath_nodes.specs.document.Document.{Document};
-ghost use Rattle.serde_json.specs.View.{view};
-ghost use Rattle.jsonpath_nodes.specs.document.OfData.{document_of};
 ghost use Rattle.jsonpath_nodes.specs.place.Location.{Location};
 ghost use Rattle.jsonpath_nodes.specs.place.Mark.{MarksStandAt};
 ghost use Rattle.jsonpath_nodes.specs.step.Separate.{goes_by_names, is_every, IsApart, IsDisjoint, NamesInOrderAt, SelectsNoneTwice};
@@ -15,12 +13,11 @@ ghost use Rattle.jsonpath_select.specs.plan.Standing.{IsStanding};
 use crate::machine::machine::Machine;
 use crate::step::distinct_selections::{indexes_select_distinct_items, names_are_distinct};
 use jsonpath_nodes::laws::{
-    apart_locations_meet_candidates_once, object_names_ascend, steps_keep_locations_apart,
-    steps_keep_locations_disjoint, steps_lead_without_repeats, value_is_document,
+    apart_locations_meet_candidates_once, steps_keep_locations_apart,
+    steps_keep_locations_disjoint, steps_lead_without_repeats,
 };
-use jsonpath_nodes::{Mark, NoMemory};
+use jsonpath_nodes::{Carried, Mark, NoMemory};
 use jsonpath_paths::ParseToken;
-use serde_json::Value;
 use std::alloc::Global;
 
 // What is known of how the places of a list stand to each other.
@@ -153,11 +150,11 @@ impl Standing {
     }
 }
 
-impl<'a, 't> Machine<'a, 't> {
+impl<'r, 't, M: Carried> Machine<'r, 't, M> {
     // How the `count` places to which one plain step leads from these marks stand to each other: `leaves` says that
     // `..` is before it, `standing` how the marks stand. Fewer than two places are disjoint. For a `*` with no `..`,
     // the marks' objects are looked at, for `..` the whole document, so the proof knows that names there ascend.
-    pub(crate) fn standing_after_step_from_marks<M: Mark<'a>>(
+    pub(crate) fn standing_after_step_from_marks(
         &self,
         standing: Standing,
         leaves: bool,
@@ -165,7 +162,7 @@ impl<'a, 't> Machine<'a, 't> {
         marks: &[M],
         count: usize,
     ) -> Result<Standing, NoMemory>
-        ensures { IfOk result (λ next. (ls : List Location) → MarksStandAt M.located M.stand M.content (document_of (view self.now.root.now)) ls marks.now → length (stepped self.now.text.now (document_of (view self.now.root.now)) leaves token.now ls) ≡ count → IsStanding standing ls → IsStanding next (stepped self.now.text.now (document_of (view self.now.root.now)) leaves token.now ls)) }
+        ensures { IfOk result (λ next. (ls : List Location) → MarksStandAt M.located M.stand M.content (M.content self.now.root.now) ls marks.now → length (stepped self.now.text.now (M.content self.now.root.now) leaves token.now ls) ≡ count → IsStanding standing ls → IsStanding next (stepped self.now.text.now (M.content self.now.root.now) leaves token.now ls)) }
     {
         if count < 2 {
             return Ok(Standing::Disjoint);
@@ -188,7 +185,7 @@ impl<'a, 't> Machine<'a, 't> {
         leaves: bool,
         token: &ParseToken,
     ) -> Result<Standing, NoMemory>
-        ensures { IfOk result (λ next. (ls : List Location) → IsStanding standing ls → IsStanding next (stepped self.now.text.now (document_of (view self.now.root.now)) leaves token.now ls)) }
+        ensures { IfOk result (λ next. (ls : List Location) → IsStanding standing ls → IsStanding next (stepped self.now.text.now (M.content self.now.root.now) leaves token.now ls)) }
     {
         if leaves {
             self.standing_after_descent(standing, token)
@@ -204,12 +201,12 @@ impl<'a, 't> Machine<'a, 't> {
         standing: Standing,
         token: &ParseToken,
     ) -> Result<Standing, NoMemory>
-        ensures { IfOk result (λ next. (ls : List Location) → IsStanding standing ls → IsStanding next (step (document_of (view self.now.root.now)) (plain_of self.now.text.now token.now) (all_below (document_of (view self.now.root.now)) ls))) }
+        ensures { IfOk result (λ next. (ls : List Location) → IsStanding standing ls → IsStanding next (step (M.content self.now.root.now) (plain_of self.now.text.now token.now) (all_below (M.content self.now.root.now) ls))) }
     {
         if !standing.are_disjoint() {
             return Ok(Standing::Unknown);
         }
-        value_is_document(self.root);
+        self.root.value_is_document();
         steps_keep_locations_disjoint();
         steps_lead_without_repeats();
         match token {
@@ -220,10 +217,10 @@ impl<'a, 't> Machine<'a, 't> {
 }
 
 // Goes over the marks for the proof alone: it then knows that the names of each object among them ascend.
-pub(crate) fn prove_names_ascend_at_marks<'a, M: Mark<'a>>(marks: &[M])
+pub(crate) fn prove_names_ascend_at_marks<M: Mark>(marks: &[M])
     ensures { (doc : Document) (ls : List Location) → MarksStandAt M.located M.stand M.content doc ls marks.now → NamesInOrderAt doc ls }
 {
     for mark in marks {
-        object_names_ascend(mark.value());
+        mark.object_names_ascend();
     }
 }

@@ -14,7 +14,7 @@ use jsonpath_paths::ParseToken;
 use std::alloc::Global;
 
 // Where the plain step by a token leads from the marks, one after the other; with `leaves`, also from all below.
-pub(crate) fn marks_after_plain_step<'a, M: Mark<'a>>(
+pub(crate) fn marks_after_plain_step<M: Mark>(
     alloc: Global,
     text: &str,
     leaves: bool,

@@ -8,16 +8,15 @@ ghost use Rattle.jsonpath_select.specs.plan.Machine.{Tagged, all_tags_or_none, a
 ghost use Rattle.jsonpath_select.specs.plan.Shown.{tags_of};
 ghost use Rattle.jsonpath_select.specs.plan.Stack.{IsOfCondition, ShowsOperand};
 
-use crate::step::carried_mark::Carried;
 use crate::tagged::marks::{Found, TaggedMarks};
 use crate::tagged::operand::Operand;
 use crate::tagged::tag_lists::{candidate_end_in_tags, position_past_tag, push_tag_if};
-use jsonpath_nodes::NoMemory;
+use jsonpath_nodes::{Carried, NoMemory};
 use jsonpath_paths::FilterToken;
 use std::alloc::Global;
 
 // The numbers of those of the `count` candidates at which a condition holds, by its operand: a path that finds any.
-pub(crate) fn condition_tags<'a, M: Carried<'a>>(
+pub(crate) fn condition_tags<M: Carried>(
     alloc: Global,
     count: usize,
     operand: Operand<'_, M>,

@@ -4,14 +4,13 @@ ghost use Rattle.std.specs.Prelude.{◌≡◌, ◌+◌, [], ◌∷◌, ◌++◌,
 ghost use Rattle.jsonpath_select.specs.plan.Machine.{kept_by_number};
 ghost use Rattle.jsonpath_select.specs.plan.Shown.{LeadsPairs};
 
-use crate::step::carried_mark::Carried;
 use crate::tagged::marks::TaggedMarks;
 use crate::tagged::tag_lists::position_past_tag;
-use jsonpath_nodes::NoMemory;
+use jsonpath_nodes::{Carried, NoMemory};
 use std::alloc::Global;
 
 // The marks, with their tags, whose indexes in the list are among these ascending numbers. They are moved, not copied.
-pub(crate) fn keep_marks_at_indexes<'a, M: Carried<'a>>(
+pub(crate) fn keep_marks_at_indexes<M: Carried>(
     alloc: Global,
     pairs: TaggedMarks<M>,
     numbers: &[usize],

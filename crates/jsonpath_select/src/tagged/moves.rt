@@ -5,14 +5,13 @@ ghost use Rattle.jsonpath_nodes.specs.place.Mark.{MarksGainBy, MarksLeadBy};
 ghost use Rattle.jsonpath_select.specs.plan.Machine.{each_tag, entered};
 ghost use Rattle.jsonpath_select.specs.plan.Shown.{led, LeadsPairs};
 
-use crate::step::carried_mark::Carried;
 use crate::step::plain::marks_after_plain_step;
 use crate::tagged::marks::TaggedMarks;
 use crate::tagged::tag_lists::{candidate_end_in_tags, fill_tags};
-use jsonpath_nodes::PlainStep;
 use jsonpath_nodes::steps_on_marks::{
     add_named_member, named_member_from_each, plain_step_from_all_below,
 };
+use jsonpath_nodes::{Carried, PlainStep};
 use jsonpath_paths::ParseToken;
 use std::alloc::Global;
 
@@ -40,7 +39,7 @@ pub enum Move<'t> {
 }
 
 // The marks to which a move leads those of each of `count` candidates, with the candidates' tags.
-pub(crate) fn lead_marks_of_candidates<'a, M: Carried<'a>>(
+pub(crate) fn lead_marks_of_candidates<M: Carried>(
     alloc: Global,
     by: Move<'_>,
     count: usize,
@@ -56,7 +55,7 @@ pub(crate) fn lead_marks_of_candidates<'a, M: Carried<'a>>(
 }
 
 // The marks to which a move leads those of the only candidate, all with the tag 0.
-fn lead_only_candidate<'a, M: Carried<'a>>(
+fn lead_only_candidate<M: Carried>(
     alloc: Global,
     by: Move<'_>,
     pairs: TaggedMarks<M>,
@@ -88,7 +87,7 @@ fn emptied_or_new_list(alloc: Global, tags: Vec<usize>, count: usize) -> Vec<usi
 }
 
 // The marks to which a move leads those of each of `count` candidates, one candidate after the other, with their tags.
-fn lead_each_candidate<'a, M: Carried<'a>>(
+fn lead_each_candidate<M: Carried>(
     alloc: Global,
     by: Move<'_>,
     count: usize,
@@ -111,7 +110,7 @@ fn lead_each_candidate<'a, M: Carried<'a>>(
 }
 
 // A filter's candidates for each of `count` outside it. `leaves`: `..` is before it; `deep`: its own `@` has a step.
-pub(crate) fn candidates_of_filter<'a, M: Carried<'a>>(
+pub(crate) fn candidates_of_filter<M: Carried>(
     alloc: Global,
     leaves: bool,
     deep: bool,
@@ -130,7 +129,7 @@ pub(crate) fn candidates_of_filter<'a, M: Carried<'a>>(
 
 // Adds to `out` the marks to which a move leads those of one candidate. One mark's member needs no list.
 #[inline]
-fn add_marks_after_move<'a, M: Carried<'a>>(
+fn add_marks_after_move<M: Carried>(
     alloc: Global,
     by: Move<'_>,
     marks: &[M],
@@ -152,11 +151,7 @@ fn add_marks_after_move<'a, M: Carried<'a>>(
 }
 
 // The marks to which a move leads those of one candidate.
-fn marks_after_move<'a, M: Carried<'a>>(
-    alloc: Global,
-    by: Move<'_>,
-    marks: &[M],
-) -> Result<Vec<M>, M::Stop>
+fn marks_after_move<M: Carried>(alloc: Global, by: Move<'_>, marks: &[M]) -> Result<Vec<M>, M::Stop>
     ensures { IfOk result (λ found. MarksLeadBy M.located M.stand M.content (λ doc ls. led doc by.entry ls) marks.now found.items) }
 {
     match by {

@@ -2,8 +2,6 @@
 
 ghost use Rattle.std.specs.Prelude.{List, IfOk, ◌<◌, ◌-◌, true, [], ◌∷◌};
 ghost use Rattle.jsonpath_nodes.specs.document.Document.{Document};
-ghost use Rattle.serde_json.specs.View.{view};
-ghost use Rattle.jsonpath_nodes.specs.document.OfData.{document_of};
 ghost use Rattle.jsonpath_nodes.specs.place.Location.{Location};
 ghost use Rattle.jsonpath_nodes.specs.place.Mark.{MarksStandAt};
 ghost use Rattle.jsonpath_select.specs.plan.Machine.{Tagged, start_of_path, itself, places, spread, root_shared_by_candidates};
@@ -11,25 +9,23 @@ ghost use Rattle.jsonpath_select.specs.plan.Shown.{Shows};
 ghost use Rattle.jsonpath_select.specs.plan.Stack.{ShowsFound};
 ghost use Rattle.jsonpath_nodes.specs.step.Steps.{step, named};
 
-use crate::step::carried_mark::Carried;
 use crate::tagged::marks::{Found, TaggedMarks};
 use crate::tagged::tag_lists::fill_tags;
-use jsonpath_nodes::NoMemory;
 use jsonpath_nodes::steps_on_marks::add_named_member;
-use serde_json::Value;
+use jsonpath_nodes::{Carried, NoMemory};
 use std::alloc::Global;
 
 // The root as the beginning of a path: one mark that all candidates share.
-pub(crate) fn root_shared_by_candidates<'a, M: Carried<'a>>(
+pub(crate) fn root_shared_by_candidates<M: Carried>(
     alloc: Global,
-    root: &'a Value,
+    root: &M,
 ) -> Result<Found<M>, NoMemory>
-    ensures { IfOk result (λ f. ShowsFound M.located M.stand M.content (document_of (view root.now)) root_shared_by_candidates f) }
+    ensures { IfOk result (λ f. ShowsFound M.located M.stand M.content (M.content root.now) root_shared_by_candidates f) }
 {
     let mut tags = Vec::new(alloc);
     let mut marks = Vec::new(alloc);
     tags.push(0)?;
-    marks.push(M::root(alloc, root))?;
+    marks.push(root.as_root(alloc))?;
     Ok(Found {
         is_shared: true,
         pairs: TaggedMarks { tags, marks },
@@ -37,13 +33,13 @@ pub(crate) fn root_shared_by_candidates<'a, M: Carried<'a>>(
 }
 
 // The marks with which a path begins: the root, which all candidates share, or each candidate, tagged with its number.
-pub(crate) fn start_of_path<'a, M: Carried<'a>>(
+pub(crate) fn start_of_path<M: Carried>(
     alloc: Global,
-    root: &'a Value,
+    root: &M,
     absolute: bool,
     candidates: &TaggedMarks<M>,
 ) -> Result<Found<M>, NoMemory>
-    ensures { IfOk result (λ found. (ps : List Tagged) → Shows M.located M.stand M.content (document_of (view root.now)) ps candidates.now → ShowsFound M.located M.stand M.content (document_of (view root.now)) (start_of_path absolute (places ps)) found) }
+    ensures { IfOk result (λ found. (ps : List Tagged) → Shows M.located M.stand M.content (M.content root.now) ps candidates.now → ShowsFound M.located M.stand M.content (M.content root.now) (start_of_path absolute (places ps)) found) }
 {
     if absolute {
         root_shared_by_candidates(alloc, root)
@@ -57,7 +53,7 @@ pub(crate) fn start_of_path<'a, M: Carried<'a>>(
 }
 
 // A copy of the candidates, each tagged with its index among them, as a path from `@` begins.
-pub(crate) fn numbered_candidates<'a, M: Carried<'a>>(
+pub(crate) fn numbered_candidates<M: Carried>(
     alloc: Global,
     frame: &TaggedMarks<M>,
 ) -> Result<TaggedMarks<M>, NoMemory>
@@ -74,7 +70,7 @@ pub(crate) fn numbered_candidates<'a, M: Carried<'a>>(
 }
 
 // The member of this name of each candidate's value, if it has one, tagged with the candidate's number.
-pub(crate) fn members_named<'a, M: Carried<'a>>(
+pub(crate) fn members_named<M: Carried>(
     alloc: Global,
     candidates: &[M],
     name: &str,

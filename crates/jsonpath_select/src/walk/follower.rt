@@ -14,12 +14,14 @@ ghost use Rattle.jsonpath_select.specs.plan.Walk.{found_in, led_in, set_after, s
 
 use crate::comparison::comparer::Comparer;
 use crate::tagged::conditions::{join_tags, tags_where_marks_found};
+use crate::tagged::kept_marks::keep_marks_at_indexes;
 use crate::tagged::marks::{Found, TaggedMarks};
-use crate::tagged::moves::Move;
+use crate::tagged::moves::{Move, candidates_of_filter, lead_marks_of_candidates};
 use crate::tagged::operand::Operand;
-use crate::tagged::shared_lists::list_count_for_candidates;
-use crate::walk::marked::Marked;
+use crate::tagged::shared_lists::{distinct_marks, list_count_for_candidates};
+use crate::tagged::start_of_paths::start_of_path;
 use crate::walk::own_step::condition_has_own_step;
+use jsonpath_nodes::Carried;
 use jsonpath_nodes::laws::{
     equal_locations_are_same, locations_once_in_order_ascend, steps_ignore_order_and_repeats,
 };
@@ -28,27 +30,25 @@ use std::alloc::Global;
 
 // What follows a path with this text: in the manner of sets, if `sets`, else in that of lists.
 #[derive(Drop)]
-pub struct Follower<'t, G> {
+pub struct Follower<'r, 't, M> {
     pub(crate) alloc: Global,
     pub(crate) text: &'t str,
     pub(crate) sets: bool,
-    pub(crate) document: G,
+    pub(crate) root: &'r M,
 }
 
-impl<'t, G: Marked> Follower<'t, G> {
+impl<'r, 't, M: Carried> Follower<'r, 't, M> {
     // Where a path leads from each of the candidates, or from the root once for all of them.
     #[cycle(walk)]
     pub(crate) fn lists_after_path(
         &self,
         path: &ParserNode,
-        candidates: &TaggedMarks<G::Mark>,
-    ) -> Result<Found<G::Mark>, G::Stop>
-        ensures { IfOk result (λ found. (ps : List Tagged) → Shows G.located G.stand G.content (G.whole self.now.document) ps candidates.now → ShowsFound G.located G.stand G.content (G.whole self.now.document) (found_in self.now.sets self.now.text.now (G.whole self.now.document) (path_of path.now) (places ps)) found) }
+        candidates: &TaggedMarks<M>,
+    ) -> Result<Found<M>, M::Stop>
+        ensures { IfOk result (λ found. (ps : List Tagged) → Shows M.located M.stand M.content (M.content self.now.root.now) ps candidates.now → ShowsFound M.located M.stand M.content (M.content self.now.root.now) (found_in self.now.sets self.now.text.now (M.content self.now.root.now) (path_of path.now) (places ps)) found) }
     {
-        let mut pairs = self
-            .document
-            .start_of_path(path.absolute, candidates)?
-            .pairs;
+        let start = start_of_path(self.alloc, self.root, path.absolute, candidates)?;
+        let mut pairs = start.pairs;
         let lists = list_count_for_candidates(path.absolute, candidates.marks.as_slice().len());
         for step in &path.steps {
             pairs = self.lists_after_step(step, lists, pairs)?;
@@ -65,10 +65,10 @@ impl<'t, G: Marked> Follower<'t, G> {
         &self,
         step: &ParserStep,
         lists: usize,
-        pairs: TaggedMarks<G::Mark>,
-    ) -> Result<TaggedMarks<G::Mark>, G::Stop>
-        ensures { IfOk result (λ found. (f : Location → List Location) (ls : List Location) → lists ≡ length ls → Shows G.located G.stand G.content (G.whole self.now.document) (spread f 0 ls) pairs
-            → Shows G.located G.stand G.content (G.whole self.now.document) (spread (λ c. step_in self.now.sets self.now.text.now (G.whole self.now.document) (inner_of step.now.inner) step.now.leaves (f c)) 0 ls) found) }
+        pairs: TaggedMarks<M>,
+    ) -> Result<TaggedMarks<M>, M::Stop>
+        ensures { IfOk result (λ found. (f : Location → List Location) (ls : List Location) → lists ≡ length ls → Shows M.located M.stand M.content (M.content self.now.root.now) (spread f 0 ls) pairs
+            → Shows M.located M.stand M.content (M.content self.now.root.now) (spread (λ c. step_in self.now.sets self.now.text.now (M.content self.now.root.now) (inner_of step.now.inner) step.now.leaves (f c)) 0 ls) found) }
     {
         if pairs.tags.as_slice().is_empty() {
             return Ok(pairs);
@@ -87,14 +87,14 @@ impl<'t, G: Marked> Follower<'t, G> {
         &self,
         step: &ParserStep,
         lists: usize,
-        pairs: TaggedMarks<G::Mark>,
-    ) -> Result<TaggedMarks<G::Mark>, G::Stop>
-        ensures { IfOk result (λ found. (f : Location → List Location) (ls : List Location) → lists ≡ length ls → Shows G.located G.stand G.content (G.whole self.now.document) (spread f 0 ls) pairs
-            → Shows G.located G.stand G.content (G.whole self.now.document) (spread (λ c. set_after self.now.sets self.now.text.now (G.whole self.now.document) (inner_of step.now.inner) step.now.leaves (f c)) 0 ls) found) }
+        pairs: TaggedMarks<M>,
+    ) -> Result<TaggedMarks<M>, M::Stop>
+        ensures { IfOk result (λ found. (f : Location → List Location) (ls : List Location) → lists ≡ length ls → Shows M.located M.stand M.content (M.content self.now.root.now) (spread f 0 ls) pairs
+            → Shows M.located M.stand M.content (M.content self.now.root.now) (spread (λ c. set_after self.now.sets self.now.text.now (M.content self.now.root.now) (inner_of step.now.inner) step.now.leaves (f c)) 0 ls) found) }
     {
         let top = self.topmost_before_descent(step.leaves, lists, pairs)?;
         let found = self.lists_after_inner(&step.inner, step.leaves, lists, top)?;
-        self.document.lead(Move::InOrder, lists, found)
+        lead_marks_of_candidates(self.alloc, Move::InOrder, lists, found)
     }
 
     // The marks that a step by sets is taken from: behind `..` the topmost of each list, else all of them.
@@ -102,13 +102,13 @@ impl<'t, G: Marked> Follower<'t, G> {
         &self,
         leaves: bool,
         lists: usize,
-        pairs: TaggedMarks<G::Mark>,
-    ) -> Result<TaggedMarks<G::Mark>, G::Stop>
-        ensures { IfOk result (λ found. (doc : Document) (f : Location → List Location) (ls : List Location) → lists ≡ length ls → Shows G.located G.stand G.content doc (spread f 0 ls) pairs
-            → Shows G.located G.stand G.content doc (spread (λ c. if leaves then topmost (f c) else f c) 0 ls) found) }
+        pairs: TaggedMarks<M>,
+    ) -> Result<TaggedMarks<M>, M::Stop>
+        ensures { IfOk result (λ found. (doc : Document) (f : Location → List Location) (ls : List Location) → lists ≡ length ls → Shows M.located M.stand M.content doc (spread f 0 ls) pairs
+            → Shows M.located M.stand M.content doc (spread (λ c. if leaves then topmost (f c) else f c) 0 ls) found) }
     {
         if leaves {
-            self.document.lead(Move::Topmost, lists, pairs)
+            lead_marks_of_candidates(self.alloc, Move::Topmost, lists, pairs)
         } else {
             Ok(pairs)
         }
@@ -121,10 +121,10 @@ impl<'t, G: Marked> Follower<'t, G> {
         inner: &Inner,
         leaves: bool,
         lists: usize,
-        pairs: TaggedMarks<G::Mark>,
-    ) -> Result<TaggedMarks<G::Mark>, G::Stop>
-        ensures { IfOk result (λ found. (f : Location → List Location) (ls : List Location) → lists ≡ length ls → Shows G.located G.stand G.content (G.whole self.now.document) (spread f 0 ls) pairs
-            → Shows G.located G.stand G.content (G.whole self.now.document) (spread (λ c. led_in self.now.sets self.now.text.now (G.whole self.now.document) (inner_of inner.now) leaves (f c)) 0 ls) found) }
+        pairs: TaggedMarks<M>,
+    ) -> Result<TaggedMarks<M>, M::Stop>
+        ensures { IfOk result (λ found. (f : Location → List Location) (ls : List Location) → lists ≡ length ls → Shows M.located M.stand M.content (M.content self.now.root.now) (spread f 0 ls) pairs
+            → Shows M.located M.stand M.content (M.content self.now.root.now) (spread (λ c. led_in self.now.sets self.now.text.now (M.content self.now.root.now) (inner_of inner.now) leaves (f c)) 0 ls) found) }
     {
         match inner {
             Inner::Token(token) => {
@@ -133,15 +133,13 @@ impl<'t, G: Marked> Follower<'t, G> {
                     token,
                     text: self.text,
                 };
-                self.document.lead(by, lists, pairs)
+                lead_marks_of_candidates(self.alloc, by, lists, pairs)
             }
             Inner::Filter(condition) => {
                 let deep = condition_has_own_step(condition);
-                let flat = self
-                    .document
-                    .candidates_of_filter(leaves, deep, lists, pairs)?;
+                let flat = candidates_of_filter(self.alloc, leaves, deep, lists, pairs)?;
                 let numbers = self.indexes_of_passing_candidates(condition, &flat)?;
-                Ok(self.document.keep_at_indexes(flat, numbers.as_slice())?)
+                Ok(keep_marks_at_indexes(self.alloc, flat, numbers.as_slice())?)
             }
         }
     }
@@ -151,14 +149,14 @@ impl<'t, G: Marked> Follower<'t, G> {
     fn indexes_of_passing_candidates(
         &self,
         condition: &Condition,
-        candidates: &TaggedMarks<G::Mark>,
-    ) -> Result<Vec<usize>, G::Stop>
-        ensures { IfOk result (λ numbers. (ps : List Tagged) → Shows G.located G.stand G.content (G.whole self.now.document) ps candidates.now → numbers.items ≡ numbers_where (holds_in self.now.sets self.now.text.now (G.whole self.now.document) (condition_of condition.now)) 0 (places ps)) }
+        candidates: &TaggedMarks<M>,
+    ) -> Result<Vec<usize>, M::Stop>
+        ensures { IfOk result (λ numbers. (ps : List Tagged) → Shows M.located M.stand M.content (M.content self.now.root.now) ps candidates.now → numbers.items ≡ numbers_where (holds_in self.now.sets self.now.text.now (M.content self.now.root.now) (condition_of condition.now)) 0 (places ps)) }
     {
         if !self.sets {
             return self.indexes_where_condition_holds(condition, candidates);
         }
-        let distinct = self.document.distinct(candidates)?;
+        let distinct = distinct_marks(self.alloc, candidates)?.pairs;
         if distinct.marks.as_slice().len() == candidates.marks.as_slice().len() {
             return self.indexes_where_condition_holds(condition, candidates);
         }
@@ -166,8 +164,12 @@ impl<'t, G: Marked> Follower<'t, G> {
         steps_ignore_order_and_repeats();
         equal_locations_are_same();
         let numbers = self.indexes_where_condition_holds(condition, &distinct)?;
-        let passing = self.document.keep_at_indexes(distinct, numbers.as_slice())?;
-        self.document.indexes_standing_among(candidates, &passing)
+        let passing = keep_marks_at_indexes(self.alloc, distinct, numbers.as_slice())?;
+        M::indexes_standing_among(
+            self.alloc,
+            candidates.marks.as_slice(),
+            passing.marks.as_slice(),
+        )
     }
 
     // The indexes of the candidates at which the condition holds, decided for all of them at once.
@@ -175,9 +177,9 @@ impl<'t, G: Marked> Follower<'t, G> {
     fn indexes_where_condition_holds(
         &self,
         condition: &Condition,
-        candidates: &TaggedMarks<G::Mark>,
-    ) -> Result<Vec<usize>, G::Stop>
-        ensures { IfOk result (λ numbers. (ps : List Tagged) → Shows G.located G.stand G.content (G.whole self.now.document) ps candidates.now → numbers.items ≡ numbers_where (holds_in self.now.sets self.now.text.now (G.whole self.now.document) (condition_of condition.now)) 0 (places ps)) }
+        candidates: &TaggedMarks<M>,
+    ) -> Result<Vec<usize>, M::Stop>
+        ensures { IfOk result (λ numbers. (ps : List Tagged) → Shows M.located M.stand M.content (M.content self.now.root.now) ps candidates.now → numbers.items ≡ numbers_where (holds_in self.now.sets self.now.text.now (M.content self.now.root.now) (condition_of condition.now)) 0 (places ps)) }
     {
         let count = candidates.marks.as_slice().len();
         match condition {
@@ -194,10 +196,7 @@ impl<'t, G: Marked> Follower<'t, G> {
                     text: self.text,
                     count,
                 };
-                Ok(
-                    self.document
-                        .tags_where_comparison_holds(&comparer, lefts, rights)?,
-                )
+                Ok(comparer.tags_where_comparison_holds(self.root, lefts, rights)?)
             }
             Condition::Join(op, left, right) => {
                 let lefts = self.indexes_where_condition_holds(left, candidates)?;
@@ -212,10 +211,10 @@ impl<'t, G: Marked> Follower<'t, G> {
     fn operand_of_term<'c>(
         &self,
         term: &'c Term,
-        candidates: &TaggedMarks<G::Mark>,
-    ) -> Result<Operand<'c, G::Mark>, G::Stop>
+        candidates: &TaggedMarks<M>,
+    ) -> Result<Operand<'c, M>, M::Stop>
         ensures kind { IfOk result (λ operand. IsOfTerm operand) }
-        ensures ok { IfOk result (λ operand. (ps : List Tagged) → Shows G.located G.stand G.content (G.whole self.now.document) ps candidates.now → ShowsOperand G.located G.stand G.content self.now.text.now (G.whole self.now.document) (term_in self.now.sets self.now.text.now (G.whole self.now.document) (term_of term.now) (places ps)) operand) }
+        ensures ok { IfOk result (λ operand. (ps : List Tagged) → Shows M.located M.stand M.content (M.content self.now.root.now) ps candidates.now → ShowsOperand M.located M.stand M.content self.now.text.now (M.content self.now.root.now) (term_in self.now.sets self.now.text.now (M.content self.now.root.now) (term_of term.now) (places ps)) operand) }
     {
         match term {
             Term::Path(path) => {

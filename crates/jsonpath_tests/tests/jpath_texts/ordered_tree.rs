@@ -3,7 +3,7 @@
 use crate::asserts::check;
 use jpath_texts::{DocumentRefusal, OrderedValue, put_in_order};
 use json::{Scratch, Value as Exact};
-use jsonpath_nodes::{Atom, Tree, holds_by_tree};
+use jsonpath_nodes::{Atom, Tree, holds_by_fractions};
 use jsonpath_paths::FilterToken;
 use std::alloc::Global;
 use std::process::Abort;
@@ -63,7 +63,7 @@ fn compares(
     let right = OrderedValue::of(rt.alloc(), &right).expect(rt, "a tree in order");
     let a = Tree::atom(&left)?;
     let b = Tree::atom(&right)?;
-    Ok(holds_by_tree::<OrderedValue<'_, '_>>(op, &a, &b))
+    Ok(holds_by_fractions(op, &a, &b))
 }
 
 #[test]

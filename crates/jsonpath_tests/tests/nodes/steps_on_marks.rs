@@ -16,31 +16,44 @@ fn document(rt: &(impl Abort + AllocGlobal), text: &str) -> Value {
     Value::from_str(rt.alloc(), text).expect(rt, "a document")
 }
 
+// A mark whose value can be printed.
+trait Shown: Mark {
+    fn shown(&self) -> &Value;
+}
+
+impl<'a> Shown for &'a Value {
+    fn shown(&self) -> &Value {
+        self
+    }
+}
+
+impl<'a> Shown for Spot<'a> {
+    fn shown(&self) -> &Value {
+        self.value()
+    }
+}
+
 // The texts of the values of some marks, a blank between two.
-fn texts<'a, M: Mark<'a>>(alloc: Global, marks: &[M]) -> Result<String, AllocError> {
+fn texts<M: Shown>(alloc: Global, marks: &[M]) -> Result<String, AllocError> {
     let mut out = String::new(alloc);
     for mark in marks {
         if !out.is_empty() {
             out.push(' ')?;
         }
-        out.push_str(mark.value().to_string(alloc)?.as_str())?;
+        out.push_str(mark.shown().to_string(alloc)?.as_str())?;
     }
     Ok(out)
 }
 
 // Asserts that there was memory, and that the marks' values have these texts.
-fn shows<'a, M: Mark<'a>>(
-    rt: &(impl Abort + AllocGlobal),
-    found: Result<Vec<M>, NoMemory>,
-    want: &str,
-) {
+fn shows<M: Shown>(rt: &(impl Abort + AllocGlobal), found: Result<Vec<M>, NoMemory>, want: &str) {
     let marks = found.expect(rt, "marks");
     let text = texts(rt.alloc(), marks.as_slice()).expect(rt, "texts");
     check!(rt; text.as_str() == want);
 }
 
 // Each plain step from one mark, and what it finds in the value and below it.
-fn step_from<'a, M: Mark<'a>>(rt: &(impl Abort + AllocGlobal), root: &[M]) {
+fn step_from<M: Shown>(rt: &(impl Abort + AllocGlobal), root: &[M]) {
     let alloc = rt.alloc();
     let rows = [
         (
@@ -74,7 +87,7 @@ fn plain_steps(rt: HostRuntime) {
 }
 
 // Steps into a list and below it, repeats and order as the document has them.
-fn into_spots_and_numbers<'a, M: Mark<'a>>(rt: &(impl Abort + AllocGlobal), root: &[M]) {
+fn into_spots_and_numbers<M: Shown>(rt: &(impl Abort + AllocGlobal), root: &[M]) {
     let alloc = rt.alloc();
     let list = named_member_from_each(alloc, root, "b").expect(rt, "the list");
     let list = list.as_slice();
@@ -114,7 +127,7 @@ fn steps_into_lists(rt: HostRuntime) {
 }
 
 // The candidates of a filter, and those after `..`.
-fn candidates_from<'a, M: Mark<'a>>(rt: &(impl Abort + AllocGlobal), root: &M, marks: &[M]) {
+fn candidates_from<M: Shown>(rt: &(impl Abort + AllocGlobal), root: &M, marks: &[M]) {
     let alloc = rt.alloc();
     shows(rt, flattened_from_each(alloc, marks), DOCUMENT);
     shows(rt, flattened_from_mark(alloc, root), DOCUMENT);

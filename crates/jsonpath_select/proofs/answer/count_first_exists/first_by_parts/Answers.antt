@@ -1,4 +1,6 @@
-use Rattle.std.proofs.Common.{[], Some, true, false, refl, ap, ◌∙◌, option_map, slice_get}
+use Rattle.std.proofs.Common.{[], Some, true, false, refl, ap, subst, ◌∙◌, option_map, slice_get}
+use Rattle.jsonpath_nodes.specs.document.Document.{Document}
+use Rattle.jsonpath_select.specs.plan.First.{BeginAs}
 use Rattle.jsonpath_nodes.specs.document.OfData.{value_document}
 use Rattle.jsonpath_nodes.specs.place.SpotPlace.{location_of, value_of}
 use Rattle.jsonpath_select.specs.Meaning.{answer, sel}
@@ -24,7 +26,7 @@ returns-in-Some-clause-ok c =
       answer text doc p,
       record { path = p; spelled = c.requires.listed.spelled; holds = refl },
       ap (λ d. Some d) c.value.ensures ∙ ap (option_map value_of) (c.in-Some.ensures.value ∙ ap (λ spots. slice_get spots 0) c.deref-in-Err-NeedsLocations.ensures.value)
-          ∙ first_answered true location_of value_of doc (sel text doc p) c.in_ok-found-in-Err-NeedsLocations.found.items (c.in_ok-found-in-Err-NeedsLocations.ensures p c.requires.listed.holds),
+          ∙ first_answered true location_of value_of doc (sel text doc p) c.in_ok-found-in-Err-NeedsLocations.found.items (subst (λ (d : Document). BeginAs true location_of value_of d (sel text d p) c.in_ok-found-in-Err-NeedsLocations.found.items) c.root.ensures.value (c.in_ok-found-in-Err-NeedsLocations.ensures p c.requires.listed.holds)),
     )
 
 pub returns-clause-ok : goal.returns-clause-ok
@@ -35,5 +37,5 @@ returns-clause-ok c =
       answer text doc p,
       record { path = p; spelled = c.requires.listed.spelled; holds = refl },
       ap (option_map value_of) (c.in-None.ensures.value ∙ ap (λ spots. slice_get spots 0) c.deref-in-Err-NeedsLocations.ensures.value)
-          ∙ first_answered true location_of value_of doc (sel text doc p) c.in_ok-found-in-Err-NeedsLocations.found.items (c.in_ok-found-in-Err-NeedsLocations.ensures p c.requires.listed.holds),
+          ∙ first_answered true location_of value_of doc (sel text doc p) c.in_ok-found-in-Err-NeedsLocations.found.items (subst (λ (d : Document). BeginAs true location_of value_of d (sel text d p) c.in_ok-found-in-Err-NeedsLocations.found.items) c.root.ensures.value (c.in_ok-found-in-Err-NeedsLocations.ensures p c.requires.listed.holds)),
     )

@@ -1,5 +1,4 @@
-use Rattle.std.proofs.Common.{refl}
 use Rattle.jsonpath_select.proofs.answer.select.select_tokens.Goals as goal
 
 pub select_by_tokens-requires : goal.select_by_tokens-requires
-select_by_tokens-requires c = λ k. ((refl, tt), c.requires)
+select_by_tokens-requires c = c.requires

@@ -1,4 +1,4 @@
-use Rattle.std.proofs.Common.{ℕ, List, length, refl, ap, subst}
+use Rattle.std.proofs.Common.{ℕ, List, length, ap, subst}
 use Rattle.jsonpath_select.specs.plan.Machine.{kept_by_number}
 use Rattle.jsonpath_select.specs.plan.Shown.{LeadsPairs}
 use Rattle.jsonpath_select.proofs.machine.StepLemmas.{leave_frames, leave_operand, leave_condition, leave_done}
@@ -11,9 +11,9 @@ pub pop_top-is_shared-requires : goal.pop_top-is_shared-requires
 pop_top-is_shared-requires g c = let h = c.requires in leave_frames g.M.Mark.located g.M.Mark.stand g.M.Mark.content c.args.self.now.text.now h.0 h.1.frames h.1.operands h.2 c.args.stacks.now.frames.items h.3.0 h.4
 
 pub condition_tags-requires : goal.condition_tags-requires
-condition_tags-requires g c = λ k.
+condition_tags-requires g c =
     let h = c.requires in
-    ((refl, tt), leave_condition g.M.Mark.located g.M.Mark.stand g.M.Mark.content c.args.self.now.text.now h.0 h.1.frames h.1.operands h.2 c.args.stacks.now.operands.items c.pop_top-condition.new.stack.items c.pop_top-condition.result h.3.1 h.4 c.pop_top-condition.ensures)
+    (leave_condition g.M.Mark.located g.M.Mark.stand g.M.Mark.content c.args.self.now.text.now h.0 h.1.frames h.1.operands h.2 c.args.stacks.now.operands.items c.pop_top-condition.new.stack.items c.pop_top-condition.result h.3.1 h.4 c.pop_top-condition.ensures)
 
 pub returns : goal.returns
 returns g c = λ doc s t h e.

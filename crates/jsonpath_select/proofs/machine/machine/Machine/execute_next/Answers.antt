@@ -1,6 +1,5 @@
-use Rattle.std.proofs.Common.{[], ◌∷◌, refl, sym, ◌∙◌, arith, false}
+use Rattle.std.proofs.Common.{[], ◌∷◌, sym, ◌∙◌, arith, false}
 use Rattle.std.proofs.lemmas.List.{take_rest}
-use Rattle.jsonpath_nodes.specs.document.OfData.{value_document}
 use Rattle.jsonpath_select.specs.plan.Code as code
 use Rattle.jsonpath_select.specs.plan.Ordered.{instruction_of}
 use Rattle.jsonpath_select.specs.declared.machine.instruction.Instruction.TheVariants.{Start}
@@ -9,18 +8,18 @@ use Rattle.jsonpath_select.proofs.machine.StepLemmas.{inside_frames}
 use Rattle.jsonpath_select.proofs.machine.machine.Machine.execute_next.Goals as goal
 
 pub start_at_member-requires : goal.start_at_member-requires
-start_at_member-requires g c = λ k.
+start_at_member-requires g c =
     let can = c.requires.can in
     let begins = c.in-Some.ensures in
     let text = c.args.self.now.text.now in
-    let doc = value_document c.args.self.now.root.now in
+    let doc = g.M.Mark.content c.args.self.now.root.now in
     let first = first_there text doc _ (Start false) (begins.0 ∷ begins.1) can.0 can.1 (sym (take_rest c.args.code.now c.args.at) ∙ begins.2) can.3 in
-    ((refl, tt), inside_frames g.M.Mark.located g.M.Mark.stand g.M.Mark.content text doc (code.start false) can.0.frames can.0.operands first.0 c.args.stacks.now.frames.items can.2.0 first.1)
+    (inside_frames g.M.Mark.located g.M.Mark.stand g.M.Mark.content text doc (code.start false) can.0.frames can.0.operands first.0 c.args.stacks.now.frames.items can.2.0 first.1)
 
 pub returns-in-Some : goal.returns-in-Some
 returns-in-Some g c =
     let begins = c.in-Some.ensures in
-    let doc = value_document c.args.self.now.root.now in (
+    let doc = g.M.Mark.content c.args.self.now.root.now in (
       omega arith,
       Start false ∷ begins.0 ∷ [],
       two_taken c.args.code.now c.args.at (Start false) begins.0 begins.1 (sym (take_rest c.args.code.now c.args.at) ∙ begins.2),
@@ -30,15 +29,15 @@ returns-in-Some g c =
     )
 
 pub execute_instruction-requires : goal.execute_instruction-requires
-execute_instruction-requires g c = λ k.
+execute_instruction-requires g c =
     let can = c.requires.can in
-    let doc = value_document c.args.self.now.root.now in
+    let doc = g.M.Mark.content c.args.self.now.root.now in
     let first = first_there c.args.self.now.text.now doc _ c.index-code-at.result _ can.0 can.1 (one_taken c.args.code.now c.args.at c.index-code-at.result c.index-code-at.is c.requires.some) can.3 in
-    ((refl, tt), (doc, can.0, first.0, can.2, first.1))
+    (doc, can.0, first.0, can.2, first.1)
 
 pub returns : goal.returns
 returns g c =
-    let doc = value_document c.args.self.now.root.now in (
+    let doc = g.M.Mark.content c.args.self.now.root.now in (
       omega arith,
       c.index-code-at.result ∷ [],
       one_taken c.args.code.now c.args.at c.index-code-at.result c.index-code-at.is c.requires.some,

@@ -1,6 +1,5 @@
-use Rattle.std.proofs.Common.{List, [], ◌∷◌, Some, None, take, refl, sym, subst}
+use Rattle.std.proofs.Common.{List, [], ◌∷◌, Some, None, take, sym, subst}
 use Rattle.std.proofs.lemmas.Result.{IfOk-weaker}
-use Rattle.jsonpath_nodes.specs.document.OfData.{value_document}
 use Rattle.jsonpath_nodes.specs.place.Location.{Location}
 use Rattle.jsonpath_nodes.specs.place.Mark.{MarksStandAt}
 use Rattle.jsonpath_select.specs.plan.First.{BeginAs}
@@ -12,9 +11,9 @@ use Rattle.jsonpath_select.proofs.filters.NextFilterLemmas.{ends_condition, next
 use Rattle.jsonpath_select.proofs.machine.machine.Machine.first_by_instructions.Goals as goal
 
 pub first_in_slices-requires : goal.first_in_slices-requires
-first_in_slices-requires g c = λ k.
+first_in_slices-requires g c =
     let text = c.args.self.now.text.now in
-    let doc = value_document c.args.self.now.root.now in
+    let doc = g.M.Mark.content c.args.self.now.root.now in
     let way = c.in-Some.way in
     let behind = c.in-Some.behind.now in
     let end = c.condition_end-end.result in
@@ -22,42 +21,26 @@ first_in_slices-requires g c = λ k.
     let n = next_of text doc way.steps.now way.leaves way.deep behind c.requires.0 cut.1 (subst (λ (is : List Instruction). CodesSteps is c.requires.0) cut.0 c.requires.1) in
     let parts = ends_condition behind end n.0 n.1 n.2 c.condition_end-end.ensures.behind in
     let ks = along text doc way.steps.now ([] ∷ []) in
-    let there = c.in_ok-candidates-in-Some.ensures ks (c.in_ok-led-in-Some.ensures ([] ∷ []) c.in_ok-root.ensures) in (
-      (refl, tt),
-      (
-        (Some n.0, parts.0),
-        (
-          (n.1, sliced_on end behind n.1 parts.1),
-          (gathered doc way.leaves way.deep ks, subst (λ ms. MarksStandAt g.M.Mark.located g.M.Mark.stand g.M.Mark.content doc (gathered doc way.leaves way.deep ks) ms) (sym c.as_slice-starts.ensures.value) there.0, there.1),
-        ),
-      ),
-    )
+    let there = c.in_ok-candidates-in-Some.ensures ks (c.in_ok-led-in-Some.ensures ([] ∷ []) c.in_ok-root.ensures) in
+    record { is = (Some n.0, parts.0); steps = (n.1, sliced_on end behind n.1 parts.1); there = (gathered doc way.leaves way.deep ks, subst (λ ms. MarksStandAt g.M.Mark.located g.M.Mark.stand g.M.Mark.content doc (gathered doc way.leaves way.deep ks) ms) (sym c.as_slice-starts.ensures.value) there.0, there.1) }
 
 pub follow_steps-requires-in-None : goal.follow_steps-requires-in-None
-follow_steps-requires-in-None g c = λ k. ((refl, tt), (plain_split c.args.self.now.text.now (value_document c.args.self.now.root.now) c.saturating_sub-last.result c.args.left.now c.requires.0 c.requires.1 c.in-None.ensures.none).3)
+follow_steps-requires-in-None g c = ((plain_split c.args.self.now.text.now (g.M.Mark.content c.args.self.now.root.now) c.saturating_sub-last.result c.args.left.now c.requires.0 c.requires.1 c.in-None.ensures.none).3)
 
 pub first_in_slices-requires-in-None : goal.first_in_slices-requires-in-None
-first_in_slices-requires-in-None g c = λ k.
+first_in_slices-requires-in-None g c =
     let text = c.args.self.now.text.now in
-    let doc = value_document c.args.self.now.root.now in
+    let doc = g.M.Mark.content c.args.self.now.root.now in
     let left = c.args.left.now in
     let last = c.saturating_sub-last.result in
     let split = plain_split text doc last left c.requires.0 c.requires.1 c.in-None.ensures.none in
-    let ks = along text doc (take last left) ([] ∷ []) in (
-      (refl, tt),
-      (
-        (None, tt),
-        (
-          (split.0, sliced_on last left split.0 split.1),
-          (ks, subst (λ ms. MarksStandAt g.M.Mark.located g.M.Mark.stand g.M.Mark.content doc ks ms) (sym c.as_slice-starts-in-None.ensures.value) ((c.in_ok-led-in-None.ensures ([] ∷ []) c.in_ok-root.ensures).0), tt),
-        ),
-      ),
-    )
+    let ks = along text doc (take last left) ([] ∷ []) in
+    record { is = (None, tt); steps = (split.0, sliced_on last left split.0 split.1); there = (ks, subst (λ ms. MarksStandAt g.M.Mark.located g.M.Mark.stand g.M.Mark.content doc ks ms) (sym c.as_slice-starts-in-None.ensures.value) ((c.in_ok-led-in-None.ensures ([] ∷ []) c.in_ok-root.ensures).0), tt) }
 
 pub returns-in_ok-candidates-in-Some : goal.returns-in_ok-candidates-in-Some
 returns-in_ok-candidates-in-Some g c =
     let text = c.args.self.now.text.now in
-    let doc = value_document c.args.self.now.root.now in
+    let doc = g.M.Mark.content c.args.self.now.root.now in
     let way = c.in-Some.way in
     let behind = c.in-Some.behind.now in
     let end = c.condition_end-end.result in
@@ -76,7 +59,7 @@ returns-in_ok-candidates-in-Some g c =
 pub returns-in_ok-led-in-None : goal.returns-in_ok-led-in-None
 returns-in_ok-led-in-None g c =
     let text = c.args.self.now.text.now in
-    let doc = value_document c.args.self.now.root.now in
+    let doc = g.M.Mark.content c.args.self.now.root.now in
     let left = c.args.left.now in
     let last = c.saturating_sub-last.result in
     let ks = along text doc (take last left) ([] ∷ []) in

@@ -1,5 +1,4 @@
 use Rattle.std.proofs.Common.{◌≡◌, ◌++◌, ◌-◌, ◌≤◌, ◌==◌, true, List, [], take, drop, length, map, refl, sym, ap, ◌∙◌, drop_of_length-le, arith}
-use Rattle.jsonpath_nodes.specs.document.OfData.{value_document}
 use Rattle.jsonpath_nodes.specs.place.Location.{Location}
 use Rattle.jsonpath_nodes.specs.place.Mark.{shown}
 use Rattle.jsonpath_select.specs.Meaning.{follow}
@@ -14,19 +13,19 @@ pub loop-from-init : goal.loop-from-init
 loop-from-init g c = (omega arith, λ f ss ls is are there standing. refl)
 
 pub lead_slice_to_end-requires : goal.lead_slice_to_end-requires
-lead_slice_to_end-requires g c = λ k.
+lead_slice_to_end-requires g c =
     let from = c.loop-from.from in
     let size = c.slice_end-end.result - from in
     let ls = c.requires.there.0 in
-    let stand = c.in_ok-marks.ensures ∙ slice_stands g.M.Mark.located g.M.Mark.stand g.M.Mark.content (value_document c.args.self.now.root.now) ls c.args.starts.now from size c.requires.there.1 in
-    ((refl, tt), (c.requires.is, (c.requires.steps, (take size (drop from ls), (stand, slice_standing c.args.standing from size ls c.requires.there.2)))))
+    let stand = c.in_ok-marks.ensures ∙ slice_stands g.M.Mark.located g.M.Mark.stand g.M.Mark.content (g.M.Mark.content c.args.self.now.root.now) ls c.args.starts.now from size c.requires.there.1 in
+    record { is = c.requires.is; steps = c.requires.steps; there = (take size (drop from ls), (stand, slice_standing c.args.standing from size ls c.requires.there.2)) }
 
 pub loop-from-preserved : goal.loop-from-preserved
 loop-from-preserved g c = (
   omega (arith, c.slice_end-end.ensures.within),
   λ f ss ls is are there standing.
       let text = c.args.self.now.text.now in
-      let doc = value_document c.args.self.now.root.now in
+      let doc = g.M.Mark.content c.args.self.now.root.now in
       let lead : List Location → List Location = λ ks. follow text doc ss (kept_by text doc f ks) in
       let from = c.loop-from.from in
       let end = c.slice_end-end.result in
@@ -41,7 +40,7 @@ loop-from-preserved g c = (
 pub returns-then-not-is_empty : goal.returns-then-not-is_empty
 returns-then-not-is_empty g c = λ f ss ls is are there standing.
     let text = c.args.self.now.text.now in
-    let doc = value_document c.args.self.now.root.now in
+    let doc = g.M.Mark.content c.args.self.now.root.now in
     let lead : List Location → List Location = λ ks. follow text doc ss (kept_by text doc f ks) in
     let from = c.loop-from.from in
     let size = c.slice_end-end.result - from in
@@ -54,7 +53,7 @@ returns-then-not-is_empty g c = λ f ss ls is are there standing.
 pub returns : goal.returns
 returns g c = λ f ss ls is are there standing.
     let text = c.args.self.now.text.now in
-    let doc = value_document c.args.self.now.root.now in
+    let doc = g.M.Mark.content c.args.self.now.root.now in
     let same = length-marks g.M.Mark.located g.M.Mark.stand g.M.Mark.content doc ls c.args.starts.now there in
     let past : length ls ≤ c.loop-from.from = omega (arith, same) in
     ([], ap (map (shown g.M.Mark.stand g.M.Mark.content)) c.new.ensures.items, c.loop-from.invariant.1 f ss ls is are there standing ∙ ap (λ (ks : List Location). take 1 (follow text doc ss (kept_by text doc f ks))) (drop_of_length-le ls {i = c.loop-from.from} past) ∙ ap (take 1) (none_kept text doc f ss))

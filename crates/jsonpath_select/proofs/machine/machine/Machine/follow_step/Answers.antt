@@ -1,16 +1,15 @@
 use Rattle.std.proofs.Common.{◌≡◌, map, length, sym, ap, ◌∙◌}
-use Rattle.jsonpath_nodes.specs.document.OfData.{value_document}
 use Rattle.jsonpath_nodes.specs.place.Mark.{MarksStandAt, shown}
 use Rattle.jsonpath_select.specs.plan.Machine.{stepped}
 use Rattle.jsonpath_select.proofs.walk.MarkLemmas.{length-marks}
 use Rattle.jsonpath_select.proofs.machine.machine.Machine.follow_step.Goals as goal
 
 pub returns-then-not-asks_standing : goal.returns-then-not-asks_standing
-returns-then-not-asks_standing g c = λ ls from. (c.in_ok-marks.ensures (value_document c.args.self.now.root.now) ls (ap (map (shown g.M.Mark.stand g.M.Mark.content)) c.as_slice-before.ensures.value ∙ from.0), tt)
+returns-then-not-asks_standing g c = λ ls from. (c.in_ok-marks.ensures (g.M.Mark.content c.args.self.now.root.now) ls (ap (map (shown g.M.Mark.stand g.M.Mark.content)) c.as_slice-before.ensures.value ∙ from.0), tt)
 
 pub returns : goal.returns
 returns g c = λ ls from.
-    let doc = value_document c.args.self.now.root.now in
+    let doc = g.M.Mark.content c.args.self.now.root.now in
     let led = stepped c.args.self.now.text.now doc c.args.leaves c.args.token.now ls in
     let stood : MarksStandAt g.M.Mark.located g.M.Mark.stand g.M.Mark.content doc ls c.as_slice-before.result.now = ap (map (shown g.M.Mark.stand g.M.Mark.content)) c.as_slice-before.ensures.value ∙ from.0 in
     let there : MarksStandAt g.M.Mark.located g.M.Mark.stand g.M.Mark.content doc led c.in_ok-marks.marks.items = c.in_ok-marks.ensures doc ls stood in

@@ -1,6 +1,5 @@
 use Rattle.std.proofs.Common.{◌≡◌, List, take, length, ◌+◌, sym, ap, subst, ◌∙◌, arith}
 use Rattle.std.proofs.Math.Seq.{take-length}
-use Rattle.jsonpath_nodes.specs.document.OfData.{value_document}
 use Rattle.jsonpath_nodes.specs.place.Location.{Location}
 use Rattle.jsonpath_select.specs.plan.Machine.{stepped}
 use Rattle.jsonpath_select.specs.plan.Standing.{along, AreStanding}
@@ -14,7 +13,7 @@ loop-step-init g c = λ ls from. from
 pub loop-step-preserved : goal.loop-step-preserved
 loop-step-preserved g c = λ ls from.
     let text = c.args.self.now.text.now in
-    let doc = value_document c.args.self.now.root.now in
+    let doc = g.M.Mark.content c.args.self.now.root.now in
     let steps = c.args.steps.now in
     let i = c.loop-step.step-index in
     let led = along text doc (take i steps) ls in
@@ -27,4 +26,4 @@ returns g c = λ ls from.
     let steps = c.args.steps.now in
     let end : c.loop-step.step-index ≡ length steps = omega arith in
     let all : take c.loop-step.step-index steps ≡ steps = ap (λ n. take n steps) end ∙ take-length steps in
-    subst (λ (is : List Instruction). AreStanding g.M.Mark.located g.M.Mark.stand g.M.Mark.content (value_document c.args.self.now.root.now) (along c.args.self.now.text.now (value_document c.args.self.now.root.now) is ls) c.loop-step.led) all (c.loop-step.invariant ls from)
+    subst (λ (is : List Instruction). AreStanding g.M.Mark.located g.M.Mark.stand g.M.Mark.content (g.M.Mark.content c.args.self.now.root.now) (along c.args.self.now.text.now (g.M.Mark.content c.args.self.now.root.now) is ls) c.loop-step.led) all (c.loop-step.invariant ls from)

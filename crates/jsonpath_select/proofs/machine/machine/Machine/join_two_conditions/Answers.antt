@@ -1,4 +1,4 @@
-use Rattle.std.proofs.Common.{refl, ap₂, ◌∙◌}
+use Rattle.std.proofs.Common.{ap₂, ◌∙◌}
 use Rattle.jsonpath_select.specs.plan.Code as code
 use Rattle.jsonpath_select.specs.plan.Machine.{joined_tags}
 use Rattle.jsonpath_select.proofs.machine.StepLemmas.{inside_frames, joins_two, two_first, two_second, joins_conditions, join_done}
@@ -16,14 +16,14 @@ pub candidate_count-count-requires : goal.candidate_count-count-requires
 candidate_count-count-requires g c = let h = c.requires in inside_frames g.M.Mark.located g.M.Mark.stand g.M.Mark.content c.args.self.now.text.now h.0 (code.joins c.args.op) h.1.frames h.1.operands h.2 c.args.stacks.now.frames.items h.3.0 h.4
 
 pub condition_tags-requires : goal.condition_tags-requires
-condition_tags-requires g c = λ k.
+condition_tags-requires g c =
     let h = c.requires in
-    ((refl, tt), (joins_conditions g.M.Mark.located g.M.Mark.stand g.M.Mark.content c.args.self.now.text.now h.0 c.args.op h.1.frames h.1.operands h.2 c.args.stacks.now.operands.items c.pop_top-right.new.stack.items c.pop_top-left.new.stack.items c.pop_top-right.result c.pop_top-left.result h.3.1 h.4 c.pop_top-right.ensures c.pop_top-left.ensures).0)
+    ((joins_conditions g.M.Mark.located g.M.Mark.stand g.M.Mark.content c.args.self.now.text.now h.0 c.args.op h.1.frames h.1.operands h.2 c.args.stacks.now.operands.items c.pop_top-right.new.stack.items c.pop_top-left.new.stack.items c.pop_top-right.result c.pop_top-left.result h.3.1 h.4 c.pop_top-right.ensures c.pop_top-left.ensures).0)
 
 pub condition_tags-requires-2 : goal.condition_tags-requires-2
-condition_tags-requires-2 g c = λ k.
+condition_tags-requires-2 g c =
     let h = c.requires in
-    ((refl, tt), (joins_conditions g.M.Mark.located g.M.Mark.stand g.M.Mark.content c.args.self.now.text.now h.0 c.args.op h.1.frames h.1.operands h.2 c.args.stacks.now.operands.items c.pop_top-right.new.stack.items c.pop_top-left.new.stack.items c.pop_top-right.result c.pop_top-left.result h.3.1 h.4 c.pop_top-right.ensures c.pop_top-left.ensures).1)
+    ((joins_conditions g.M.Mark.located g.M.Mark.stand g.M.Mark.content c.args.self.now.text.now h.0 c.args.op h.1.frames h.1.operands h.2 c.args.stacks.now.operands.items c.pop_top-right.new.stack.items c.pop_top-left.new.stack.items c.pop_top-right.result c.pop_top-left.result h.3.1 h.4 c.pop_top-right.ensures c.pop_top-left.ensures).1)
 
 pub returns : goal.returns
 returns g c = λ doc s t h e.

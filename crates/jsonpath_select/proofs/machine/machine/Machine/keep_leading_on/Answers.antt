@@ -1,4 +1,4 @@
-use Rattle.std.proofs.Common.{false, List, refl, subst, sym}
+use Rattle.std.proofs.Common.{false, List, subst, sym}
 use Rattle.std.proofs.lemmas.Result.{IfOk-weaker}
 use Rattle.jsonpath_paths.specs.tree.Tree.{lone, path}
 use Rattle.jsonpath_select.specs.plan.NextFilter.{CodesCondition}
@@ -6,10 +6,10 @@ use Rattle.jsonpath_select.specs.declared.machine.instruction.Instruction.{Instr
 use Rattle.jsonpath_select.proofs.machine.machine.Machine.keep_leading_on.Goals as goal
 
 pub keep_passing_with_standing-requires : goal.keep_passing_with_standing-requires
-keep_passing_with_standing-requires g c = λ k.
+keep_passing_with_standing-requires g c =
     let ss = c.requires.steps.0 in
     let codes = subst (λ (is : List Instruction). CodesCondition is (lone (path false ss))) (sym c.as_slice.ensures.value) (c.in_ok-condition.ensures ss c.requires.steps.1) in
-    ((refl, tt), ((lone (path false ss), codes), (c.requires.there.0, (c.requires.there.1, tt))))
+    record { is = (lone (path false ss), codes); there = (c.requires.there.0, (c.requires.there.1, tt)) }
 
 pub returns : goal.returns
 returns g c =

@@ -1,6 +1,5 @@
-use Rattle.std.proofs.Common.{Option, refl, sym, subst, filter}
+use Rattle.std.proofs.Common.{Option, sym, subst, filter}
 use Rattle.std.proofs.lemmas.Result.{IfOk-weaker}
-use Rattle.jsonpath_nodes.specs.document.OfData.{value_document}
 use Rattle.jsonpath_paths.specs.tree.Tree.{Condition}
 use Rattle.jsonpath_nodes.specs.place.Mark.{MarksStandAt}
 use Rattle.jsonpath_select.specs.Meaning.{follow, holds}
@@ -9,15 +8,15 @@ use Rattle.jsonpath_select.proofs.filters.SliceLemmas.{some_condition}
 use Rattle.jsonpath_select.proofs.machine.machine.Machine.lead_slice_to_end.Goals as goal
 
 pub lead_to_end-requires : goal.lead_to_end-requires
-lead_to_end-requires g c = λ k.
+lead_to_end-requires g c =
     let some = some_condition c.args.condition c.in-Some.condition c.requires.is.0 c.in-Some.is c.requires.is.1 in
     let ls = c.requires.there.0 in
-    ((refl, tt), (c.requires.steps, (filter (λ l. holds c.args.self.now.text.now (value_document c.args.self.now.root.now) some.0 l) ls, c.in_ok-kept-in-Some.ensures some.0 ls some.2 c.requires.there.1)))
+    record { steps = c.requires.steps; there = (filter (λ l. holds c.args.self.now.text.now (g.M.Mark.content c.args.self.now.root.now) some.0 l) ls, c.in_ok-kept-in-Some.ensures some.0 ls some.2 c.requires.there.1) }
 
 pub returns-in_ok-kept-in-Some : goal.returns-in_ok-kept-in-Some
 returns-in_ok-kept-in-Some g c =
     let text = c.args.self.now.text.now in
-    let doc = value_document c.args.self.now.root.now in
+    let doc = g.M.Mark.content c.args.self.now.root.now in
     IfOk-weaker c.lead_to_end.result _ _
     (λ found leads f ss ls is steps there.
     let some = some_condition c.args.condition c.in-Some.condition f c.in-Some.is is in

@@ -1,5 +1,4 @@
 use Rattle.std.proofs.Common.{◌≡◌, ◌+◌, List, ◌∷◌, length, refl, sym, ap, ◌∙◌, subst, length-append, arith, filter}
-use Rattle.jsonpath_nodes.specs.document.OfData.{value_document}
 use Rattle.jsonpath_nodes.specs.place.Location.{Location}
 use Rattle.jsonpath_nodes.specs.place.Mark.{MarksStandAt}
 use Rattle.jsonpath_select.specs.Meaning.{holds}
@@ -25,18 +24,18 @@ loop-way-smaller g c =
     omega (arith, lengths, c.instructions_after_condition-rest.ensures.within)
 
 pub marks_kept_by_filter-requires : goal.marks_kept_by_filter-requires
-marks_kept_by_filter-requires g c = λ k.
+marks_kept_by_filter-requires g c =
     let way = c.in-Some.way in
     let behind = c.in-Some.behind.now in
     let cut = c.in-Some.ensures.some in
     let h = c.loop-way.invariant c.requires.steps.0 c.requires.there.0 c.requires.steps.1 c.requires.there.1 in
-    let n = next_of c.args.self.now.text.now (value_document c.args.self.now.root.now) way.steps.now way.leaves way.deep behind h.0 cut.1 (subst (λ (is : List Instruction). CodesSteps is h.0) cut.0 h.2) in
-    ((refl, tt), (cut.1, ((n.0, (ends_condition behind c.condition_end-end.result n.0 n.1 n.2 c.condition_end-end.ensures.behind).0), (h.1, h.3))))
+    let n = next_of c.args.self.now.text.now (g.M.Mark.content c.args.self.now.root.now) way.steps.now way.leaves way.deep behind h.0 cut.1 (subst (λ (is : List Instruction). CodesSteps is h.0) cut.0 h.2) in
+    record { steps = cut.1; is = (n.0, (ends_condition behind c.condition_end-end.result n.0 n.1 n.2 c.condition_end-end.ensures.behind).0); there = (h.1, h.3) }
 
 pub loop-way-preserved : goal.loop-way-preserved
 loop-way-preserved g c = λ ss ls are there.
     let text = c.args.self.now.text.now in
-    let doc = value_document c.args.self.now.root.now in
+    let doc = g.M.Mark.content c.args.self.now.root.now in
     let way = c.in-Some.way in
     let behind = c.in-Some.behind.now in
     let end = c.condition_end-end.result in
@@ -53,7 +52,7 @@ loop-way-preserved g c = λ ss ls are there.
 
 pub returns : goal.returns
 returns g c =
-    let doc = value_document c.args.self.now.root.now in
+    let doc = g.M.Mark.content c.args.self.now.root.now in
     λ ss ls are there.
     let h = c.loop-way.invariant ss ls are there in
     subst (λ (ks : List Location). MarksStandAt g.M.Mark.located g.M.Mark.stand g.M.Mark.content doc ks c.in_ok-led.led.marks.items) (sym (h.4 ∙ plain_followed c.args.self.now.text.now doc c.loop-way.rest.now h.0 h.1 h.2 c.in_default.ensures.none)) (c.in_ok-led.ensures h.1 h.3).0

@@ -1,19 +1,18 @@
-use Rattle.std.proofs.Common.{List, [], ◌∷◌, refl, subst}
+use Rattle.std.proofs.Common.{List, [], ◌∷◌, subst}
 use Rattle.std.proofs.lemmas.Result.{IfOk-weaker}
-use Rattle.jsonpath_nodes.specs.document.OfData.{value_document}
 use Rattle.jsonpath_nodes.specs.place.Location.{Location}
 use Rattle.jsonpath_nodes.specs.place.Mark.{MarksStandAt}
 use Rattle.jsonpath_select.proofs.machine.SelectLemmas.{begins}
 use Rattle.jsonpath_select.proofs.machine.machine.Machine.select_list.Goals as goal
 
 pub lead_to_end-requires : goal.lead_to_end-requires
-lead_to_end-requires g c = λ k.
-    let b = begins c.args.self.now.text.now (value_document c.args.self.now.root.now) c.requires.0 c.args.code.now c.requires.1 in
-    ((refl, tt), ((b.0, b.1), ([] ∷ [], c.in_ok-root.ensures)))
+lead_to_end-requires g c =
+    let b = begins c.args.self.now.text.now (g.M.Mark.content c.args.self.now.root.now) c.requires.0 c.args.code.now c.requires.1 in
+    record { steps = (b.0, b.1); there = ([] ∷ [], c.in_ok-root.ensures) }
 
 pub returns : goal.returns
 returns g c =
-    let doc = value_document c.args.self.now.root.now in
+    let doc = g.M.Mark.content c.args.self.now.root.now in
     IfOk-weaker c.lead_to_end.result _ _
     (λ found leads p codes.
     let b = begins c.args.self.now.text.now doc p c.args.code.now codes in
@@ -21,13 +20,13 @@ returns g c =
     c.lead_to_end.ensures
 
 pub lead_on_to_end-requires : goal.lead_on_to_end-requires
-lead_on_to_end-requires g c = λ k.
-    let b = begins c.args.self.now.text.now (value_document c.args.self.now.root.now) c.requires.0 c.args.code.now c.requires.1 in
-    ((refl, tt), ((b.0, b.1), ([] ∷ [], c.in_ok-root.ensures)))
+lead_on_to_end-requires g c =
+    let b = begins c.args.self.now.text.now (g.M.Mark.content c.args.self.now.root.now) c.requires.0 c.args.code.now c.requires.1 in
+    record { steps = (b.0, b.1); there = ([] ∷ [], c.in_ok-root.ensures) }
 
 pub returns-then-keeps_what_leads_on : goal.returns-then-keeps_what_leads_on
 returns-then-keeps_what_leads_on g c =
-    let doc = value_document c.args.self.now.root.now in
+    let doc = g.M.Mark.content c.args.self.now.root.now in
     IfOk-weaker c.lead_on_to_end.result _ _
     (λ found leads p codes.
     let b = begins c.args.self.now.text.now doc p c.args.code.now codes in

@@ -1,5 +1,4 @@
-use Rattle.std.proofs.Common.{true, [], ◌∷◌, List, map, refl, ap, ◌∙◌, subst}
-use Rattle.jsonpath_nodes.specs.document.OfData.{value_document}
+use Rattle.std.proofs.Common.{true, [], ◌∷◌, List, map, ap, ◌∙◌, subst}
 use Rattle.jsonpath_nodes.specs.place.Location.{Location}
 use Rattle.jsonpath_nodes.specs.place.Mark.{MarksStandAt}
 use Rattle.jsonpath_nodes.specs.place.Order.{once_in_order}
@@ -13,26 +12,23 @@ use Rattle.jsonpath_select.proofs.tagged.TagLemmas.{path_from}
 use Rattle.jsonpath_select.proofs.machine.machine.Machine.select_set.Goals as goal
 
 pub execute_all-requires : goal.execute_all-requires
-execute_all-requires g c = λ k.
+execute_all-requires g c =
     let text = c.args.self.now.text.now in
-    let doc = value_document c.args.self.now.root.now in
+    let doc = g.M.Mark.content c.args.self.now.root.now in
     let p = c.requires.0 in
     let apart = c.equal_locations_are_same.ensures in
     let keeps = c.locations_once_in_order_ascend.ensures.members in
     let sets = c.steps_ignore_order_and_repeats.ensures in (
-      (refl, tt),
-      (
-        at_first,
-        path_left apart keeps sets.some text doc p,
-        c.in_ok-stacks.ensures,
-        ap (λ (js : List Instruction). run_all text doc js at_first) (ap (map instruction_of) c.as_slice.ensures.value ∙ c.in_ok-code.ensures ∙ ap all_by_sets c.requires.1.1) ∙ path_run apart keeps sets.some text doc p,
-      ),
+      at_first,
+      path_left apart keeps sets.some text doc p,
+      c.in_ok-stacks.ensures,
+      ap (λ (js : List Instruction). run_all text doc js at_first) (ap (map instruction_of) c.as_slice.ensures.value ∙ c.in_ok-code.ensures ∙ ap all_by_sets c.requires.1.1) ∙ path_run apart keeps sets.some text doc p,
     )
 
 pub pop_marks-requires : goal.pop_marks-requires
 pop_marks-requires g c =
     let text = c.args.self.now.text.now in
-    let doc = value_document c.args.self.now.root.now in
+    let doc = g.M.Mark.content c.args.self.now.root.now in
     let p = c.requires.0 in
     let apart = c.equal_locations_are_same.ensures in
     let keeps = c.locations_once_in_order_ascend.ensures.members in
@@ -45,7 +41,7 @@ pop_marks-requires g c =
 pub returns : goal.returns
 returns g c = λ p codes.
     let text = c.args.self.now.text.now in
-    let doc = value_document c.args.self.now.root.now in
+    let doc = g.M.Mark.content c.args.self.now.root.now in
     let apart = c.equal_locations_are_same.ensures in
     let keeps = c.locations_once_in_order_ascend.ensures.members in
     let sets = c.steps_ignore_order_and_repeats.ensures in

@@ -1,4 +1,3 @@
-use Rattle.jsonpath_nodes.specs.document.OfData.{value_document}
 use Rattle.jsonpath_select.specs.plan.Code as code
 use Rattle.jsonpath_select.proofs.machine.StepLemmas.{inside_frames, start_done}
 use Rattle.jsonpath_select.proofs.machine.machine.Machine.start_path.Goals as goal
@@ -8,5 +7,5 @@ innermost_candidates-requires g c = let h = c.requires in inside_frames g.M.Mark
 
 pub returns : goal.returns
 returns g c = λ s t h e.
-    start_done g.M.Mark.located g.M.Mark.stand g.M.Mark.content c.args.self.now.text.now (value_document c.args.self.now.root.now) c.args.absolute s.frames s.operands t c.args.stacks.now.frames.items c.innermost_candidates.ensures.0 c.innermost_candidates.result.now c.in_ok-found.found c.args.stacks.now.operands.items c.push.new.self.items
+    start_done g.M.Mark.located g.M.Mark.stand g.M.Mark.content c.args.self.now.text.now (g.M.Mark.content c.args.self.now.root.now) c.args.absolute s.frames s.operands t c.args.stacks.now.frames.items c.innermost_candidates.ensures.0 c.innermost_candidates.result.now c.in_ok-found.found c.args.stacks.now.operands.items c.push.new.self.items
     h.0 h.1 e c.innermost_candidates.ensures.1 (λ cand shows. c.in_ok-found.ensures cand.pairs shows.1) c.in_ok-push.ensures.items

@@ -23,9 +23,9 @@ by_name text key leaves token span doc without is named_so =
     ((λ cand os. ap (λ (k : List ℕ). top_led (λ ls. step doc (named k) ls) cand os) (sym named_so)), (λ s. refl)))
 
 pub lead_top-requires : goal.lead_top-requires
-lead_top-requires g c = λ k.
+lead_top-requires g c =
     let text = c.args.self.now.text.now in
-    ((refl, tt), can_lead g.M.Mark.located g.M.Mark.stand g.M.Mark.content text (plain_step c.args.leaves c.args.token.now) (λ doc. stepped text doc c.args.leaves c.args.token.now) c.args.stacks.now (by_step text c.args.leaves c.args.token.now) c.requires)
+    (can_lead g.M.Mark.located g.M.Mark.stand g.M.Mark.content text (plain_step c.args.leaves c.args.token.now) (λ doc. stepped text doc c.args.leaves c.args.token.now) c.args.stacks.now (by_step text c.args.leaves c.args.token.now) c.requires)
 
 pub returns-in_ok-key-in-false-Key : goal.returns-in_ok-key-in-false-Key
 returns-in_ok-key-in-false-Key g c =
@@ -37,9 +37,9 @@ returns-in_ok-key-in-false-Key g c =
     c.lead_top.ensures
 
 pub lead_top-requires-in_default : goal.lead_top-requires-in_default
-lead_top-requires-in_default g c = λ k.
+lead_top-requires-in_default g c =
     let text = c.args.self.now.text.now in
-    ((refl, tt), can_lead g.M.Mark.located g.M.Mark.stand g.M.Mark.content text (plain_step c.args.leaves c.args.token.now) (λ doc. stepped text doc c.args.leaves c.args.token.now) c.args.stacks.now (by_step text c.args.leaves c.args.token.now) c.requires)
+    (can_lead g.M.Mark.located g.M.Mark.stand g.M.Mark.content text (plain_step c.args.leaves c.args.token.now) (λ doc. stepped text doc c.args.leaves c.args.token.now) c.args.stacks.now (by_step text c.args.leaves c.args.token.now) c.requires)
 
 pub returns-in_default : goal.returns-in_default
 returns-in_default g c =

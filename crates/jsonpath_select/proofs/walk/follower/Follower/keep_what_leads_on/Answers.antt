@@ -10,10 +10,10 @@ loop-number-init g c = (
   c.requires,
   omega arith,
   λ ordered each.
-      let doc = g.G.Marked.whole c.args.self.now.document in
+      let doc = g.M.Mark.content c.args.self.now.root.now in
       let ss = c.args.steps.now in (
         λ k t before. each k t (omega (arith, c.requires, before)),
-        λ k t from inside. subst (λ (ls : List Location). AreAt g.G.Marked.located g.G.Marked.stand g.G.Marked.content doc ls (get_or c.args.sets.items k t)) (last_leads c.args.self.now.sets c.args.self.now.text.now doc ss (suc k) from) (each k t inside),
+        λ k t from inside. subst (λ (ls : List Location). AreAt g.M.Mark.located g.M.Mark.stand g.M.Mark.content doc ls (get_or c.args.sets.items k t)) (last_leads c.args.self.now.sets c.args.self.now.text.now doc ss (suc k) from) (each k t inside),
       ),
 )
 
@@ -22,12 +22,12 @@ loop-number-preserved g c = (
   length-set c.loop-number.kept.items (c.loop-number.number - 1 - 1) c.in_ok-kept.field-0 ∙ c.loop-number.invariant.0,
   omega (arith, c.loop-number.invariant.1),
   λ ordered each.
-      let located = g.G.Marked.located in
-      let stand = g.G.Marked.stand in
-      let content = g.G.Marked.content in
+      let located = g.M.Mark.located in
+      let stand = g.M.Mark.stand in
+      let content = g.M.Mark.content in
       let sets = c.args.self.now.sets in
       let text = c.args.self.now.text.now in
-      let doc = g.G.Marked.whole c.args.self.now.document in
+      let doc = g.M.Mark.content c.args.self.now.root.now in
       let ss = c.args.steps.now in
       let all = c.loop-number.kept.items in
       let m : ℕ = c.loop-number.number - 1 - 1 in
@@ -36,10 +36,10 @@ loop-number-preserved g c = (
       let before : c.loop-number.number - 1 < length ss = omega (arith, c.loop-number.invariant.1, c.loop-number-test.true) in
       let back = c.loop-number.invariant.2 ordered each in
       let here : AreAt located stand content doc (set_from_root sets text doc ss (c.loop-number.number - 1)) c.index.result.now =
-      subst (λ (t : TaggedMarks g.row.G-Mark.Denot). AreAt located stand content doc (set_from_root sets text doc ss (c.loop-number.number - 1)) t) (sym c.index.ensures)
+      subst (λ (t : TaggedMarks g.row.M.Denot). AreAt located stand content doc (set_from_root sets text doc ss (c.loop-number.number - 1)) t) (sym c.index.ensures)
       (subst (λ (n : ℕ). AreAt located stand content doc (set_from_root sets text doc ss n) (get_or all m c.index.result.now)) (sym one) (back.0 m c.index.result.now (omega (arith, two)))) in
       let ahead : AreAt located stand content doc (leading_from_root sets text doc ss (suc (c.loop-number.number - 1))) c.index-in-loop-number.result.now =
-      subst (λ (t : TaggedMarks g.row.G-Mark.Denot). AreAt located stand content doc (leading_from_root sets text doc ss (suc (c.loop-number.number - 1))) t) (sym c.index-in-loop-number.ensures)
+      subst (λ (t : TaggedMarks g.row.M.Denot). AreAt located stand content doc (leading_from_root sets text doc ss (suc (c.loop-number.number - 1))) t) (sym c.index-in-loop-number.ensures)
       (back.1 (c.loop-number.number - 1) c.index-in-loop-number.result.now (omega (arith, two)) (omega (arith, before, c.loop-number.invariant.0))) in
       let new = subst (λ (ls : List Location). AreAt located stand content doc ls c.in_ok-kept.field-0) (leading_back c.equal_locations_are_same.ensures c.locations_once_in_order_ascend.ensures.members c.steps_ignore_order_and_repeats.ensures.each_once c.steps_ignore_order_and_repeats.ensures.some c.steps_ignore_order_and_repeats.ensures.step c.steps_ignore_order_and_repeats.ensures.candidates c.steps_ignore_order_and_repeats.ensures.kept c.topmost_descend_to_same_set.ensures.below c.topmost_descend_to_same_set.ensures.step c.dropping_repeats_keeps_the_set.ensures.condition sets text doc ordered ss (c.loop-number.number - 1) c.index-steps-number.result before c.index-steps-number.is)
       (c.in_ok-kept.ensures (set_from_root sets text doc ss (c.loop-number.number - 1)) (leading_from_root sets text doc ss (suc (c.loop-number.number - 1))) here ahead) in

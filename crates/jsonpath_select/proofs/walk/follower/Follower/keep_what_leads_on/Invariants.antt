@@ -7,9 +7,9 @@ use Rattle.jsonpath_select.proofs.walk.follower.Follower.keep_what_leads_on.Give
 abbrev pub invariant-loop-number : goal.invariant-loop-number
 invariant-loop-number g l =
     (length l.kept.items ≡ length l.steps) × (l.number ≤ length l.steps)
-    × (IsOrderedDocument (g.G.Marked.whole l.self.document)
-    → AreAfterEach g.G.Marked.located g.G.Marked.stand g.G.Marked.content (g.G.Marked.whole l.self.document) (set_from_root l.self.sets l.self.text.now (g.G.Marked.whole l.self.document) l.steps) l.fn.sets.items
-    → BackTo g.G.Marked.located g.G.Marked.stand g.G.Marked.content (g.G.Marked.whole l.self.document) (set_from_root l.self.sets l.self.text.now (g.G.Marked.whole l.self.document) l.steps) (leading_from_root l.self.sets l.self.text.now (g.G.Marked.whole l.self.document) l.steps) l.number l.kept.items)
+    × (IsOrderedDocument (g.M.Mark.content l.self.root.now)
+    → AreAfterEach g.M.Mark.located g.M.Mark.stand g.M.Mark.content (g.M.Mark.content l.self.root.now) (set_from_root l.self.sets l.self.text.now (g.M.Mark.content l.self.root.now) l.steps) l.fn.sets.items
+    → BackTo g.M.Mark.located g.M.Mark.stand g.M.Mark.content (g.M.Mark.content l.self.root.now) (set_from_root l.self.sets l.self.text.now (g.M.Mark.content l.self.root.now) l.steps) (leading_from_root l.self.sets l.self.text.now (g.M.Mark.content l.self.root.now) l.steps) l.number l.kept.items)
 
 abbrev pub decreases-loop-number : goal.decreases-loop-number
 decreases-loop-number g l = l.number

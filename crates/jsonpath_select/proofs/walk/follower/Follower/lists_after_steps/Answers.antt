@@ -16,7 +16,7 @@ pub loop-step-preserved : goal.loop-step-preserved
 loop-step-preserved g c = λ ordered ps shows.
     let sets = c.args.self.now.sets in
     let text = c.args.self.now.text.now in
-    let doc = g.G.Marked.whole c.args.self.now.document in
+    let doc = g.M.Mark.content c.args.self.now.root.now in
     let s = c.step-item.result in
     let inv = c.loop-step.invariant ordered ps shows in
     let led : List Location = led_in sets text doc (inner_of s.inner) s.leaves inv.0 in
@@ -30,7 +30,7 @@ loop-step-preserved g c = λ ordered ps shows.
 
 pub returns : goal.returns
 returns g c = λ ordered ps shows.
-    let doc = g.G.Marked.whole c.args.self.now.document in
+    let doc = g.M.Mark.content c.args.self.now.root.now in
     let inv = c.loop-step.invariant ordered ps shows in
     let none : drop c.loop-step.step-index c.args.steps.now ≡ [] = drop_of_length-le c.args.steps.now {i = c.loop-step.step-index} c.loop-step-test.false in
     (spread (λ place. inv.0) 0 ([] ∷ []), inv.1, places_alone 0 inv.0 ∙ ap (λ (rest : List ParserStep). follow c.args.self.now.text.now doc (steps_of_list rest) inv.0) (sym none) ∙ inv.2)

@@ -10,7 +10,7 @@ use Rattle.jsonpath_select.proofs.walk.follower.Follower.lists_after_steps.Given
 -- the steps that are left lead from where the marks are now to where all steps lead
 abbrev pub invariant-loop-step : goal.invariant-loop-step
 invariant-loop-step g l =
-    IsOrderedDocument (g.G.Marked.whole l.self.document) → (ps : List Tagged) → Shows g.G.Marked.located g.G.Marked.stand g.G.Marked.content (g.G.Marked.whole l.self.document) ps l.root
+    IsOrderedDocument (g.M.Mark.content l.self.root.now) → (ps : List Tagged) → Shows g.M.Mark.located g.M.Mark.stand g.M.Mark.content (g.M.Mark.content l.self.root.now) ps l.root
     → (ls : List Location)
-    × Shows g.G.Marked.located g.G.Marked.stand g.G.Marked.content (g.G.Marked.whole l.self.document) (spread (λ place. ls) 0 ([] ∷ [])) l.current
-    × (follow l.self.text.now (g.G.Marked.whole l.self.document) (steps_of_list (drop l.step-index l.steps)) ls ≡ follow l.self.text.now (g.G.Marked.whole l.self.document) (steps_of_list l.steps) ([] ∷ []))
+    × Shows g.M.Mark.located g.M.Mark.stand g.M.Mark.content (g.M.Mark.content l.self.root.now) (spread (λ place. ls) 0 ([] ∷ [])) l.current
+    × (follow l.self.text.now (g.M.Mark.content l.self.root.now) (steps_of_list (drop l.step-index l.steps)) ls ≡ follow l.self.text.now (g.M.Mark.content l.self.root.now) (steps_of_list l.steps) ([] ∷ []))

@@ -13,9 +13,9 @@ use Rattle.jsonpath_select.proofs.walk.follower.Follower.lists_among.Given as go
 -- the marks stand among the places of the set, and the steps that are left lead from them to where all steps lead
 abbrev pub invariant-loop-number : goal.invariant-loop-number
 invariant-loop-number g l =
-    IsOrderedDocument (g.G.Marked.whole l.self.document) → (ps : List Tagged) → Shows g.G.Marked.located g.G.Marked.stand g.G.Marked.content (g.G.Marked.whole l.self.document) ps l.root
-    → AreAfterEach g.G.Marked.located g.G.Marked.stand g.G.Marked.content (g.G.Marked.whole l.self.document) (leading_from_root l.self.sets l.self.text.now (g.G.Marked.whole l.self.document) l.steps) l.kept
+    IsOrderedDocument (g.M.Mark.content l.self.root.now) → (ps : List Tagged) → Shows g.M.Mark.located g.M.Mark.stand g.M.Mark.content (g.M.Mark.content l.self.root.now) ps l.root
+    → AreAfterEach g.M.Mark.located g.M.Mark.stand g.M.Mark.content (g.M.Mark.content l.self.root.now) (leading_from_root l.self.sets l.self.text.now (g.M.Mark.content l.self.root.now) l.steps) l.kept
     → (ls : List Location)
-    × Shows g.G.Marked.located g.G.Marked.stand g.G.Marked.content (g.G.Marked.whole l.self.document) (spread (λ place. ls) 0 ([] ∷ [])) l.current
-    × AllByRecursion (IsThere (set_from_root l.self.sets l.self.text.now (g.G.Marked.whole l.self.document) l.steps l.number)) ls
-    × (follow l.self.text.now (g.G.Marked.whole l.self.document) (steps_of_list (drop l.number l.steps)) ls ≡ follow l.self.text.now (g.G.Marked.whole l.self.document) (steps_of_list l.steps) ([] ∷ []))
+    × Shows g.M.Mark.located g.M.Mark.stand g.M.Mark.content (g.M.Mark.content l.self.root.now) (spread (λ place. ls) 0 ([] ∷ [])) l.current
+    × AllByRecursion (IsThere (set_from_root l.self.sets l.self.text.now (g.M.Mark.content l.self.root.now) l.steps l.number)) ls
+    × (follow l.self.text.now (g.M.Mark.content l.self.root.now) (steps_of_list (drop l.number l.steps)) ls ≡ follow l.self.text.now (g.M.Mark.content l.self.root.now) (steps_of_list l.steps) ([] ∷ []))

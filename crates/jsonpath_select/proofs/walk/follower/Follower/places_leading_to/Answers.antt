@@ -14,10 +14,10 @@ use Rattle.jsonpath_select.proofs.walk.follower.Follower.places_leading_to.Goals
 
 pub returns : goal.returns
 returns g c = λ ls ms here ahead.
-    let located = g.G.Marked.located in
-    let stand = g.G.Marked.stand in
-    let content = g.G.Marked.content in
-    let doc = g.G.Marked.whole c.args.self.now.document in
+    let located = g.M.Mark.located in
+    let stand = g.M.Mark.stand in
+    let content = g.M.Mark.content in
+    let doc = g.M.Mark.content c.args.self.now.root.now in
     let s = c.args.step.now in
     let qs = here.0 in
     let cs = places qs in
@@ -31,9 +31,9 @@ returns g c = λ ls ms here ahead.
     ∙ ap (λ n. some_tags 0 n (filter (λ (p : Tagged). is_among ms p.1) (spread led 0 cs))) count
     ∙ ap (some_tags 0 (length cs)) (filter-spread (is_among ms) led 0 cs)
     ∙ some_tags-spread (λ l. filter (is_among ms) (led l)) 0 cs in
-    let kept = c.in_ok-keep_at_indexes.ensures doc (spread itself 0 cs) (c.in_ok-copies.ensures qs here.1).1 in
+    let kept = c.in_ok-keep_marks_at_indexes.ensures doc (spread itself 0 cs) (c.in_ok-copies.ensures qs here.1).1 in
     let those = kept_numbers test (spread itself 0 cs) c.as_slice.result.now (c.as_slice.ensures.value ∙ numbers ∙ ap (numbers_where test 0) (sym (places_itself 0 cs))) in (
       filter (λ (p : Tagged). test p.1) (spread itself 0 cs),
-      subst (λ (ps : List Tagged). Shows located stand content doc ps c.in_ok-keep_at_indexes.field-0) those kept,
+      subst (λ (ps : List Tagged). Shows located stand content doc ps c.in_ok-keep_marks_at_indexes.field-0) those kept,
       places_filter test (spread itself 0 cs) ∙ ap (filter test) (places_itself 0 cs ∙ here.2),
     )

@@ -17,12 +17,12 @@ loop-step-init g c =
 
 pub loop-step-preserved : goal.loop-step-preserved
 loop-step-preserved g c =
-    let located = g.G.Marked.located in
-    let stand = g.G.Marked.stand in
-    let content = g.G.Marked.content in
+    let located = g.M.Mark.located in
+    let stand = g.M.Mark.stand in
+    let content = g.M.Mark.content in
     let sets = c.args.self.now.sets in
     let text = c.args.self.now.text.now in
-    let doc = g.G.Marked.whole c.args.self.now.document in
+    let doc = g.M.Mark.content c.args.self.now.root.now in
     let ss = c.args.steps.now in
     let i = c.loop-step.step-index in
     let s = c.step-item.result in
@@ -34,7 +34,7 @@ loop-step-preserved g c =
           let next = c.in_ok-next.ensures (λ place. set_from_root sets text doc ss i) ([] ∷ []) refl inv.1 in
           let copies = (c.in_ok-copies.ensures (spread (λ place. set_after sets text doc (inner_of s.inner) s.leaves (set_from_root sets text doc ss i)) 0 ([] ∷ [])) next).1 in
           let last : AreAt located stand content doc (set_from_root sets text doc ss (suc i)) c.in_ok-copies.field-0.pairs = (_, copies, places_itself 0 _ ∙ places_alone 0 _ ∙ after) in (
-            subst (λ (all : List (TaggedMarks g.row.G-Mark.Denot)). AreAfterEach located stand content doc (set_from_root sets text doc ss) all) (sym c.in_ok-push_places.ensures)
+            subst (λ (all : List (TaggedMarks g.row.M.Denot)). AreAfterEach located stand content doc (set_from_root sets text doc ss) all) (sym c.in_ok-push_places.ensures)
                 (push_each located stand content doc (set_from_root sets text doc ss) c.loop-step.sets.items c.in_ok-copies.field-0.pairs inv.0
                 (subst (λ n. AreAt located stand content doc (set_from_root sets text doc ss (suc n)) c.in_ok-copies.field-0.pairs) (sym c.loop-step.invariant.0) last)),
             rw add-one (subst (λ (ls : List Location). Shows located stand content doc (spread (λ place. ls) 0 ([] ∷ [])) c.in_ok-next.next) after next),

@@ -9,11 +9,11 @@ use Rattle.jsonpath_select.proofs.walk.follower.Follower.topmost_before_descent.
 
 pub returns-then-leaves : goal.returns-then-leaves
 returns-then-leaves g c =
-    let located = g.G.Marked.located in
-    let stand = g.G.Marked.stand in
-    let content = g.G.Marked.content in
-    IfOk-weaker c.lead.result _ _
+    let located = g.M.Mark.located in
+    let stand = g.M.Mark.stand in
+    let content = g.M.Mark.content in
+    IfOk-weaker c.lead_marks_of_candidates.result _ _
     (λ led leads doc f ls n shows.
     let found = turned located stand content doc topmost f ls c.args.lists led n (leads doc (spread f 0 ls) shows) in
     subst (λ (b : Bool). Shows located stand content doc (spread (λ (l : Location). cond b (topmost (f l)) (f l)) 0 ls) led) (sym c.if-leaves.true) found)
-    c.lead.ensures
+    c.lead_marks_of_candidates.ensures
