@@ -7,7 +7,7 @@ use Rattle.jsonpath_nodes.specs.place.Location.{Location, at}
 use Rattle.jsonpath_nodes.specs.step.Steps.{every, step, all_below, flattened}
 use Rattle.jsonpath_nodes.specs.compare.Comparisons.{Seen, seen}
 use Rattle.jsonpath_nodes.specs.place.Order.{once_in_order}
-use Rattle.jsonpath_nodes.specs.place.SpotPlace.{StandAt, location_of}
+use Rattle.jsonpath_nodes.specs.place.SpotPlace.{StandAt}
 use Rattle.jsonpath_nodes.specs.declared.place.spot.Spot.{Spot}
 use Rattle.jsonpath_paths.specs.OfPath.{OfPath}
 use Rattle.jsonpath_select.specs.Parts.{plain_of, literals, has_pair, joined}
@@ -94,9 +94,9 @@ SelectsAt text doc locations = OfPath text (λ path. locations ≡ sel text doc 
 abbrev pub Selects : List ℕ → Document → List Document → Type 0
 Selects text doc values = OfPath text (λ path. values ≡ answer text doc path)
 
--- in document order, each once, the spots' locations are those that the path selects
+-- the spots stand at locations of the document that are, in document order and each once, those that the path selects
 abbrev pub SelectsSet : List ℕ → Document → List Spot → Type 0
-SelectsSet text doc spots = OfPath text (λ path. once_in_order (map location_of spots) ≡ once_in_order (sel text doc path))
+SelectsSet text doc spots = OfPath text (λ path. (ls : List Location) × StandAt doc ls spots × (once_in_order ls ≡ once_in_order (sel text doc path)))
 
 -- the spots stand, in this order, at what the path selects in the document
 abbrev pub SelectsSpots : List ℕ → Document → List Spot → Type 0

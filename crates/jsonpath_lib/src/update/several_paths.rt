@@ -9,8 +9,10 @@ ghost use Rattle.jsonpath_nodes.specs.place.SpotPlace.{location_of};
 ghost use Rattle.jsonpath_lib.specs.update.Masked.{AreSelected, AreTargetsOfAll, ArePathsRefused, paths_fault_text};
 
 use crate::compiled::path_texts::{PathsFault, compile_paths, write_paths_fault};
-use jsonpath_nodes::laws::{locations_once_in_order_ascend, steps_ignore_order_and_repeats};
-use jsonpath_nodes::{Location, Spot, compute_paths};
+use jsonpath_nodes::laws::{
+    locations_once_in_order_ascend, spots_show_their_locations, steps_ignore_order_and_repeats,
+};
+use jsonpath_nodes::{Location, Spot, compute_paths, in_document_order};
 use jsonpath_paths::PathParser;
 use jsonpath_select::{JsonPathError, select_path_in_any_order};
 use serde_json::Value;
@@ -108,6 +110,9 @@ pub(crate) fn targets_of_all(
     Ok(found)
 }
 
+// So many spots are put together before what comes twice among them is dropped.
+const FEW: usize = 65_536;
+
 // Spots at what any of the paths selects in the value, as a set: in any order, with or without repeats.
 fn select_paths_in_any_order<'a>(
     alloc: Global,
@@ -119,10 +124,16 @@ fn select_paths_in_any_order<'a>(
 {
     locations_once_in_order_ascend();
     steps_ignore_order_and_repeats();
+    spots_show_their_locations();
     let mut spots = Vec::new(alloc);
+    let mut most = FEW;
     for path in paths {
         let mut found = select_path_in_any_order(alloc, value, path)?;
         spots.append(&mut found)?;
+        if spots.as_slice().len() > most {
+            spots = in_document_order(alloc, spots.as_slice())?;
+            most = FEW.saturating_add(spots.as_slice().len().saturating_mul(2));
+        }
     }
     Ok(spots)
 }

@@ -170,15 +170,16 @@ module _ (apart : (l m : Location) → location_cmp l m ≡ Equal → l ≡ m) (
         ∙ sym (law text doc (steps_of_list (drop (suc n) ss)) (inner_on text doc (inner_of s.inner) s.leaves ls))
         ∙ sym (ap (λ (rest : List ParserStep). follow text doc (steps_of_list rest) ls) (step_left ss n s within is)) ∙ follows
 
+-- no steps lead from each place to itself
+pub all_lead : (text : List ℕ) (doc : Document) (ls : List Location) → ls ≡ filter (λ l. holds text doc (lone (path false tree.no_steps)) l) ls
+all_lead text doc [] = refl
+all_lead text doc (l ∷ ls) = ap (λ (ms : List Location). l ∷ ms) (all_lead text doc ls)
+
 -- behind the last step all places lead on
 pub last_leads : (sets : Bool) (text : List ℕ) (doc : Document) (ss : List ParserStep) (n : ℕ) → length ss ≤ n → set_from_root sets text doc ss n ≡ leading_from_root sets text doc ss n
 last_leads sets text doc ss n over =
     let none : drop n ss ≡ [] = drop_of_length-le ss {i = n} over in
-    all_lead (set_from_root sets text doc ss n) ∙ sym (ap (λ (rest : List ParserStep). filter (λ l. holds text doc (lone (path false (steps_of_list rest))) l) (set_from_root sets text doc ss n)) none)
-  where
-    all_lead : (ls : List Location) → ls ≡ filter (λ l. holds text doc (lone (path false tree.no_steps)) l) ls
-    all_lead [] = refl
-    all_lead (l ∷ ls) = ap (λ (ms : List Location). l ∷ ms) (all_lead ls)
+    all_lead text doc (set_from_root sets text doc ss n) ∙ sym (ap (λ (rest : List ParserStep). filter (λ l. holds text doc (lone (path false (steps_of_list rest))) l) (set_from_root sets text doc ss n)) none)
 
 -- ---- how the places are held
 

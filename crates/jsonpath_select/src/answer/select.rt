@@ -14,7 +14,6 @@ use crate::error::JsonPathError;
 use crate::machine::machine::Machine;
 use crate::machine::manner::manner_of_token_list;
 use crate::walk::follower::Follower;
-use jsonpath_nodes::laws::spots_show_their_locations;
 use jsonpath_nodes::{Halt, Spot, Tree};
 use jsonpath_paths::{ParseToken, PathParser};
 use serde_json::Value;
@@ -177,7 +176,6 @@ pub(crate) fn spot_set_by_parts<'a>(
     ensures ok { IfOk result (λ found. SelectsSet path.entry.text.now (document_of (view json.now)) found.items) }
     ensures refused { IfErr result (λ e. e ≡ JsonPathError.OutOfMemory) }
 {
-    spots_show_their_locations();
     let machine = Machine {
         alloc,
         root: &Spot::root(alloc, json),

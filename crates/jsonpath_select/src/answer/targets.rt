@@ -10,6 +10,7 @@ ghost use Rattle.jsonpath_select.specs.Targets.{AreTargets};
 use crate::answer::select::spot_set_by_parts;
 use crate::compile::any_path::PathParts;
 use crate::error::JsonPathError;
+use jsonpath_nodes::laws::spots_show_their_locations;
 use jsonpath_nodes::{Location, compute_paths};
 use serde_json::Value;
 use std::alloc::Global;
@@ -25,6 +26,7 @@ pub(crate) fn targets_of(
     ensures ordered { IfOk result (λ found. IsStrictlySortedBy location_cmp found.items) }
     ensures refused { IfErr result (λ e. e ≡ JsonPathError.OutOfMemory) }
 {
+    spots_show_their_locations();
     let spots = spot_set_by_parts(alloc, value, path)?;
     let found = compute_paths(alloc, spots.as_slice())?;
     Ok(found)

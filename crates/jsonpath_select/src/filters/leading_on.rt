@@ -44,7 +44,7 @@ impl<'r, 't, M: Carried> Machine<'r, 't, M> {
         Ok(found.marks)
     }
 
-    // Those of the marks from which the steps with these instructions lead to something.
+    // Those of the marks from which the steps with these instructions lead to something: all, if there is no step.
     fn keep_leading_on(
         &self,
         steps: &[Instruction<'_>],
@@ -55,12 +55,15 @@ impl<'r, 't, M: Carried> Machine<'r, 't, M> {
         ensures { IfOk result (λ found. (ss : PathSteps) (ls : List Location) → CodesSteps steps.now ss → MarksStandAt M.located M.stand M.content (M.content self.now.root.now) ls marks.items
             → AreStanding M.located M.stand M.content (M.content self.now.root.now) (filter (λ l. holds self.now.text.now (M.content self.now.root.now) (lone (path false ss)) l) ls) found) }
     {
+        let standing = Standing::Unknown;
+        if steps.is_empty() {
+            return Ok(StandingMarks { standing, marks });
+        }
         let machine = Machine {
             by_sets: true,
             ..*self
         };
         let condition = lone_condition(self.alloc, steps)?;
-        let standing = Standing::Unknown;
         machine.keep_passing_with_standing(condition.as_slice(), StandingMarks { standing, marks })
     }
 }

@@ -1,8 +1,6 @@
-use Rattle.std.proofs.Common.{map}
 use Rattle.jsonpath_nodes.specs.document.OfData.{value_document}
-use Rattle.jsonpath_nodes.specs.place.SpotPlace.{location_of}
 use Rattle.jsonpath_lib.proofs.FoundLemmas.{Completes}
 use Rattle.jsonpath_lib.proofs.update.several_paths.select_paths_in_any_order.Given as goal
 
 abbrev pub invariant-loop-path : goal.invariant-loop-path
-invariant-loop-path l = Completes l.paths l.path-index (value_document l.value) (map location_of l.spots.items)
+invariant-loop-path l = Completes l.paths l.path-index (value_document l.value) l.spots.items
