@@ -88,16 +88,16 @@ judge 'no folder named, and a HOME that is a file' 73 "install: $work/file/.loca
 
 # What is refused, before anything is built or written.
 tries "$here/install" "$work/bin" "$work/other"
-judge 'two folders' 2 'install: usage: ./install \[FOLDER\]'
-tries "$here/install" --frob
-judge 'an option' 2 'install: usage: ./install \[FOLDER\]*'
+judge 'two folders' 2 'install: usage: ./install \[FOLDER\]*--help'
+tries "$here/install" --hlep
+judge 'an option' 2 'install: no option --hlep,*usage: ./install \[FOLDER\]*--help'
 for words in -h --help; do
     (cd "$work/elsewhere" && "$here/install" "$words") > "$work/help" 2> "$work/error"
     holds "$words: what it does, and how long it takes" grep -q 'half an hour' "$work/help"
     holds "$words: nothing on standard error" [ ! -s "$work/error" ]
 done
 tries "$here/install" ''
-judge 'an empty name' 2 'install: usage: ./install \[FOLDER\]*'
+judge 'an empty name' 2 'install: *empty; usage: ./install \[FOLDER\]*--help'
 tries "$here/install" "$work/nowhere"
 judge 'a folder that is not there' 73 "install: there is no folder $work/nowhere: make it first*"
 holds 'it is not made' [ ! -e "$work/nowhere" ]
@@ -127,7 +127,7 @@ tries "$work/clone/install" "$work/bin"
 judge 'a build to come' 70 'install: both programs are proved*half an hour*'
 holds './test --help' grep -q 'N passed' <<< "$("$here/test" --help)"
 tries "$here/test" frob
-judge 'a word for ./test' 2 'usage: ./test'
+judge 'a word for ./test' 2 'usage: ./test \[--help\]'
 
 # The manuals are formatted without a warning.
 for manual in jpath.1 jsonpath_run.1; do

@@ -33,8 +33,8 @@ TEXT
     exit 0
 }
 
-usage_of_run='usage: ./run [--unproved] select|delete|remove|check PATH | mask PATH.. | ./run --unproved jpath WORDS..'
-usage_of_jpath='usage: ./run --unproved jpath [OPTIONS] PATH [FILE..] | [OPTIONS] -e PATH.. [FILE..] | [OPTIONS] EDIT.. [FILE..]'
+usage_of_run='usage: ./run [--unproved] select|delete|remove|check PATH | mask PATH.. | ./run --unproved jpath WORDS.. | ./run --help'
+usage_of_jpath='usage: ./run --unproved jpath [OPTIONS] PATH [FILE..] | [OPTIONS] -e PATH.. [FILE..] | [OPTIONS] EDIT.. [FILE..] | --help'
 
 are_words_of_run() {
     case ${1-} in

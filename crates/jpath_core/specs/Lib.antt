@@ -4,3 +4,4 @@ pub mod Images
 pub mod Matches
 pub mod Printable
 pub mod Renumbered
+pub mod Rows

@@ -1,19 +1,27 @@
 -- What is written for the matches of a path in one document.
-use Rattle.std.specs.Prelude.{◌≡◌, ℕ, true, false, List, [], ◌∷◌, ◌++◌, flat_map, length, Option, Some, None}
+use Rattle.std.specs.Prelude.{◌≡◌, ℕ, ◌-◌, ◌^◌, min, Bool, true, false, if◌then◌else◌, List, [], ◌∷◌, ◌++◌, flat_map, filter_map, length, Option, Some, None}
 use Rattle.json.specs.Json.{Json}
+use Rattle.json.specs.Value.{value_view}
 use Rattle.serde_json.specs.Data.{Data}
+use Rattle.serde_json.specs.View.{view}
 use Rattle.jsonpath_paths.specs.tree.Tree.{Path}
 use Rattle.jsonpath_nodes.specs.document.OfData.{document_of}
 use Rattle.jsonpath_nodes.specs.place.Location.{Location}
 use Rattle.jsonpath_nodes.specs.place.LocationText.{location_text}
-use Rattle.jsonpath_select.specs.Meaning.{sel}
+use Rattle.jsonpath_select.specs.Meaning.{sel, SelectsAt}
 use Rattle.jpath_edits.specs.ExactAt.{exact_at}
 use Rattle.jpath_core.specs.Printable.{printable}
+use Rattle.jpath_texts.specs.AtDepth.{arranged, array_item, array_end, comma_and_indent, is_compact}
 use Rattle.jpath_texts.specs.Entries.{entry_lines, length_of, length_value}
-use Rattle.jpath_texts.specs.Lines.{on_line, shown, with_members_kept}
+use Rattle.jpath_texts.specs.Lines.{compact, on_line, shown, with_members_kept}
+use Rattle.jpath_texts.specs.NumberPlaces.{is_as_read}
+use Rattle.jpath_texts.specs.declared.document.Document.{Document}
 use Rattle.jpath_texts.specs.declared.output.match_line.Line.{Line}
 use Rattle.jpath_texts.specs.declared.output.match_line.Shown.{Shown}
 use Rattle.jpath_texts.specs.declared.output.match_line.Shown.TheVariants.{Values, Places, PlacesAndValues, Keys, Entries, Lengths}
+use Rattle.jpath_texts.specs.declared.output.look.Layout.TheVariants.{OneLine}
+use Rattle.jpath_texts.specs.declared.output.look.Look.{Look}
+use Rattle.jpath_texts.specs.declared.query.Query.{Query}
 
 -- the lines of a value at a place: of the value, its place, or both with a tab between; of its names; of its length
 abbrev pub text_by : Shown → Line → Location → Json → List ℕ
@@ -39,3 +47,39 @@ lines_text line j ls = flat_map (λ l. match_text_if line l (exact_at j l)) ls
 pub record AddsMatches (spelled : List ℕ) (line : Line) (exact : Json) (image : Data) (before after : List ℕ) (count : ℕ) (p : Path) : Type 0 where
   pub written : after ≡ before ++ lines_text line exact (sel spelled (document_of image) p)
   pub counted : count ≡ length (sel spelled (document_of image) p)
+
+-- ---- several paths
+
+-- what several paths select: the locations of the first path, then those of the second, and so on, with repeats
+pub data SelectInTurn (image : Data) : List Query → List Location → Type 0 where
+  nothing : SelectInTurn image [] []
+  path_first : {query : Query} {queries : List Query} {first others : List Location} → SelectsAt query.path (document_of image) first → SelectInTurn image queries others
+      → SelectInTurn image (query ∷ queries) (first ++ others)
+
+-- the number of locations that the paths select, or the greatest `usize`
+pub record IsCountOf (queries : List Query) (image : Data) (count : ℕ) : Type 0 where
+  pub locations : List Location
+  pub in_turn : SelectInTurn image queries locations
+  pub counted : count ≡ min (length locations) (2 ^ 64 - 1)
+
+-- The values stand in the document at locations that were selected. Where numbers are compared as they are read, the paths select these.
+pub record AreSelected (queries : List Query) (document : Document) (values : List Json) : Type 0 where
+  pub locations : List Location
+  pub in_turn : is_as_read document.numbers ≡ true → SelectInTurn (view document.image) queries locations
+  pub there : values ≡ filter_map (exact_at (value_view document.exact)) locations
+
+-- an item of an array as a look has it, behind a comma or not; compact where the look is
+abbrev pub item_text : Bool → Look → Json → List ℕ
+item_text has_comma look j = if is_compact look then comma_and_indent has_comma OneLine 1 ++ compact (arranged look.is_sorted j) else array_item has_comma look j
+
+-- items of an array and its end, behind others or not
+abbrev pub items_text : Bool → Look → List Json → List ℕ
+items_text has_items look [] = array_end has_items look
+items_text has_items look (j ∷ js) = item_text has_items look j ++ items_text true look js
+
+-- a line with one array of what the paths select went behind what was there
+pub record AddsArray (queries : List Query) (line : Line) (document : Document) (before after : List ℕ) (count : ℕ) : Type 0 where
+  pub values : List Json
+  pub selected : AreSelected queries document values
+  pub written : after ≡ before ++ on_line line (91 ∷ items_text false line.look values)
+  pub counted : count ≡ length values

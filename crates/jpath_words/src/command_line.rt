@@ -1,7 +1,8 @@
 //! The command line of `jpath`: its options, declared for `clap`, and how it is parsed.
 
-ghost use Rattle.std.specs.Prelude.{◌≡◌, ◌<◌};
-ghost use Rattle.jpath_words.specs.Words.{path_of, argument_name};
+ghost use Rattle.std.specs.Prelude.{◌≡◌, ◌<◌, map, IfOk};
+ghost use Rattle.clap.specs.Words.{found_of};
+ghost use Rattle.jpath_words.specs.Words.{path_of, argument_name, texts_of, AreFlags, AreFound, IsOutcome};
 
 use crate::completions::{Described, completions};
 use clap::{Arg, ArgAction, ArgMatches, Command};
@@ -393,7 +394,9 @@ pub enum ParseOutcome<'a> {
 pub fn parse_words<'a>(
     rt: &(impl Print + Eprint + Alloc<A = Global>),
     words: &'a [String],
-) -> Result<ParseOutcome<'a>, AllocError> {
+) -> Result<ParseOutcome<'a>, AllocError>
+    ensures { IfOk result IsOutcome }
+{
     let command = clap_command(rt.alloc())?;
     match command.try_get_matches_from(&*words) {
         Ok(matches) => match matches.get_str("completions") {
@@ -593,7 +596,9 @@ fn path_and_files_argument<'a>(alloc: Global) -> Arg<'a> {
 fn words_of_clap_matches<'a>(
     alloc: Global,
     matches: &ArgMatches<'a>,
-) -> Result<Words<'a>, AllocError> {
+) -> Result<Words<'a>, AllocError>
+    ensures { IfOk result (λ words. AreFound (found_of matches.now) words) }
+{
     Ok(Words {
         flags: read_flags(matches),
         paths: option_values(alloc, matches, "path")?,
@@ -605,7 +610,9 @@ fn words_of_clap_matches<'a>(
 }
 
 // Which flags `clap` found, how lines are indented, and when they are coloured.
-fn read_flags(matches: &ArgMatches<'_>) -> Flags {
+fn read_flags(matches: &ArgMatches<'_>) -> Flags
+    ensures { AreFlags (found_of matches.now) result }
+{
     let color = match matches.get_str("color") {
         Some("always") => Color::Always,
         Some("never") => Color::Never,
@@ -649,7 +656,9 @@ fn option_values<'a>(
     alloc: Global,
     matches: &ArgMatches<'a>,
     name: &str,
-) -> Result<Vec<&'a str>, AllocError> {
+) -> Result<Vec<&'a str>, AllocError>
+    ensures { IfOk result (λ values. map (λ t. t.now) values.items ≡ texts_of (found_of matches.now) name.now) }
+{
     let mut found = Vec::new(alloc);
     if let Some(values) = matches.get_strs(name) {
         for value in values {

@@ -9,6 +9,9 @@ use std::alloc::{AllocError, Global};
 
 const NO_NULL: &str = "a filter can't ask for null; (@.a) keeps what has the name a, null or not";
 
+const NO_VALUE: &str =
+    "a comparison has a value on each side: a path, a number or a text in quotes";
+
 const NO_NOT: &str =
     "there is no `!`: no filter asks for what is missing; write != for ==, or >= for <";
 
@@ -46,7 +49,7 @@ const NO_BRACKETS: &str = "a name with a blank needs brackets and quotes: $['fir
 const PARENTHESES: &str = "a filter's condition is written in parentheses: [?(@.price < 10)]";
 
 // What is written instead of a wrong text, and why.
-const REPLACEMENTS: [(&str, &str, &str); 13] = [
+const REPLACEMENTS: [(&str, &str, &str); 15] = [
     ("=>", ">=", "greater or equal is >="),
     ("=<", "<=", "less or equal is <="),
     ("=", "==", "a comparison has two equals signs"),
@@ -68,6 +71,8 @@ const REPLACEMENTS: [(&str, &str, &str); 13] = [
     ("(", "?(", "a filter has ? before its parentheses"),
     (" ", "", "no blank is allowed here"),
     ("$", "$.", "a dot comes between $ and a name"),
+    ("", "]", "a [ is closed by ]"),
+    ("", ")]", "a [?( is closed by )]"),
 ];
 
 /// A sentence on what to write instead of a path text with a syntax error, or an empty text if no hint is known; `at`
@@ -185,10 +190,10 @@ fn hint_to_quote_text(
     let Some(compared) = compared_text(path, before) else {
         return Ok(None);
     };
-    if rest.starts_with("null") || rest.starts_with('{') || is_number_of_json(compared.text) {
+    let text = compared.text;
+    if matches!(text, "" | "null") || rest.starts_with('{') || is_number_of_json(text) {
         return Ok(None);
     }
-    let text = compared.text;
     let quoted = format!(in alloc; "'{text}'")?;
     hint_if_path(
         alloc,
@@ -380,7 +385,11 @@ fn path_with_parentheses(alloc: Global, path: &str) -> Result<Option<String>, Al
 // up to the error and from there. `None` where it is none of them.
 fn hint_for_unsupported_syntax(path: &str, before: &str, rest: &str) -> Option<&'static str> {
     let has_filter = path.contains("[?");
-    if rest.starts_with("null") {
+    if rest
+        .trim_start_matches('=')
+        .trim_start()
+        .starts_with("null")
+    {
         return Some(NO_NULL);
     }
     if rest.starts_with('{') {
@@ -437,6 +446,11 @@ fn hint_for_unsupported_syntax(path: &str, before: &str, rest: &str) -> Option<&
 
 // The sentence where what is compared with is refused: it is a number or a text that a path writes otherwise.
 fn sentence_for_compared(text: &str, rest: &str) -> Option<&'static str> {
+    if text.is_empty()
+        && (rest.is_empty() || rest.starts_with(|c: char| matches!(c, ')' | '&' | '|')))
+    {
+        return Some(NO_VALUE);
+    }
     if is_number_of_json(text) {
         return Some(NO_NUMBER);
     }

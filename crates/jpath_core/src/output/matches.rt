@@ -1,6 +1,6 @@
 //! What is written for the matches of one document, and how many there are.
 
-ghost use Rattle.std.specs.Prelude.{◌≡◌, ◌++◌, true, length, map, OnOk, IfOk, Some};
+ghost use Rattle.std.specs.Prelude.{◌≡◌, ◌++◌, true, false, length, map, filter_map, All, OnOk, IfOk, Some};
 ghost use Rattle.json.specs.Tree.{HasNumbers};
 ghost use Rattle.json.specs.Value.{value_view};
 ghost use Rattle.serde_json.specs.View.{view};
@@ -9,9 +9,10 @@ ghost use Rattle.jsonpath_paths.specs.Spelling.{Spells};
 ghost use Rattle.jsonpath_nodes.specs.document.OfData.{document_of};
 ghost use Rattle.jsonpath_nodes.specs.place.SpotPlace.{location_of};
 ghost use Rattle.jsonpath_select.specs.Meaning.{sel};
+ghost use Rattle.jpath_edits.specs.ExactAt.{exact_at};
 ghost use Rattle.jpath_texts.specs.NumberPlaces.{is_as_read};
-ghost use Rattle.jpath_core.specs.Matches.{lines_text, match_text, AddsMatches};
-ghost use Rattle.jpath_core.specs.AlongExactTree.{value_line, written};
+ghost use Rattle.jpath_core.specs.Matches.{lines_text, match_text, items_text, item_text, AddsMatches, AddsArray, AreSelected, IsCountOf};
+ghost use Rattle.jpath_core.specs.AlongExactTree.{value_line};
 
 use crate::exact_at_steps::printable_value_at_steps;
 use crate::output::places::{add_place_and_value_line, add_place_line};
@@ -19,13 +20,11 @@ use crate::selection::select_in_document;
 use jpath_texts::{
     Document, DocumentRefusal, Line, Look, Query, Shown, add_array_end, add_array_item,
     add_entry_lines, add_length_line, add_line_end, add_line_start, add_value_in_look,
-    write_arranged,
 };
-use json::{Value as Exact, Writer};
+use json::Value as Exact;
 use jsonpath_nodes::Spot;
 use jsonpath_paths::laws::one_tree_per_text;
 use std::alloc::{AllocError, Global};
-use std::mem;
 
 /// Appends to `out` the lines for each value that a path selects in a document. `line` says what these lines show of
 /// the value (the value itself, its location, its members or its length) and how. The values come in the order in which
@@ -48,15 +47,18 @@ pub fn add_lines_for_path(
     Ok(spots.len())
 }
 
-/// How many values several paths select in a document in total, with duplicates. The only error is `OutOfMemory`.
+/// How many values several paths select in a document in total, with duplicates, or `usize::MAX` if there are more. The
+/// only error is `OutOfMemory`.
 pub fn count_matches(
     alloc: Global,
     document: &Document<'_>,
     queries: &[Query<'_>],
-) -> Result<usize, DocumentRefusal> {
+) -> Result<usize, DocumentRefusal>
+    ensures { is_as_read document.now.numbers ≡ true → IfOk result (λ count. IsCountOf queries.now (view document.now.image) count) }
+{
     let mut count = 0usize;
     for query in queries {
-        count = count.saturating_add(count_matches_of_path(alloc, document, query)?);
+        count = count.saturating_add(select_in_document(alloc, document, query)?.len());
     }
     Ok(count)
 }
@@ -86,108 +88,103 @@ pub fn add_array(
     out: &mut Vec<u8>,
 ) -> Result<usize, DocumentRefusal>
     requires { HasNumbers (value_view document.now.exact) }
+    ensures { IfOk result (λ count. AddsArray queries.now line.now document.now out.old.items out.new.items count) }
 {
+    let values = selected_values(alloc, document, queries)?;
     add_line_start(out, line)?;
-    let count = if line.look.is_compact() {
-        let mut writer = Writer::new(mem::replace(out, Vec::new(alloc)));
-        let is_sorted = line.look.is_sorted;
-        let written = write_compact_array(alloc, document, queries, is_sorted, &mut writer);
-        *out = writer.into_inner();
-        written?
-    } else {
-        add_pretty_or_colored_array(alloc, document, queries, line.look, out)?
-    };
-    add_line_end(out, line.end)?;
-    Ok(count)
-}
-
-// Writes the array of all values that the paths select, compact, and answers how many there are.
-fn write_compact_array(
-    alloc: Global,
-    document: &Document<'_>,
-    queries: &[Query<'_>],
-    is_sorted: bool,
-    writer: &mut Writer,
-) -> Result<usize, DocumentRefusal>
-    requires { HasNumbers (value_view document.now.exact) }
-{
-    let mut count = 0usize;
-    writer.begin_array()?;
-    for query in queries {
-        let spots = select_in_document(alloc, document, query)?;
-        write_compact_items(alloc, &document.exact, spots.as_slice(), is_sorted, writer)?;
-        count = count.saturating_add(spots.len());
-    }
-    writer.end_array()?;
-    Ok(count)
-}
-
-// Writes the values at the spots as items of an array, each name of an object once.
-fn write_compact_items(
-    alloc: Global,
-    exact: &Exact<'_>,
-    spots: &[Spot<'_>],
-    is_sorted: bool,
-    writer: &mut Writer,
-) -> Result<(), AllocError>
-    requires { HasNumbers (value_view exact.now) }
-{
-    for spot in spots {
-        if let Some(value) = printable_value_at_steps(exact, spot.steps()) {
-            write_arranged(alloc, value, is_sorted, writer)?;
-        }
-    }
-    Ok(())
-}
-
-// Writes the array of all values that the paths select, in colours or over lines as `look` says, and answers how many
-// there are.
-fn add_pretty_or_colored_array(
-    alloc: Global,
-    document: &Document<'_>,
-    queries: &[Query<'_>],
-    look: Look,
-    out: &mut Vec<u8>,
-) -> Result<usize, DocumentRefusal>
-    requires { HasNumbers (value_view document.now.exact) }
-{
-    let mut count = 0usize;
     out.push(b'[')?;
-    for query in queries {
-        let spots = select_in_document(alloc, document, query)?;
-        add_pretty_or_colored_items(
-            alloc,
-            &document.exact,
-            spots.as_slice(),
-            count > 0,
-            look,
-            out,
-        )?;
-        count = count.saturating_add(spots.len());
-    }
-    add_array_end(out, count > 0, look)?;
-    Ok(count)
+    add_array_items(alloc, values.as_slice(), line.look, out)?;
+    add_line_end(out, line.end)?;
+    Ok(values.len())
 }
 
-// Writes the values at the spots as items of an array, a comma before each but the first of the array.
-fn add_pretty_or_colored_items(
+// A value that a path selects.
+#[derive(Clone, Copy, Drop)]
+struct Selected<'v, 'a> {
+    value: &'v Exact<'a>,
+}
+
+// The values that the paths select, path by path.
+fn selected_values<'v, 'a>(
     alloc: Global,
-    exact: &Exact<'_>,
+    document: &'v Document<'a>,
+    queries: &[Query<'_>],
+) -> Result<Vec<Selected<'v, 'a>>, DocumentRefusal>
+    requires { HasNumbers (value_view document.now.exact) }
+    ensures selected { IfOk result (λ values. AreSelected queries.now document.now (map (λ v. value_view v.value.now) values.items)) }
+    ensures writable { IfOk result (λ values. All (λ v. HasNumbers (value_view v.value.now)) values.items) }
+{
+    let mut values = Vec::new(alloc);
+    for query in queries {
+        let spots = select_in_document(alloc, document, query)?;
+        add_values_at_spots(&document.exact, spots.as_slice(), &mut values)?;
+    }
+    Ok(values)
+}
+
+// Adds the values at the spots.
+fn add_values_at_spots<'v, 'a>(
+    exact: &'v Exact<'a>,
     spots: &[Spot<'_>],
-    has_comma: bool,
+    values: &mut Vec<Selected<'v, 'a>>,
+) -> Result<(), AllocError>
+    requires { HasNumbers (value_view exact.now) }
+    ensures added { OnOk result (map (λ v. value_view v.value.now) values.new.items
+        ≡ map (λ v. value_view v.value.now) values.old.items ++ filter_map (exact_at (value_view exact.now)) (map location_of spots.now)) }
+    ensures writable { All (λ v. HasNumbers (value_view v.value.now)) values.old.items → All (λ v. HasNumbers (value_view v.value.now)) values.new.items }
+{
+    for spot in spots {
+        if let Some(value) = printable_value_at_steps(exact, spot.steps()) {
+            values.push(Selected { value })?;
+        }
+    }
+    Ok(())
+}
+
+// Writes the items of an array, and its end.
+fn add_array_items(
+    alloc: Global,
+    values: &[Selected<'_, '_>],
     look: Look,
     out: &mut Vec<u8>,
 ) -> Result<(), AllocError>
-    requires { HasNumbers (value_view exact.now) }
+    requires { All (λ v. HasNumbers (value_view v.value.now)) values.now }
+    ensures { OnOk result (out.new.items ≡ out.old.items ++ items_text false look (map (λ v. value_view v.value.now) values.now)) }
 {
-    let mut has_comma = has_comma;
-    for spot in spots {
-        if let Some(value) = printable_value_at_steps(exact, spot.steps()) {
-            add_array_item(alloc, out, has_comma, value, look)?;
-        }
-        has_comma = true;
+    let mut has_items = false;
+    for selected in values {
+        add_item(alloc, has_items, selected.value, look, out)?;
+        has_items = true;
     }
-    Ok(())
+    add_array_end(out, has_items, look)
+}
+
+// Writes an item of an array, after a comma or not.
+fn add_item(
+    alloc: Global,
+    has_comma: bool,
+    value: &Exact<'_>,
+    look: Look,
+    out: &mut Vec<u8>,
+) -> Result<(), AllocError>
+    requires { HasNumbers (value_view value.now) }
+    ensures { OnOk result (out.new.items ≡ out.old.items ++ item_text has_comma look (value_view value.now)) }
+{
+    if !look.is_compact() {
+        return add_array_item(alloc, out, has_comma, value, look);
+    }
+    if has_comma {
+        out.push(b',')?;
+    }
+    add_value_in_look(
+        alloc,
+        out,
+        value,
+        Look {
+            is_raw: false,
+            ..look
+        },
+    )
 }
 
 // Adds the lines of each spot to what is written: its place, its value or both, or what is in the value, as is asked for.
