@@ -1,13 +1,12 @@
 //! A value as its members are to be written: each name once, where it occurs first or in the order of the names.
 
-ghost use Rattle.std.specs.Prelude.{◌≡◌, ◌++◌, None, IfOk, IfSome, OnOk, OnErr};
-ghost use Rattle.json.specs.Tree.{HasNumbers, json_tokens};
+ghost use Rattle.std.specs.Prelude.{◌≡◌, None, IfOk, IfSome};
 ghost use Rattle.json.specs.Value.{value_view};
 ghost use Rattle.jpath_texts.specs.AtDepth.{arranged};
 
 use crate::ordered_tree::in_order::{copy_in_order, is_tree_ordered};
 use crate::output::names_once::{may_repeat_names, with_names_once};
-use json::{Value as Exact, Writer};
+use json::Value as Exact;
 use std::alloc::{AllocError, Global};
 
 // A copy of the value with its members as they are to be written; `None` where they stand so already.
@@ -29,23 +28,4 @@ pub(crate) fn rearranged<'t>(
         return Ok(Some(with_names_once(alloc, value)?));
     }
     Ok(None)
-}
-
-/// Writes a JSON value to `writer`. If an object has a name several times, the name is written once, where it occurs
-/// first, with its last value. If `is_sorted`, the members of each object are written in the order of their names'
-/// bytes. The only error is that memory ran out; then nothing is written.
-pub fn write_arranged(
-    alloc: Global,
-    value: &Exact<'_>,
-    is_sorted: bool,
-    writer: &mut Writer,
-) -> Result<(), AllocError>
-    requires { HasNumbers (value_view value.now) }
-    ensures ok { OnOk result (writer.new.tokens ≡ writer.old.tokens ++ json_tokens (arranged is_sorted (value_view value.now))) }
-    ensures err { OnErr result (writer.new.tokens ≡ writer.old.tokens) }
-{
-    match rearranged(alloc, value, is_sorted)? {
-        Some(made) => writer.value(&made),
-        None => writer.value(value),
-    }
 }
