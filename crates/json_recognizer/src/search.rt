@@ -9,7 +9,7 @@ use crate::state::State;
 use crate::steps::take_letter;
 use crate::stream::Found;
 use crate::table::{AFTER_NAME, BEHIND, FIRST, FIRST_NAME, NAME_CHARS, VALUE_CHARS, letter_at};
-use crate::text::{count_chars, count_text};
+use crate::text::{count_text, has_quote};
 
 // Closes the text that is being read, and returns true; false if the document would end with it.
 #[inline(always)]
@@ -38,14 +38,6 @@ fn is_in_text(row: usize) -> bool
     row == VALUE_CHARS || row == NAME_CHARS
 }
 
-#[inline(always)]
-fn has_quote(piece: &[u8], at: usize) -> bool
-    ensures within { result ≡ true → at < length piece.now }
-    ensures quote { result ≡ true → get_or piece.now at 0 ≡ 34 }
-{
-    at < piece.len() && piece[at] == b'"'
-}
-
 // Passes over characters of the text that is being read, if one is, and over its quote. Returns where the next byte is.
 #[inline(always)]
 fn pass_text(state: &State, row: &mut usize, piece: &[u8], at: usize) -> usize
@@ -58,11 +50,11 @@ fn pass_text(state: &State, row: &mut usize, piece: &[u8], at: usize) -> usize
     if !is_in_text(*row) {
         return at;
     }
-    let behind = at + count_chars(&piece[at..]);
+    let behind = at + count_text(&piece[at..]);
     if has_quote(piece, behind) && close_text(state, row) {
         return behind + 1;
     }
-    behind + count_text(&piece[behind..])
+    behind
 }
 
 // The letter of the byte, for the quotes, commas, colons and brackets that come most often, without the table.

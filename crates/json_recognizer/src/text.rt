@@ -175,9 +175,10 @@ fn escape_len(bytes: &[u8]) -> usize
     }
 }
 
-// How many bytes the first character has if it is an escape, beyond ASCII, or a space; 0 if it is not.
+// How many bytes the first character has if it is an escape, beyond ASCII, or a space; else how many at the front stand
+// for themselves.
 #[inline(always)]
-fn other_len(bytes: &[u8]) -> usize
+fn front_len(bytes: &[u8]) -> usize
     requires { 6 ≤ length bytes.now }
     ensures within { result ≤ length bytes.now }
     ensures chars { AreChars (take result bytes.now) }
@@ -193,19 +194,20 @@ fn other_len(bytes: &[u8]) -> usize
     } else if begins_four(bytes[0], bytes[1]) && is_tail(bytes[2]) && is_tail(bytes[3]) {
         4
     } else {
-        0
+        count_chars(bytes)
     }
 }
 
-// How many bytes at the front are such characters. The last few bytes are not looked at.
+// How many bytes at the front are characters and escapes of the text that is being read. The last few bytes are not
+// looked at.
 #[inline(never)]
-fn count_others(bytes: &[u8]) -> usize
+fn count_fronts(bytes: &[u8]) -> usize
     ensures within { result ≤ length bytes.now }
     ensures chars { AreChars (take result bytes.now) }
 {
     let mut at = 0;
     while bytes.len() - at >= 6 {
-        let len = other_len(&bytes[at..]);
+        let len = front_len(&bytes[at..]);
         if len == 0 {
             return at;
         }
@@ -214,20 +216,23 @@ fn count_others(bytes: &[u8]) -> usize
     at
 }
 
-// How many bytes at the front are characters and escapes of the text that is being read.
-#[inline(never)]
+#[inline(always)]
+pub(crate) fn has_quote(bytes: &[u8], at: usize) -> bool
+    ensures within { result ≡ true → at < length bytes.now }
+    ensures quote { result ≡ true → get_or bytes.now at 0 ≡ 34 }
+{
+    at < bytes.len() && bytes[at] == b'"'
+}
+
+// The same, where plain characters and the quote are likely.
+#[inline(always)]
 pub(crate) fn count_text(bytes: &[u8]) -> usize
     ensures within { result ≤ length bytes.now }
     ensures chars { AreChars (take result bytes.now) }
 {
-    let mut at = count_chars(bytes);
-    while at < bytes.len() && bytes[at] != b'"' {
-        let others = count_others(&bytes[at..]);
-        if others == 0 {
-            return at;
-        }
-        at += others;
-        at += count_chars(&bytes[at..]);
+    let plain = count_chars(bytes);
+    if has_quote(bytes, plain) {
+        return plain;
     }
-    at
+    plain + count_fronts(&bytes[plain..])
 }

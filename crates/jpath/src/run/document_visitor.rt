@@ -144,6 +144,7 @@ impl<'r, 'w, T: Eprint + Alloc<A = Global>, W: Output> Visitor for DocumentVisit
 }
 
 // Tells why a piece is refused. With `-k` the run goes on behind it; else, and for blanks, it stops.
+#[inline(never)]
 fn stop_or_pass_refused_piece(
     rt: &(impl Eprint + Alloc<A = Global>),
     wanted: &Wanted<'_>,

@@ -55,6 +55,7 @@ impl Kept {
 /// Errors: `NotADocument` if `text` is no JSON document; `HugeExponent` if a number can't be compared; `EditNests` if
 /// an edited text nests too deep; `EditDiffers` if an edited text, read again, is not the edited document, a fault of
 /// the program; or `OutOfMemory`. `out` may then end with a part of the text.
+#[inline(never)]
 pub fn add_edited_document(
     rt: &(impl Eprint + Alloc<A = Global>),
     edits: &[Edit<'_>],

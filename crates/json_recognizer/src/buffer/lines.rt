@@ -56,6 +56,7 @@ fn count_behind_line_end(bytes: &[u8]) -> Option<usize>
 }
 
 /// Returns the line and column just after these bytes; `place` is the line and column of the first of them.
+#[inline(always)]
 pub fn place_after(place: LineColumn, bytes: &[u8]) -> LineColumn
     ensures { (passed : List ℕ) → place ≡ place_behind passed → result ≡ place_behind (passed ++ bytes.now) }
 {

@@ -11,6 +11,7 @@ ghost use Rattle.json_recognizer.specs.Stream.{found_in};
 
 use crate::buffer::lines::{count_blanks, first_line_end, is_blank_text, place_after};
 use crate::buffer::piece::{Kind, LineColumn};
+use crate::machine::Mode;
 use crate::state::{State, start};
 use crate::stream::{Found, find_end, is_final};
 use std::alloc::Global;
@@ -118,11 +119,8 @@ impl StreamBuffer {
     {
         let rest = &self.bytes[self.start..];
         if rest.starts_with(&MARK) {
-            let behind = self.start + MARK.len();
-            self.start = behind;
-            self.end = behind;
-            self.seen = behind;
-            self.state = start();
+            self.start += MARK.len();
+            self.begin_piece();
             Some(true)
         } else if MARK.starts_with(rest) && !self.is_whole {
             None
@@ -193,7 +191,8 @@ impl StreamBuffer {
     {
         self.end = self.start;
         self.seen = self.start;
-        self.state = start();
+        self.state.mode = Mode::Value;
+        self.state.depth = 0;
     }
 
     /// Skips the bytes of the stream's current piece, a document or wrong bytes. The next piece begins after them.
@@ -245,6 +244,7 @@ impl StreamBuffer {
     }
 
     // Passes over the bytes up to this one: the next piece begins there.
+    #[inline(always)]
     fn begin_piece_at(&mut self, at: usize)
         requires from { self.old.start ≤ at }
         requires within { at ≤ length self.old.bytes.items }

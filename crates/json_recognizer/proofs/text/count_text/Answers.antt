@@ -1,21 +1,14 @@
-use Rattle.std.proofs.Common.{arith, ◌+◌, refl}
+use Rattle.std.proofs.Common.{◌+◌, refl}
 use Rattle.std.proofs.lemmas.List.{take_rest}
 use Rattle.json_recognizer.proofs.Leads.{plain_chars, chars_further}
 use Rattle.json_recognizer.proofs.text.count_text.Goals as goal
 
-pub loop-at-init : goal.loop-at-init
-loop-at-init c = record { within = c.count_chars-at.ensures.within; chars = plain_chars c.args.bytes.now c.count_chars-at.result c.count_chars-at.ensures.within c.count_chars-at.ensures.chars }
+pub returns-then-has_quote-clause-chars : goal.returns-then-has_quote-clause-chars
+returns-then-has_quote-clause-chars c = plain_chars c.args.bytes.now c.count_chars-plain.result c.count_chars-plain.ensures.within c.count_chars-plain.ensures.chars
 
-pub loop-at-preserved : goal.loop-at-preserved
-loop-at-preserved c =
-    let l = c.loop-at in
+pub returns-clause-chars : goal.returns-clause-chars
+returns-clause-chars c =
     let bytes = c.args.bytes.now in
-    let others = c.count_others-others in
-    let more = c.count_chars-at-in-loop-at in
-    let at = l.at + others.result in
-    record {
-      within = omega arith;
-      chars = chars_further bytes _ at more.result (at + more.result) (take_rest bytes at)
-          (chars_further bytes _ l.at others.result at (take_rest bytes l.at) l.invariant.chars others.ensures.chars refl)
-          (plain_chars _ more.result more.ensures.within more.ensures.chars) refl;
-    }
+    let plain = c.count_chars-plain in
+    let fronts = c.count_fronts in
+    chars_further bytes _ plain.result fronts.result (plain.result + fronts.result) (take_rest bytes plain.result) (plain_chars bytes plain.result plain.ensures.within plain.ensures.chars) fronts.ensures.chars refl
