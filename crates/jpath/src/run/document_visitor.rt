@@ -119,6 +119,7 @@ impl<'r, 'w, T: Eprint + Alloc<A = Global>, W: Output> Visitor for DocumentVisit
 
     // Writes what is wanted of a piece, its document or its blanks, all or nothing. What is refused is told; then the run
     // stops, but for `-k`.
+    #[inline(never)]
     fn visit_piece(&mut self, piece: &Piece<'_>) -> Result<Taken, Stop> {
         self.flush_output_if_full()?;
         self.text.clear();

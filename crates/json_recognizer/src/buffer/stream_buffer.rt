@@ -196,6 +196,7 @@ impl StreamBuffer {
     }
 
     /// Skips the bytes of the stream's current piece, a document or wrong bytes. The next piece begins after them.
+    #[inline(always)]
     pub fn pass_piece(&mut self)
         requires { IsSound self.old }
         ensures ready { IsReady self.new }
