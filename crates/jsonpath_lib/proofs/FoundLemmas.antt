@@ -2,12 +2,12 @@
 use Rattle.std.proofs.Common.{◌≡◌, ℕ, ◌+◌, ◌<◌, ◌≤◌, List, [], ◌∷◌, ◌++◌, map, length, drop, get_or, Option, refl, ap, ap₂, ◌∙◌, sym, subst, append-nil, ◌↔◌, Contains, drop_of_length-le}
 use Rattle.std.proofs.lemmas.List.{drop_more, append_assoc, map-append}
 use Rattle.jsonpath_select.specs.Meaning.{sel, SelectsSet}
-use Rattle.jsonpath_lib.specs.update.Masked.{AreSelected}
+use Rattle.jsonpath_lib.specs.update.Masked.{AreSelected, IsAsGood}
 use Rattle.jsonpath_nodes.specs.place.Order.{once_in_order}
 use Rattle.jsonpath_nodes.specs.document.Document.{Document}
 use Rattle.jsonpath_nodes.specs.place.Location.{Location}
 use Rattle.jsonpath_nodes.specs.DocumentLaws.{OnceInOrderKeepsMembers}
-use Rattle.jsonpath_nodes.specs.place.SpotPlace.{LeadsBy, StandAt, location_of, look, sight_of}
+use Rattle.jsonpath_nodes.specs.place.SpotPlace.{StandAt, location_of, look, sight_of}
 use Rattle.jsonpath_nodes.specs.step.SameMembers.{SameMembers, JoinedSets, OneListOfASet}
 use Rattle.jsonpath_nodes.specs.declared.place.spot.Spot.{Spot}
 
@@ -22,7 +22,7 @@ Sight = Location × Option Document
 abbrev Shown : Type 0
 Shown = (doc : Document) (ls : List Location) (spots : List Spot) → StandAt doc ls spots → map location_of spots ≡ ls
 
-same-itself : (ls : List Location) → SameMembers ls ls
+pub same-itself : (ls : List Location) → SameMembers ls ls
 same-itself ls l = (λ h. h, λ h. h)
 
 pub selected_first : (paths : List (List ℕ)) (doc : Document) (spots : List Spot) → spots ≡ [] → Completes paths 0 doc spots
@@ -63,10 +63,11 @@ module _ (keeps : OnceInOrderKeepsMembers) (joined : JoinedSets) (one_list : One
         joined front front (here ++ rest) (there ++ rest) (same-itself front) (joined here there rest rest (same_set here there selected.holds.2) (same-itself rest)) in
         (found.0, found.1, subst (λ (ms : List Location). SameMembers ms found.0) (sym (append_assoc front here rest)) (same-trans (front ++ (here ++ rest)) (front ++ (there ++ rest)) found.0 same found.2)))
 
-  -- what was found is put in order, each once
-  pub selected_once : (paths : List (List ℕ)) (i : ℕ) (doc : Document) (spots found : List Spot) → LeadsBy (λ _ ls. once_in_order ls) spots found → Completes paths i doc spots → Completes paths i doc found
-  selected_once paths i doc spots found leads held =
+  -- other spots are as good
+  pub selected_as_good : (paths : List (List ℕ)) (i : ℕ) (doc : Document) (spots others : List Spot) → IsAsGood spots others → Completes paths i doc spots → Completes paths i doc others
+  selected_as_good paths i doc spots others good held =
       let ls = held.0 in
-      (once_in_order ls, leads doc ls held.1, λ rest later.
+      let there = good doc ls held.1 in
+      (there.0, there.1, λ rest later.
         let h = held.2 rest later in
-        (h.0, h.1, same-trans (once_in_order ls ++ rest) (ls ++ rest) h.0 (joined (once_in_order ls) ls rest rest (keeps ls) (same-itself rest)) h.2))
+        (h.0, h.1, same-trans (there.0 ++ rest) (ls ++ rest) h.0 (joined there.0 ls rest rest there.2 (same-itself rest)) h.2))

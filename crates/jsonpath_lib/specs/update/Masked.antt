@@ -6,6 +6,9 @@ use Rattle.jsonpath_paths.specs.Spelling.{Spells, IsInGrammar}
 use Rattle.jsonpath_paths.specs.tree.Tree.{Path}
 use Rattle.jsonpath_nodes.specs.place.Location.{Location}
 use Rattle.jsonpath_nodes.specs.place.Order.{once_in_order}
+use Rattle.jsonpath_nodes.specs.place.SpotPlace.{StandAt}
+use Rattle.jsonpath_nodes.specs.declared.place.spot.Spot.{Spot}
+use Rattle.jsonpath_nodes.specs.step.SameMembers.{SameMembers}
 use Rattle.jsonpath_nodes.specs.update.Topmost.{nulled, taken}
 use Rattle.jsonpath_select.specs.JsonPathErrors.{IsPathRefused, error_text}
 use Rattle.jsonpath_select.specs.declared.error.JsonPathError.{JsonPathError}
@@ -23,6 +26,10 @@ pub record AreTargetsOfAll (texts : List (List ℕ)) (doc : Document) (locations
   pub all : List Location
   pub selected : AreSelected texts doc all
   pub are : locations ≡ once_in_order all
+
+-- wherever in a document the first spots stand, the others stand at the same locations, in any order, with or without repeats
+abbrev pub IsAsGood : List Spot → List Spot → Type 0
+IsAsGood spots others = (doc : Document) (ls : List Location) → StandAt doc ls spots → (ms : List Location) × StandAt doc ms others × SameMembers ms ls
 
 -- null stands at the topmost locations below the root that any of the paths selects in the document as it was
 pub record IsMasked (texts : List (List ℕ)) (before after : Document) : Type 0 where

@@ -6,13 +6,13 @@ ghost use Rattle.jsonpath_nodes.specs.document.OfData.{document_of};
 ghost use Rattle.jsonpath_nodes.specs.place.Location.{Location, location_cmp};
 ghost use Rattle.jsonpath_nodes.specs.place.Order.{once_in_order};
 ghost use Rattle.jsonpath_nodes.specs.place.SpotPlace.{location_of};
-ghost use Rattle.jsonpath_lib.specs.update.Masked.{AreSelected, AreTargetsOfAll, ArePathsRefused, paths_fault_text};
+ghost use Rattle.jsonpath_lib.specs.update.Masked.{AreSelected, AreTargetsOfAll, ArePathsRefused, IsAsGood, paths_fault_text};
 
 use crate::compiled::path_texts::{PathsFault, compile_paths, write_paths_fault};
 use jsonpath_nodes::laws::{
     locations_once_in_order_ascend, spots_show_their_locations, steps_ignore_order_and_repeats,
 };
-use jsonpath_nodes::{Location, Spot, compute_paths, in_document_order};
+use jsonpath_nodes::{Location, NoMemory, Spot, compute_paths, in_document_order};
 use jsonpath_paths::PathParser;
 use jsonpath_select::{JsonPathError, select_path_in_any_order};
 use serde_json::Value;
@@ -130,10 +130,24 @@ fn select_paths_in_any_order<'a>(
     for path in paths {
         let mut found = select_path_in_any_order(alloc, value, path)?;
         spots.append(&mut found)?;
-        if spots.as_slice().len() > most {
-            spots = in_document_order(alloc, spots.as_slice())?;
-            most = FEW.saturating_add(spots.as_slice().len().saturating_mul(2));
-        }
+        spots = once_if_many(alloc, spots, &mut most)?;
     }
     Ok(spots)
+}
+
+// The spots, each place once and in order if they are more than `most`, which is then set for the next time.
+fn once_if_many<'a>(
+    alloc: Global,
+    spots: Vec<Spot<'a>>,
+    most: &mut usize,
+) -> Result<Vec<Spot<'a>>, NoMemory>
+    ensures { IfOk result (λ found. IsAsGood spots.entry.items found.items) }
+{
+    locations_once_in_order_ascend();
+    if spots.as_slice().len() <= *most {
+        return Ok(spots);
+    }
+    let once = in_document_order(alloc, spots.as_slice())?;
+    *most = FEW.saturating_add(once.as_slice().len().saturating_mul(2));
+    Ok(once)
 }

@@ -207,6 +207,10 @@ pub plain_at_first : (left : List Instruction) (i : Instruction) (ss : PathSteps
 plain_at_first [] i ss below other e = absurd (omega (arith, below))
 plain_at_first (j ∷ js) i ss below other e = plain_first j js ss other e
 
+pub empty : {X : Type 0} → (xs : List X) → (length xs == 0) ≡ true → xs ≡ []
+empty [] e = refl
+empty (x ∷ xs) e = let never : (suc (length xs) == 0) ≡ false = eqb-suc-zero (length xs) in cc
+
 pub no_steps_left : (ss : PathSteps) → CodesSteps [] ss → ss ≡ no_steps
 no_steps_left no_steps e = refl
 no_steps_left (step_then leaves bracket (plain token) later) e = cc

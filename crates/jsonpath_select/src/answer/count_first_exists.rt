@@ -12,7 +12,9 @@ use crate::error::JsonPathError;
 use crate::laws::each_location_has_a_value;
 use crate::machine::machine::Machine;
 use crate::machine::manner::manner_of_token_list;
-use jsonpath_nodes::laws::{locations_once_in_order_ascend, value_is_document};
+use jsonpath_nodes::laws::{
+    locations_once_in_order_ascend, spots_show_their_locations, value_is_document,
+};
 use jsonpath_nodes::{Halt, Spot};
 use serde_json::Value;
 use std::alloc::Global;
@@ -67,6 +69,7 @@ pub(crate) fn exists_by_parts(
         value_is_document(json);
         each_location_has_a_value();
         locations_once_in_order_ascend();
+        spots_show_their_locations();
         let set = spot_set_by_parts(alloc, json, path)?;
         return Ok(!set.as_slice().is_empty());
     }

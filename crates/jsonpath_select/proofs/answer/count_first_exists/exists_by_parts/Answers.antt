@@ -1,5 +1,6 @@
 use Rattle.std.proofs.Common.{◌==◌, length, refl, ap, ◌∙◌, not}
 use Rattle.jsonpath_nodes.specs.document.OfData.{value_document}
+use Rattle.jsonpath_nodes.specs.place.Order.{once_in_order}
 use Rattle.jsonpath_nodes.specs.place.SpotPlace.{location_of}
 use Rattle.jsonpath_select.specs.Meaning.{answer, sel}
 use Rattle.jsonpath_select.proofs.answer.FirstLemmas.{any_answered, some_answered}
@@ -14,7 +15,8 @@ returns-then-is_better_by_sets-clause-ok c =
       record { path = set.path; spelled = set.spelled; holds = refl },
       ap not
           (c.is_empty.ensures ∙ ap (λ spots. length spots == 0) c.as_slice.ensures.value
-          ∙ any_answered c.locations_once_in_order_ascend.ensures.members location_of doc c.in_ok-set.set.items (sel text doc set.path) (answer text doc set.path) set.holds
+          ∙ any_answered c.locations_once_in_order_ascend.ensures.members location_of doc c.in_ok-set.set.items (sel text doc set.path) (answer text doc set.path)
+          (ap once_in_order (c.spots_show_their_locations.ensures doc set.holds.0 c.in_ok-set.set.items set.holds.1) ∙ set.holds.2)
           (c.each_location_has_a_value.ensures text doc set.path c.value_is_document.ensures)),
     )
 

@@ -1,5 +1,4 @@
-use Rattle.std.proofs.Common.{◌≡◌, ◌==◌, suc, true, false, List, [], ◌∷◌, length, map, refl, sym, ap, ◌∙◌, subst}
-use Rattle.std.proofs.Math.Dec.{eqb-suc-zero}
+use Rattle.std.proofs.Common.{◌≡◌, false, List, [], ◌∷◌, length, map, refl, sym, ap, ◌∙◌, subst}
 use Rattle.std.specs.Prelude.{filter}
 use Rattle.jsonpath_paths.specs.tree.Tree.{lone, path}
 use Rattle.jsonpath_nodes.specs.place.Location.{Location}
@@ -7,7 +6,7 @@ use Rattle.jsonpath_nodes.specs.place.Mark.{MarksStandAt, shown}
 use Rattle.jsonpath_select.specs.Meaning.{follow, holds}
 use Rattle.jsonpath_select.specs.plan.NextFilter.{CodesSteps, first_step, later_steps}
 use Rattle.jsonpath_select.specs.declared.machine.instruction.Instruction.{Instruction}
-use Rattle.jsonpath_select.proofs.filters.NextFilterLemmas.{first_then_later, no_steps_left}
+use Rattle.jsonpath_select.proofs.filters.NextFilterLemmas.{empty, first_then_later, no_steps_left}
 use Rattle.jsonpath_select.proofs.walk.MarkLemmas.{length-marks}
 use Rattle.jsonpath_select.proofs.walk.PieceLemmas.{follow-none}
 use Rattle.jsonpath_select.proofs.machine.machine.Machine.lead_on_to_end.Goals as goal
@@ -38,10 +37,6 @@ loop-rest-preserved g c = λ ss ls are there.
       c.in_ok-found.ensures (later_steps h.0) led behind (c.in_ok-led.ensures (first_step h.0) h.1 (c.instructions_of_first_step.ensures h.0 h.2) h.3),
       h.4 ∙ first_then_later text doc h.0 h.1 ∙ c.what_leads_on_suffices.ensures text doc (later_steps h.0) led,
     )
-
-empty : {X : Type 0} → (xs : List X) → (length xs == 0) ≡ true → xs ≡ []
-empty [] e = refl
-empty (x ∷ xs) e = let never : (suc (length xs) == 0) ≡ false = eqb-suc-zero (length xs) in cc
 
 no_places : (ks : List Location) → length ks ≡ 0 → ks ≡ []
 no_places [] e = refl
