@@ -483,11 +483,11 @@ fn add_described_value_options(
 fn clap_command<'a>(alloc: Global) -> Result<Command<'a>, AllocError> {
     let arguments = clap_arguments(alloc)?;
     Command::new(alloc, "jpath")
-        .bin_name("jpath")?
         .version("0.1.0")
         .about("Selects values of JSON documents by JSONPath: jpath [OPTIONS] PATH [FILE..]")
         .after_help(EXAMPLES)
-        .args(arguments)
+        .args(arguments)?
+        .bin_name("jpath")
 }
 
 // All options and the words behind them, as `clap` takes them, in the order in which help has them.

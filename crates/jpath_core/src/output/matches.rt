@@ -228,6 +228,7 @@ fn add_lines_of_match(
 }
 
 // Writes a value on a line of its own, whatever the line is to show of matches.
+#[inline(always)]
 pub(crate) fn add_value_line(
     alloc: Global,
     value: &Exact<'_>,

@@ -65,6 +65,7 @@ pub struct Line<'n> {
 /// Appends to `out` what is printed before a line: the byte 30 (RS) if `line.is_record`, then the file name in
 /// `line.name` and a colon, or nothing if `line.name` is `None`. The only error is that memory ran out; `out` may then
 /// end with a part of this.
+#[inline(always)]
 pub fn add_line_start(out: &mut Vec<u8>, line: &Line<'_>) -> Result<(), AllocError>
     ensures { OnOk result (out.new.items ≡ out.old.items ++ (record_start line.now.is_record ++ named line.now.name)) }
 {

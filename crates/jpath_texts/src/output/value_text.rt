@@ -51,6 +51,7 @@ pub fn add_value_in_look(
 
 // Writes a value behind what is there, raw, compact, over lines or in colours, as the look says; its members as they
 // stand.
+#[inline(always)]
 pub(crate) fn add_value_with_members_kept(
     alloc: Global,
     out: &mut Vec<u8>,
