@@ -11,7 +11,7 @@ use crate::faults::Fault;
 use crate::whole_streams::{ReadFault, read_to_end, write_all};
 use crate::words::{Command, parse_call};
 use jsonpath_lib::{PathsFault, compile_paths, mask_at_paths};
-use jsonpath_nodes::laws::documents_keep_data_apart;
+use jsonpath_nodes::laws::{documents_keep_data_apart, spots_show_their_locations};
 use jsonpath_nodes::{compute_paths, delete_at};
 use jsonpath_paths::PathParser;
 use jsonpath_paths::laws::one_tree_per_text;
@@ -218,6 +218,7 @@ fn delete_at_path(
     ensures ok { OnOk result (IsDeleted path.now (document_of (view document.old)) (document_of (view document.new))) }
     ensures refused { IfErr result (λ error. error ≡ JsonPathError.OutOfMemory) }
 {
+    spots_show_their_locations();
     let spots = select_path_in_any_order(alloc, document, path)?;
     let locations = compute_paths(alloc, spots.as_slice())?;
     drop(spots);
