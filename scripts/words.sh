@@ -36,6 +36,13 @@ TEXT
 usage_of_run='usage: ./run [--unproved] select|delete|remove|check PATH | mask PATH.. | ./run --unproved jpath WORDS.. | ./run --help'
 usage_of_jpath='usage: ./run --unproved jpath [OPTIONS] PATH [FILE..] | [OPTIONS] -e PATH.. [FILE..] | [OPTIONS] EDIT.. [FILE..] | --help'
 
+# Before jpath is built: how it is used, and where its options are.
+print_help_of_jpath() {
+    printf '%s\n' "$usage_of_jpath" \
+        "docs/JPATH.md has the options, docs/jpath.1 the manual: man -l docs/jpath.1. Once jpath is built, --help has them."
+    exit 0
+}
+
 are_words_of_run() {
     case ${1-} in
         select | delete | remove | check | mask)
