@@ -55,29 +55,34 @@ are_words_of_run() {
 
 # What is wrong with words of jpath, as far as its options tell: nothing is said of words that it may take.
 fault_of_jpath_words() {
-    has_path='' wants=0
+    has_path='' wants=0 option='' has_rows='' is_table=''
     for word; do
         if [ "$wants" -gt 0 ]; then
             wants=$((wants - 1))
-            continue
+            word=$option=$word option=''
+            case $word in --color=* | --indent=*) ;; *) continue ;; esac
         fi
         case $word in
             --) has_path=yes && break ;;
             --raw | --pretty | --tab | --sort-keys | --array | --locations | --with-locations | --keys | --entries | --lengths | --count | --quiet | --with-filename | --keep-going | --join | --nul | --seq) ;;
-            --csv | --tsv | --header | --in-place | --copy | --check) ;;
+            --csv | --tsv | --header) is_table=yes ;;
+            --in-place | --copy | --check) ;;
             --help | --version) has_path=yes ;;
             --completions) has_path=yes wants=1 ;;
             --completions=*) has_path=yes ;;
-            --color | --indent) wants=1 ;;
-            --color=* | --indent=*) ;;
+            --color | --indent) wants=1 option=$word ;;
+            --color=auto | --color=always | --color=never | --indent=[1-8]) ;;
+            --color=* | --indent=*) printf "jpath's option has no value '%s'" "$word" && return ;;
             --arg | --argjson) wants=2 ;;
             --arg=* | --argjson=*) wants=1 ;;
-            --path | --rows | --null | --remove) has_path=yes wants=1 ;;
-            --path=* | --rows=* | --null=* | --remove=*) has_path=yes ;;
+            --rows) has_rows=yes has_path=yes wants=1 ;;
+            --rows=*) has_rows=yes has_path=yes ;;
+            --path | --null | --remove) has_path=yes wants=1 ;;
+            --path=* | --null=* | --remove=*) has_path=yes ;;
             --set | --set-text | --add | --add-text | --append | --rename) has_path=yes wants=2 ;;
             --set=* | --set-text=* | --add=* | --add-text=* | --append=* | --rename=*) has_path=yes wants=1 ;;
             --*) printf "jpath has no option '%s'" "$word" && return ;;
-            -C) wants=1 ;;
+            -C) wants=1 option=--color ;;
             -e) has_path=yes wants=1 ;;
             -C* | -) ;;
             -e* | -[hV]) has_path=yes ;;
@@ -90,5 +95,7 @@ fault_of_jpath_words() {
         printf 'jpath wants a path'
     elif [ "$wants" -gt 0 ]; then
         printf 'the last option of jpath wants more words'
+    elif [ -n "$is_table" ] && [ -z "$has_rows" ]; then
+        printf 'jpath takes --csv, --tsv and --header with --rows PATH and -e COLUMN'
     fi
 }
