@@ -54,20 +54,26 @@ module _ (keeps : OnceInOrderKeepsMembers) (joined : JoinedSets) (one_list : One
       let here = selected.holds.0 in
       let there = sel text doc selected.path in
       let stand : StandAt doc (front ++ here) after =
-      ap (map sight_of) pushed ∙ map-append sight_of before spots ∙ ap₂ (λ (xs ys : List Sight). xs ++ ys) held.1 selected.holds.1 ∙ sym (map-append (look doc) front here) in
-      (front ++ here, stand, λ rest later.
-        let P : List (List ℕ) → Type 0 = λ ps. AreSelected ps doc (there ++ rest) in
-        let next : text ∷ drop (i + 1) paths ≡ drop i paths = ap (λ (t : List ℕ). t ∷ drop (i + 1) paths) is ∙ sym (drop_more paths i d within) in
-        let found = held.2 (there ++ rest) (subst P next (selected.path, rest, selected.spelled, later, refl)) in
-        let same : SameMembers (front ++ (here ++ rest)) (front ++ (there ++ rest)) =
-        joined front front (here ++ rest) (there ++ rest) (same-itself front) (joined here there rest rest (same_set here there selected.holds.2) (same-itself rest)) in
-        (found.0, found.1, subst (λ (ms : List Location). SameMembers ms found.0) (sym (append_assoc front here rest)) (same-trans (front ++ (here ++ rest)) (front ++ (there ++ rest)) found.0 same found.2)))
+      ap (map sight_of) pushed ∙ map-append sight_of before spots ∙ ap₂ (λ (xs ys : List Sight). xs ++ ys) held.1 selected.holds.1 ∙ sym (map-append (look doc) front here) in (
+        front ++ here,
+        stand,
+        λ rest later.
+            let P : List (List ℕ) → Type 0 = λ ps. AreSelected ps doc (there ++ rest) in
+            let next : text ∷ drop (i + 1) paths ≡ drop i paths = ap (λ (t : List ℕ). t ∷ drop (i + 1) paths) is ∙ sym (drop_more paths i d within) in
+            let found = held.2 (there ++ rest) (subst P next (selected.path, rest, selected.spelled, later, refl)) in
+            let same : SameMembers (front ++ (here ++ rest)) (front ++ (there ++ rest)) =
+            joined front front (here ++ rest) (there ++ rest) (same-itself front) (joined here there rest rest (same_set here there selected.holds.2) (same-itself rest)) in
+            (found.0, found.1, subst (λ (ms : List Location). SameMembers ms found.0) (sym (append_assoc front here rest)) (same-trans (front ++ (here ++ rest)) (front ++ (there ++ rest)) found.0 same found.2)),
+      )
 
   -- other spots are as good
   pub selected_as_good : (paths : List (List ℕ)) (i : ℕ) (doc : Document) (spots others : List Spot) → IsAsGood spots others → Completes paths i doc spots → Completes paths i doc others
   selected_as_good paths i doc spots others good held =
       let ls = held.0 in
-      let there = good doc ls held.1 in
-      (there.0, there.1, λ rest later.
-        let h = held.2 rest later in
-        (h.0, h.1, same-trans (there.0 ++ rest) (ls ++ rest) h.0 (joined there.0 ls rest rest there.2 (same-itself rest)) h.2))
+      let there = good doc ls held.1 in (
+        there.0,
+        there.1,
+        λ rest later.
+            let h = held.2 rest later in
+            (h.0, h.1, same-trans (there.0 ++ rest) (ls ++ rest) h.0 (joined there.0 ls rest rest there.2 (same-itself rest)) h.2),
+      )
