@@ -1,5 +1,5 @@
 -- Paths that are answered on the exact tree itself, with no image made: where values stand in it, and what conditions see there.
-use Rattle.std.specs.Prelude.{◌≡◌, ℕ, ◌+◌, Bool, true, false, ◌&&◌, ◌||◌, List, [], ◌∷◌, ◌++◌, map, flat_map, filter, length, is_some, if◌then◌else◌, Option, Some, None, option_map, option_and_then, option_to_list}
+use Rattle.std.specs.Prelude.{◌≡◌, ℕ, ◌+◌, Bool, true, false, ◌&&◌, ◌||◌, not, List, [], ◌∷◌, ◌++◌, map, flat_map, filter, length, is_some, if◌then◌else◌, Option, Some, None, option_map, option_and_then, option_to_list}
 use Rattle.std.specs.Borrow.{Bor}
 use Rattle.json.specs.Json.{Json, null, boolean, number, string, array, object, Items, no_items, item}
 use Rattle.json.specs.Find.{get}
@@ -109,6 +109,21 @@ abbrev pub is_simple : Condition → Bool
 is_simple (lone p) = is_some (member_key p)
 is_simple (compare l op r) = (is_simple_term l && is_simple_term r) && (is_member_term l || is_member_term r)
 is_simple (join op a b) = is_simple a && is_simple b
+
+-- a step by one name, by `[*]`, or by a filter on members of the candidate alone
+abbrev pub is_straight_inner : Inner → Bool
+is_straight_inner (plain (Key s)) = true
+is_straight_inner (plain All) = true
+is_straight_inner (plain _) = false
+is_straight_inner (with_filter f) = is_simple f
+
+abbrev pub are_straight : PathSteps → Bool
+are_straight no_steps = true
+are_straight (step_then leaves bracket inner rest) = (not leaves && is_straight_inner inner) && are_straight rest
+
+-- a path from the root by such steps, none behind `..`
+abbrev pub is_straight : Path → Bool
+is_straight (path absolute steps) = absolute && are_straight steps
 
 abbrev pub values_exact : List ℕ → Term → Json → List Seen
 values_exact spelled (at_path p) j = map seen_exact (option_to_list (member_of spelled p j))

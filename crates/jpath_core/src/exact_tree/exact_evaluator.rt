@@ -8,10 +8,10 @@ ghost use Rattle.json.specs.Value.{value_view, items_view};
 ghost use Rattle.serde_json.specs.Data.{Data};
 ghost use Rattle.jsonpath_paths.specs.Spelling.{Spells};
 ghost use Rattle.jsonpath_paths.specs.tree.Tree.{Path, plain, filter as with_filter};
-ghost use Rattle.jsonpath_paths.specs.tree.View.{condition_of, steps_of_list};
+ghost use Rattle.jsonpath_paths.specs.tree.View.{condition_of, inner_of, steps_of_list};
 ghost use Rattle.jsonpath_paths.specs.declared.token.tokens.ParseToken.TheVariants as token;
 ghost use Rattle.jpath_texts.specs.Exact.{IsImageOf};
-ghost use Rattle.jpath_core.specs.AlongExactTree.{after, list_of, next, rest_from, walk, walk_all, written, AddsStraight};
+ghost use Rattle.jpath_core.specs.AlongExactTree.{after, are_straight, is_straight, is_straight_inner, list_of, next, rest_from, walk, walk_all, written, AddsStraight};
 
 use crate::exact_tree::exact_conditions::{holds_at_value, is_on_members_alone};
 use crate::output::matches::add_value_line;
@@ -38,19 +38,38 @@ pub struct ExactOutcome {
 /// JSON text with each number as it is written. Such a path begins at the root. It has only single names, `[*]`, and
 /// filters whose conditions use only literals and members of the value that the filter tests, such as `@.a`. For other
 /// paths, and for some documents, a copy of the tree with `serde_json`'s numbers has to be made first.
-pub fn may_answer_by_exact_tree(query: &Query<'_>) -> bool {
-    let path = query.path().tree();
-    for step in &path.steps {
-        let is_straight = match &step.inner {
-            Inner::Token(ParseToken::Key(_) | ParseToken::All) => !step.leaves,
-            Inner::Token(_) => false,
-            Inner::Filter(condition) => !step.leaves && is_on_members_alone(condition),
-        };
-        if !is_straight {
+pub fn may_answer_by_exact_tree(query: &Query<'_>) -> bool
+    ensures { (p : Path) → Spells query.now.path p → result ≡ is_straight p }
+{
+    one_tree_per_text();
+    let path = query.path();
+    let tree = path.tree();
+    tree.absolute && are_straight(tree.steps.as_slice())
+}
+
+// Whether the steps are single names, `[*]` and filters on members of the candidate, none behind `..`.
+fn are_straight(steps: &[ParserStep]) -> bool
+    ensures { result ≡ are_straight (steps_of_list steps.now) }
+{
+    let mut left = steps;
+    while let Some((step, rest)) = left.split_first() {
+        if step.leaves || !is_straight_inner(&step.inner) {
             return false;
         }
+        left = rest;
     }
-    path.absolute
+    true
+}
+
+// Whether what stands in a step is a single name, `[*]` or a filter on members of the candidate alone.
+fn is_straight_inner(inner: &Inner) -> bool
+    ensures { result ≡ is_straight_inner (inner_of inner.now) }
+{
+    match inner {
+        Inner::Token(ParseToken::Key(_) | ParseToken::All) => true,
+        Inner::Token(_) => false,
+        Inner::Filter(condition) => is_on_members_alone(condition),
+    }
 }
 
 /// Evaluates the path `query` on an exact tree, the tree of a JSON text with each number as it is written. Appends a
