@@ -8,8 +8,9 @@ ghost use Rattle.json.specs.Value.{value_view};
 ghost use Rattle.jsonpath_nodes.specs.place.LocationText.{location_text};
 ghost use Rattle.jsonpath_nodes.specs.place.SpotPlace.{location_of};
 ghost use Rattle.jpath_texts.specs.Lines.{on_line, shown};
-ghost use Rattle.jpath_core.specs.Printable.{escape, printable, printable_char};
+ghost use Rattle.jpath_core.specs.Printable.{escape, is_control, printable, printable_char};
 
+use crate::laws::escapes_hold;
 use jpath_texts::{Line, add_line_end, add_line_start, add_value_in_look};
 use json::Value as Exact;
 use jsonpath_nodes::{Location, Spot};
@@ -61,9 +62,21 @@ fn add_spot_location(alloc: Global, spot: &Spot<'_>, out: &mut Vec<u8>) -> Resul
 fn add_location(alloc: Global, location: &Location, out: &mut Vec<u8>) -> Result<(), AllocError>
     ensures { OnOk result (out.new.items ≡ out.old.items ++ printable (location_text location.now)) }
 {
+    escapes_hold();
     let text = format!(in alloc; "{location}")?;
-    let printable = printable_text(alloc, text.as_str())?;
-    out.extend_from_slice(printable.as_bytes())
+    let text = text.as_str();
+    if text.chars().any(is_control) {
+        let printable = printable_text(alloc, text)?;
+        return out.extend_from_slice(printable.as_bytes());
+    }
+    out.extend_from_slice(text.as_bytes())
+}
+
+// Whether a character is a control character: C0, DEL or C1.
+fn is_control(c: char) -> bool
+    ensures { result ≡ is_control c }
+{
+    matches!(c, '\0'..='\u{1f}' | '\u{7f}'..='\u{9f}')
 }
 
 // The text with each control character escaped.
@@ -81,9 +94,10 @@ fn printable_text(alloc: Global, text: &str) -> Result<String, AllocError>
 fn add_printable_char(c: char, made: &mut String) -> Result<(), AllocError>
     ensures { OnOk result (string_bytes made.new ≡ string_bytes made.old ++ encode_utf8_all (printable_char c)) }
 {
-    match c {
-        '\0'..='\u{1f}' | '\u{7f}'..='\u{9f}' => add_escape(c, made),
-        _ => made.push(c),
+    if is_control(c) {
+        add_escape(c, made)
+    } else {
+        made.push(c)
     }
 }
 
