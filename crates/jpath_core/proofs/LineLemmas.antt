@@ -6,7 +6,7 @@ use Rattle.json.proofs.Numbered.{HasNumbers-at, HasNumbers-get}
 use Rattle.jsonpath_nodes.specs.document.Document.{Document}
 use Rattle.jsonpath_nodes.specs.place.Location.{Step, name, index, Location}
 use Rattle.jsonpath_nodes.specs.place.SpotPlace.{look, sight_of, location_of, StandAt}
-use Rattle.jsonpath_nodes.specs.declared.place.spot.Spot.{Spot}
+use Rattle.jsonpath_nodes.specs.place.SpotPlace.{Spot}
 use Rattle.jpath_edits.specs.ExactAt.{exact_child, exact_at}
 
 -- ---- what is selected can be written

@@ -9,7 +9,7 @@ use Rattle.jsonpath_nodes.specs.document.Document.{Document as Image}
 use Rattle.jsonpath_nodes.specs.document.OfData.{document_of}
 use Rattle.jsonpath_nodes.specs.place.Location.{Location, at}
 use Rattle.jsonpath_nodes.specs.place.SpotPlace.{look, sight_of, location_of, value_of, StandAt}
-use Rattle.jsonpath_nodes.specs.declared.place.spot.Spot.{Spot}
+use Rattle.jsonpath_nodes.specs.place.SpotPlace.{Spot}
 use Rattle.jpath_texts.specs.declared.document.Document.{Document}
 use Rattle.jpath_texts.specs.declared.output.csv_and_tsv.Separated.{Separated}
 use Rattle.jpath_texts.specs.declared.query.Query.{Query}

@@ -9,7 +9,7 @@ use Rattle.jsonpath_nodes.specs.place.Location.{Location}
 use Rattle.jsonpath_nodes.specs.DocumentLaws.{OnceInOrderKeepsMembers}
 use Rattle.jsonpath_nodes.specs.place.SpotPlace.{StandAt, location_of, look, sight_of}
 use Rattle.jsonpath_nodes.specs.step.SameMembers.{SameMembers, JoinedSets, OneListOfASet}
-use Rattle.jsonpath_nodes.specs.declared.place.spot.Spot.{Spot}
+use Rattle.jsonpath_nodes.specs.place.SpotPlace.{Spot}
 
 -- the spots stand in the document, and what the paths that are left select completes them to the set that all of them select
 abbrev pub Completes : List (List ℕ) → ℕ → Document → List Spot → Type 0

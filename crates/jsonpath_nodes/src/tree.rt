@@ -1,7 +1,7 @@
 //! What the steps of a path need of a document: its values, as small copies that lead to them. A `Tree` names no
 //! lifetime, so functions that call themselves can be generic over it.
 
-ghost use Rattle.std.specs.Prelude.{◌≡◌, List, ℕ, None, option_map, MatchOption, IfOk, IfSome, IfNone};
+ghost use Rattle.std.specs.Prelude.{◌≡◌, None, option_map, MatchOption, IfOk, IfSome, IfNone};
 ghost use Rattle.jsonpath_nodes.specs.compare.Atoms.{seen_with};
 ghost use Rattle.jsonpath_nodes.specs.compare.Comparisons.{seen};
 ghost use Rattle.jsonpath_paths.specs.Numbers.{decimal_units};
@@ -9,12 +9,14 @@ ghost use Rattle.jsonpath_nodes.specs.document.Document.{Document, Items, Member
 ghost use Rattle.jsonpath_nodes.specs.document.Find.{items_len, as_array, as_object, get_item, get_member};
 ghost use Rattle.jsonpath_nodes.specs.place.Order.{NamesAscend};
 
+pub(crate) mod name;
 pub(crate) mod of_value;
 pub(crate) mod order;
 
 use crate::compare::atom::Atom;
 use crate::compare::fraction::Fraction;
 use crate::memory::NoMemory;
+use crate::tree::name::Name;
 use jsonpath_paths::Decimal;
 use std::alloc::{AllocError, Global};
 
@@ -27,7 +29,7 @@ use std::alloc::{AllocError, Global};
 /// ```
 pub trait Tree: Copy + Drop {
     /// An associated type, chosen by the implementor: the name of a member of an object, as the document stores it.
-    type Name: Copy;
+    type Name: Name;
     /// An associated type, chosen by the implementor: a handle to an array of the document, to read its items.
     type Array: Copy;
     /// An associated type, the implementor's choice: a handle to an object of the document, to read its members.
@@ -46,8 +48,6 @@ pub trait Tree: Copy + Drop {
     ghost items: { Self.Array → Items };
 
     ghost members: { Self.Object → Members };
-
-    ghost name_bytes: { Self.Name → List ℕ };
 
     ghost items_left: { Self.ItemsLeft → Items };
 
@@ -90,7 +90,7 @@ pub trait Tree: Copy + Drop {
     /// A method that implementors provide: returns the object's member with this name, as a pair of the name (as the
     /// document stores it) and the value. Returns `None` if the object has no member with this name.
     fn member_named(object: Self::Object, name: &str) -> Option<(Self::Name, Self)>
-        ensures key { IfSome result (λ p. name_bytes p.0 ≡ name.now) }
+        ensures key { IfSome result (λ p. Self.Name.bytes p.0 ≡ name.now) }
         ensures value { option_map (λ p. content p.1) result ≡ get_member name.now (members object) };
 
     /// A method that implementors provide: starts an iteration over the items of an array, in their order. Returns its
@@ -112,5 +112,5 @@ pub trait Tree: Copy + Drop {
     /// A method that implementors provide: takes the next member from `left`, the members that an iteration over an
     /// object has not returned yet. Returns the member's name and value, or `None` if no member is left.
     fn next_member(left: &mut Self::MembersLeft) -> Option<(Self::Name, Self)>
-        ensures { MatchOption result (members_left left.old ≡ no_members) (λ p. members_left left.old ≡ member (name_bytes p.0) (content p.1) (members_left left.new)) };
+        ensures { MatchOption result (members_left left.old ≡ no_members) (λ p. members_left left.old ≡ member (Self.Name.bytes p.0) (content p.1) (members_left left.new)) };
 }

@@ -7,8 +7,9 @@ use Rattle.jsonpath_nodes.specs.place.Location.{Location, at}
 use Rattle.jsonpath_nodes.specs.step.Steps.{every, step, all_below, flattened}
 use Rattle.jsonpath_nodes.specs.compare.Comparisons.{Seen, seen}
 use Rattle.jsonpath_nodes.specs.place.Order.{once_in_order}
-use Rattle.jsonpath_nodes.specs.place.SpotPlace.{StandAt}
-use Rattle.jsonpath_nodes.specs.declared.place.spot.Spot.{Spot}
+use Rattle.jsonpath_nodes.specs.place.Mark.{MarksStandAt}
+use Rattle.jsonpath_nodes.specs.place.SpotPlace.{Spot, StandAt, place_location, place_value}
+use Rattle.jsonpath_nodes.specs.declared.place.spot.Place.{Place}
 use Rattle.jsonpath_paths.specs.OfPath.{OfPath}
 use Rattle.jsonpath_select.specs.Parts.{plain_of, literals, has_pair, joined}
 
@@ -101,3 +102,7 @@ SelectsSet text doc spots = OfPath text (λ path. (ls : List Location) × StandA
 -- the spots stand, in this order, at what the path selects in the document
 abbrev pub SelectsSpots : List ℕ → Document → List Spot → Type 0
 SelectsSpots text doc spots = OfPath text (λ path. StandAt doc (sel text doc path) spots)
+
+-- the same of the nodes of any tree, by the bytes of its names and the documents of its values
+abbrev pub SelectsNodes : {T N : Type 0} → (N → List ℕ) → (T → Document) → List ℕ → Document → List (Place T N) → Type 0
+SelectsNodes bytes content text doc nodes = OfPath text (λ path. MarksStandAt true (place_location bytes) (place_value content) doc (sel text doc path) nodes)

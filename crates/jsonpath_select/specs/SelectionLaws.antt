@@ -16,7 +16,7 @@ use Rattle.jsonpath_nodes.specs.place.Location.{Step, name, index, Location, at,
 use Rattle.jsonpath_nodes.specs.place.LocationText.{location_text}
 use Rattle.jsonpath_nodes.specs.place.Order.{IsOrderedDocument}
 use Rattle.jsonpath_nodes.specs.place.SpotPlace.{sight_of}
-use Rattle.jsonpath_nodes.specs.declared.place.spot.Spot.{Spot}
+use Rattle.jsonpath_nodes.specs.place.SpotPlace.{Spot}
 use Rattle.jsonpath_select.specs.Parts.{plain_of, literals}
 use Rattle.jsonpath_select.specs.JsonPathErrors.{IsPathRefused}
 use Rattle.jsonpath_select.specs.declared.error.JsonPathError.{JsonPathError}

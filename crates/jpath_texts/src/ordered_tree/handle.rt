@@ -102,8 +102,6 @@ impl<'t, 'a> Tree for OrderedValue<'t, 'a> {
 
     ghost members = { λ o. members_of_tree (members_view o.members.now.items) };
 
-    ghost name_bytes = { λ k. k.now };
-
     ghost items_left = { λ left. items_of_tree (items_view (iter_rest left.items)) };
 
     ghost members_left = { λ left. members_of_tree (members_view (iter_rest left.members)) };

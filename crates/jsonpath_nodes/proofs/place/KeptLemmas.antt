@@ -8,7 +8,7 @@ use Rattle.jsonpath_nodes.specs.place.Location.{Location, at, below}
 use Rattle.jsonpath_nodes.specs.place.Order.{NamesAscend}
 use Rattle.jsonpath_nodes.specs.step.Steps.{Plain, every, single_steps, from, from_each, step, all_below, deep}
 use Rattle.jsonpath_nodes.specs.place.SpotPlace.{LeadsBy, location_of, look, look_from, sight_of, value_of}
-use Rattle.jsonpath_nodes.specs.declared.place.spot.Spot.{Spot}
+use Rattle.jsonpath_nodes.specs.place.SpotPlace.{Spot}
 use Rattle.jsonpath_nodes.specs.place.Mark.{kept_location, shown, look_kept, look_kept_from, MarksStandAt, MarksLeadBy, seen_from_each}
 use Rattle.jsonpath_nodes.proofs.place.SightLemmas.{Sight, kid_sights, items-sights, members-sights, items_children-sights, members_children-sights}
 use Rattle.jsonpath_nodes.proofs.step.ChildLemmas.{Kid, through, item_kids, member_kids, itself}

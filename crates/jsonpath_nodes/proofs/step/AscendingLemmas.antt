@@ -1,14 +1,16 @@
 -- Where the base locations ascend with none below another, no candidate is found twice.
-use Rattle.std.proofs.Common.{◌≡◌, List, [], ◌∷◌, map, Option, Some, None, true, false, Ordering, Less, Equal, Greater, refl, sym, ap, ◌∙◌, subst, arith}
+use Rattle.std.proofs.Common.{◌≡◌, ℕ, List, [], ◌∷◌, map, Option, Some, None, true, false, Ordering, Less, Equal, Greater, refl, sym, ap, ap₂, ◌∙◌, subst, arith, ◌<◌, ◌+◌, length, drop, get_or, drop-cons, add-one}
 use Rattle.std.specs.List.{AllByRecursion, IsDistinct}
 use Rattle.std.specs.Ordering.{match_ordering}
 use Rattle.jsonpath_nodes.specs.place.Location.{Step, Location, step_cmp, flat}
 use Rattle.jsonpath_nodes.specs.place.Order.{step_total}
 use Rattle.jsonpath_nodes.specs.step.Separate.{in_one_branch, IsDisjoint}
 use Rattle.jsonpath_nodes.specs.step.Steps.{from_each, flattened}
-use Rattle.jsonpath_nodes.specs.place.SpotPlace.{look, location_of, LeadsBy}
+use Rattle.jsonpath_nodes.specs.place.SpotPlace.{look, place_location, place_value}
 use Rattle.jsonpath_nodes.specs.plan.Ascending.{first_difference_ascends, AscendFrom, Ascend}
-use Rattle.jsonpath_nodes.specs.declared.place.spot.Spot.{Spot}
+use Rattle.jsonpath_nodes.specs.place.Mark.{MarksLeadBy}
+use Rattle.jsonpath_nodes.specs.document.Document.{Document}
+use Rattle.jsonpath_nodes.specs.declared.place.spot.Place.{Place}
 use Rattle.jsonpath_nodes.proofs.step.DisjointLemmas.{disjoint_stands_apart}
 use Rattle.jsonpath_nodes.proofs.place.OrderedSpotLemmas.{locations-StandAt}
 use Rattle.jsonpath_nodes.proofs.step.OnceLemmas.{step_same}
@@ -54,14 +56,26 @@ ascend_disjoint (l ∷ ls) h = (all_then (λ m. first_difference_ascends l m ≡
     later [] k = tt
     later (m ∷ ms) k = k.1
 
--- ---- spots
+-- ---- nodes
 
-pub leads_apart : (spots found : List Spot) → Ascend (map location_of spots) → LeadsBy (λ doc ls. from_each doc flat ls) spots found → LeadsBy flattened spots found
-leads_apart spots found h lead doc ls stand =
-    lead doc ls stand ∙ ap (map (look doc)) (sym (apart_has_no_repeat_flat doc ls (disjoint_stands_apart ls (ascend_disjoint ls (subst Ascend (locations-StandAt doc ls spots stand) h)))))
+pub leads_apart : {T N : Type 0} (bytes : N → List ℕ) (content : T → Document) (places found : List (Place T N)) → Ascend (map (place_location bytes) places)
+    → MarksLeadBy true (place_location bytes) (place_value content) (λ doc ls. from_each doc flat ls) places found → MarksLeadBy true (place_location bytes) (place_value content) flattened places found
+leads_apart bytes content places found h lead doc ls stand =
+    lead doc ls stand ∙ ap (map (look doc)) (sym (apart_has_no_repeat_flat doc ls (disjoint_stands_apart ls (ascend_disjoint ls (subst Ascend (locations-StandAt bytes content doc ls places stand) h)))))
 
 -- ---- the loop: with l the last location, if what is left ascends from it then all do
 
-abbrev pub AscendAfter : Option Location → List Spot → Type 0
-AscendAfter None left = Ascend (map location_of left)
-AscendAfter (Some l) left = AscendFrom l (map location_of left)
+abbrev pub AscendAfter : Option Location → List Location → Type 0
+AscendAfter None left = Ascend left
+AscendAfter (Some l) left = AscendFrom l left
+
+both : (last : Option Location) (here : Location) (ls : List Location) → ((l : Location) → last ≡ Some l → first_difference_ascends l here ≡ true) → AscendFrom here ls → AscendAfter last (here ∷ ls)
+both None here ls apart h = h
+both (Some l) here ls apart h = (apart l refl, h)
+
+pub ascend_next : {A : Type 0} (f : A → Location) (xs : List A) (i : ℕ) (x : A) (last : Option Location) (here : Location) → i < length xs → x ≡ get_or xs i x → here ≡ f x
+    → ((l : Location) → last ≡ Some l → first_difference_ascends l here ≡ true) → (AscendAfter last (map f (drop i xs)) → Ascend (map f xs)) → AscendFrom here (map f (drop (i + 1) xs)) → Ascend (map f xs)
+ascend_next f xs i x last here within is at apart before h =
+    let left : map f (drop i xs) ≡ here ∷ map f (drop (i + 1) xs) =
+    ap (map f) (drop-cons xs i x within) ∙ ap₂ (λ (l : Location) (ls : List Location). l ∷ ls) (ap f (sym is) ∙ sym at) (rw add-one refl) in
+    before (subst (AscendAfter last) (sym left) (both last here (map f (drop (i + 1) xs)) apart h))

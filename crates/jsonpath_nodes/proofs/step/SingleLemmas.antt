@@ -1,5 +1,5 @@
 -- One child by its name or its index.
-use Rattle.std.proofs.Common.{◌≡◌, ℕ, zero, suc, ◌<◌, ◌≤◌, [], ◌∷◌, ◌++◌, map, Some, None, Bool, min, refl, arith, rules}
+use Rattle.std.proofs.Common.{◌≡◌, ℕ, List, zero, suc, ◌<◌, ◌≤◌, [], ◌∷◌, ◌++◌, map, Some, None, Bool, min, refl, arith, rules}
 use Rattle.std.specs.Prelude.{pos, nat_lt}
 use Rattle.std.proofs.lemmas.Bool.{ltb-false}
 use Rattle.jsonpath_nodes.specs.document.Document.{Document, Items, no_items, item}
@@ -10,8 +10,8 @@ use Rattle.jsonpath_nodes.specs.step.Steps.{nth, single_steps}
 use Rattle.jsonpath_nodes.specs.declared.place.trail.Trail as trail
 use Rattle.jsonpath_nodes.specs.declared.place.trail.Trail.{Item}
 
-pub at-Item : (parent : _) (i : _) → location_at (Item parent i) ≡ location_at parent.value ++ index i ∷ []
-at-Item parent i = search (rules, trail.the_lemmas)
+pub at-Item : {N : Type 0} (bytes : N → List ℕ) (parent : _) (i : ℕ) → location_at bytes (Item parent i) ≡ location_at bytes parent.value ++ index i ∷ []
+at-Item bytes parent i = search (rules, trail.the_lemmas)
 
 item_within : (i : ℕ) (ds : Items) (c : Document) → get_item i ds ≡ Some c → i < items_len ds
 item_within i no_items c is = cc

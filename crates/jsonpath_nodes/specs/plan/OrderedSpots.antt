@@ -1,30 +1,37 @@
--- Spots beside the steps to them.
-use Rattle.std.specs.Prelude.{◌≡◌, List, map, reverse, Option, Some, None, option_map, Bool, true}
+-- Nodes beside the steps to them.
+use Rattle.std.specs.Prelude.{◌≡◌, ℕ, List, map, reverse, Option, Some, None, option_map, Bool, true}
 use Rattle.std.specs.Ordering.{is_lt}
 use Rattle.jsonpath_nodes.specs.document.Document.{Document}
-use Rattle.jsonpath_nodes.specs.place.Location.{Location, location_cmp}
-use Rattle.jsonpath_nodes.specs.place.SpotPlace.{look, sight_of, step_of}
+use Rattle.jsonpath_nodes.specs.place.Location.{Location, at, location_cmp}
+use Rattle.jsonpath_nodes.specs.place.Mark.{shown}
+use Rattle.jsonpath_nodes.specs.place.SpotPlace.{look, place_location, place_value}
+use Rattle.jsonpath_nodes.specs.plan.Way.{down_step}
 use Rattle.jsonpath_nodes.specs.declared.place.document_order.OrderedSpot.{OrderedSpot}
-use Rattle.jsonpath_nodes.specs.declared.place.spot.PathStep.{PathStep}
+use Rattle.jsonpath_nodes.specs.declared.place.spot.Place.{Place}
+use Rattle.jsonpath_nodes.specs.declared.step.descends.DownStep.{DownStep}
 use Rattle.std.specs.Global.{Vec}
 
+-- what a node shows
+abbrev pub place_sight : {T N : Type 0} → (N → List ℕ) → (T → Document) → Place T N → Location × Option Document
+place_sight bytes content = shown (place_location bytes) (place_value content)
+
 -- the location whose steps are these, the last one first
-abbrev pub from_top : List PathStep → Location
-from_top up = reverse (map step_of up)
+abbrev pub from_top : {N : Type 0} → (N → List ℕ) → List (DownStep N) → Location
+from_top bytes up = reverse (map (down_step bytes) up)
 
-abbrev pub ordered_spot_location : OrderedSpot → Location
-ordered_spot_location p = from_top p.up.items
+abbrev pub ordered_spot_location : {T N : Type 0} → (N → List ℕ) → OrderedSpot T N → Location
+ordered_spot_location bytes p = from_top bytes p.up.items
 
-abbrev pub ordered_spot_sight : OrderedSpot → Location × Option Document
-ordered_spot_sight p = sight_of p.spot
+abbrev pub ordered_spot_sight : {T N : Type 0} → (N → List ℕ) → (T → Document) → OrderedSpot T N → Location × Option Document
+ordered_spot_sight bytes content p = place_sight bytes content p.spot
 
 -- what is held is what the document has at the location
-abbrev pub IsShownIn : Document → OrderedSpot → Type 0
-IsShownIn doc p = ordered_spot_sight p ≡ look doc (ordered_spot_location p)
+abbrev pub IsShownIn : {T N : Type 0} → (N → List ℕ) → (T → Document) → Document → OrderedSpot T N → Type 0
+IsShownIn bytes content doc p = ordered_spot_sight bytes content p ≡ look doc (ordered_spot_location bytes p)
 
 -- the location whose steps are held, if there are any
-abbrev pub last_location : Option (Vec PathStep) → Option Location
-last_location last = option_map (λ (up : Vec PathStep). from_top up.items) last
+abbrev pub last_location : {N : Type 0} → (N → List ℕ) → Option (Vec (DownStep N)) → Option Location
+last_location {N} bytes last = option_map (λ (up : Vec (DownStep N)). from_top bytes up.items) last
 
 -- whether a location comes behind the one before it, if there is one
 abbrev pub comes_behind : Option Location → Location → Bool

@@ -18,8 +18,8 @@ use crate::compare::fraction::Fraction;
 use crate::memory::{Halt, NoMemory};
 use crate::place::document_order::{in_document_order, indexes_standing_among, topmost_spots};
 use crate::place::mark::Mark;
-use crate::place::spot::Spot;
-use crate::step::value_walker::ValueWalker;
+use crate::place::spot::Place;
+use crate::step::candidates;
 use crate::steps_on_marks::{candidates_below_mark, flattened_from_mark};
 use crate::tree::Tree;
 use jsonpath_paths::Decimal;
@@ -142,45 +142,54 @@ impl<T: Tree> Carried for T {
 }
 
 /// Implements the trait `Carried` (a node that is passed from step to step) for `Spot`, which has its location.
-impl<'a> Carried for Spot<'a> {
-    type Number = Decimal;
+impl<T: Tree> Carried for Place<T, T::Name> {
+    type Number = T::Number;
 
-    type Stop = NoMemory;
-
-    #[inline(always)]
-    fn atom(&self) -> Result<Atom<'_>, NoMemory> {
-        Ok(Atom::of(self.value))
-    }
+    type Stop = T::Error;
 
     #[inline(always)]
-    fn number_of_literal(&self, _alloc: Global, literal: Decimal) -> Result<Decimal, NoMemory> {
-        Ok(literal)
+    fn atom(&self) -> Result<Atom<'_, T::Number>, T::Error> {
+        Tree::atom(&self.value)
     }
 
-    fn flattened_once(alloc: Global, marks: &[Spot<'a>]) -> Result<Vec<Spot<'a>>, NoMemory> {
-        ValueWalker::walk_dedup_all(alloc, marks)
+    #[inline(always)]
+    fn number_of_literal(&self, alloc: Global, literal: Decimal) -> Result<T::Number, T::Error> {
+        Tree::number_of_literal(&self.value, alloc, literal)
     }
 
-    fn candidates_below_once(alloc: Global, marks: &[Spot<'a>]) -> Result<Vec<Spot<'a>>, NoMemory> {
-        ValueWalker::candidates_below(alloc, marks)
+    fn flattened_once(
+        alloc: Global,
+        marks: &[Place<T, T::Name>],
+    ) -> Result<Vec<Place<T, T::Name>>, T::Error> {
+        Ok(candidates::flattened_once(alloc, marks)?)
+    }
+
+    fn candidates_below_once(
+        alloc: Global,
+        marks: &[Place<T, T::Name>],
+    ) -> Result<Vec<Place<T, T::Name>>, T::Error> {
+        Ok(candidates::candidates_below_once(alloc, marks)?)
     }
 
     fn marks_in_document_order(
         alloc: Global,
-        marks: &[Spot<'a>],
-    ) -> Result<Vec<Spot<'a>>, NoMemory> {
-        in_document_order(alloc, marks)
+        marks: &[Place<T, T::Name>],
+    ) -> Result<Vec<Place<T, T::Name>>, T::Error> {
+        Ok(in_document_order(alloc, marks)?)
     }
 
-    fn topmost_marks(alloc: Global, marks: &[Spot<'a>]) -> Result<Vec<Spot<'a>>, NoMemory> {
-        topmost_spots(alloc, marks)
+    fn topmost_marks(
+        alloc: Global,
+        marks: &[Place<T, T::Name>],
+    ) -> Result<Vec<Place<T, T::Name>>, T::Error> {
+        Ok(topmost_spots(alloc, marks)?)
     }
 
     fn indexes_standing_among(
         alloc: Global,
-        marks: &[Spot<'a>],
-        others: &[Spot<'a>],
-    ) -> Result<Vec<usize>, NoMemory> {
-        indexes_standing_among(alloc, marks, others)
+        marks: &[Place<T, T::Name>],
+        others: &[Place<T, T::Name>],
+    ) -> Result<Vec<usize>, T::Error> {
+        Ok(indexes_standing_among(alloc, marks, others)?)
     }
 }

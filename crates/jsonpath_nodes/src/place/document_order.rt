@@ -1,7 +1,7 @@
 //! Lists of nodes as sets: each location once, in document order; the nodes without an ancestor in the list; the
 //! indexes of the nodes at locations of another list.
 
-ghost use Rattle.std.specs.Prelude.{◌≡◌, [], ◌∷◌, ◌++◌, List, map, Some, if◌then◌else◌, IfOk, OnOk, IsTrue, refl};
+ghost use Rattle.std.specs.Prelude.{◌≡◌, [], ◌∷◌, ◌++◌, List, map, true, Some, if◌then◌else◌, IfOk, OnOk, IsTrue, refl};
 ghost use Rattle.std.specs.Cmp.{eq_by_cmp_equiv, on_total, partial_equiv_from_equiv, partial_order_from_total};
 ghost use Rattle.std.specs.List.{AllByRecursion, list_any};
 ghost use Rattle.std.specs.List.Sorted.{IsStrictlySortedBy};
@@ -10,15 +10,19 @@ ghost use Rattle.jsonpath_nodes.specs.document.Document.{Document};
 ghost use Rattle.jsonpath_nodes.specs.place.Location.{Location, location_cmp, is_same};
 ghost use Rattle.jsonpath_nodes.specs.place.NumbersWhere.{numbers_where};
 ghost use Rattle.jsonpath_nodes.specs.place.Order.{location_total, once_in_order};
-ghost use Rattle.jsonpath_nodes.specs.place.SpotPlace.{LeadsBy, StandAt, location_of, sight_of};
-ghost use Rattle.jsonpath_nodes.specs.plan.OrderedSpots.{IsShownIn, comes_behind, from_top, last_location, ordered_spot_location, ordered_spot_sight};
+ghost use Rattle.jsonpath_nodes.specs.place.SpotPlace.{place_location, place_value};
+ghost use Rattle.jsonpath_nodes.specs.place.Mark.{MarksLeadBy, MarksStandAt};
+ghost use Rattle.jsonpath_nodes.specs.plan.OrderedSpots.{IsShownIn, comes_behind, place_sight, from_top, last_location, ordered_spot_location, ordered_spot_sight};
 ghost use Rattle.jsonpath_nodes.specs.step.SameMembers.{is_at_or_below, topmost};
 
 use crate::memory::NoMemory;
 use crate::place::reversed_steps::{
     compare_reversed_locations, is_reversed_prefix_of, reversed_steps,
 };
-use crate::place::spot::{PathStep, Spot};
+use crate::place::spot::Place;
+use crate::step::descends::DownStep;
+use crate::tree::Tree;
+use crate::tree::name::Name;
 use std::alloc::Global;
 use std::cmp::Ordering;
 use std::collections::BTreeSet;
@@ -30,8 +34,11 @@ use std::collections::BTreeSet;
 /// let twice = [spots[1].clone()?, spots[0].clone()?, spots[1].clone()?];
 /// assert_eq!(rt; in_document_order(alloc, &twice)?.len(), 2);
 /// ```
-pub fn in_document_order<'a>(alloc: Global, spots: &[Spot<'a>]) -> Result<Vec<Spot<'a>>, NoMemory>
-    ensures { IfOk result (λ found. LeadsBy (λ _ ls. once_in_order ls) spots.now found.items) }
+pub fn in_document_order<T: Tree>(
+    alloc: Global,
+    spots: &[Place<T, T::Name>],
+) -> Result<Vec<Place<T, T::Name>>, NoMemory>
+    ensures { IfOk result (λ found. MarksLeadBy true (place_location T.Name.bytes) (place_value T.content) (λ _ ls. once_in_order ls) spots.now found.items) }
 {
     if are_ordered_without_repeats(alloc, spots)? {
         let same = clone_spots(alloc, spots)?;
@@ -43,12 +50,15 @@ pub fn in_document_order<'a>(alloc: Global, spots: &[Spot<'a>]) -> Result<Vec<Sp
 }
 
 // Whether each spot comes behind the one before it, so that they stand in document order, each once.
-fn are_ordered_without_repeats(alloc: Global, spots: &[Spot<'_>]) -> Result<bool, NoMemory>
-    ensures { IfOk result (λ ordered. IsTrue ordered → IsStrictlySortedBy location_cmp (map location_of spots.now)) }
+fn are_ordered_without_repeats<T: Tree>(
+    alloc: Global,
+    spots: &[Place<T, T::Name>],
+) -> Result<bool, NoMemory>
+    ensures { IfOk result (λ ordered. IsTrue ordered → IsStrictlySortedBy location_cmp (map (place_location T.Name.bytes) spots.now)) }
 {
     let mut last = None;
     for spot in spots {
-        let up = reversed_steps(alloc, spot)?;
+        let up = reversed_steps(alloc, &spot.trail)?;
         if !is_after_last_spot(&last, up.as_slice()) {
             return Ok(false);
         }
@@ -58,8 +68,8 @@ fn are_ordered_without_repeats(alloc: Global, spots: &[Spot<'_>]) -> Result<bool
 }
 
 // Whether a location comes behind `last` in document order; true without a last. Steps are given last step first.
-fn is_after_last_spot(last: &Option<Vec<PathStep<'_>>>, up: &[PathStep<'_>]) -> bool
-    ensures { result ≡ comes_behind (last_location last.now) (from_top up.now) }
+fn is_after_last_spot<N: Name>(last: &Option<Vec<DownStep<N>>>, up: &[DownStep<N>]) -> bool
+    ensures { result ≡ comes_behind (last_location N.bytes last.now) (from_top N.bytes up.now) }
 {
     match last {
         Some(before) => compare_reversed_locations(before.as_slice(), up).is_lt(),
@@ -68,8 +78,11 @@ fn is_after_last_spot(last: &Option<Vec<PathStep<'_>>>, up: &[PathStep<'_>]) -> 
 }
 
 // Clones of the spots.
-fn clone_spots<'a>(alloc: Global, spots: &[Spot<'a>]) -> Result<Vec<Spot<'a>>, NoMemory>
-    ensures { IfOk result (λ same. map sight_of same.items ≡ map sight_of spots.now) }
+fn clone_spots<T: Tree>(
+    alloc: Global,
+    spots: &[Place<T, T::Name>],
+) -> Result<Vec<Place<T, T::Name>>, NoMemory>
+    ensures { IfOk result (λ same. map (place_sight T.Name.bytes T.content) same.items ≡ map (place_sight T.Name.bytes T.content) spots.now) }
 {
     let mut same = Vec::with_capacity(alloc, spots.len())?;
     for spot in spots {
@@ -86,12 +99,12 @@ fn clone_spots<'a>(alloc: Global, spots: &[Spot<'a>]) -> Result<Vec<Spot<'a>>, N
 /// let numbers = indexes_standing_among(alloc, spots.as_slice(), second.as_slice())?;
 /// assert!(rt; numbers.as_slice() == [1].as_slice());
 /// ```
-pub fn indexes_standing_among<'a>(
+pub fn indexes_standing_among<T: Tree>(
     alloc: Global,
-    spots: &[Spot<'a>],
-    others: &[Spot<'a>],
+    spots: &[Place<T, T::Name>],
+    others: &[Place<T, T::Name>],
 ) -> Result<Vec<usize>, NoMemory>
-    ensures { IfOk result (λ numbers. numbers.items ≡ numbers_where (λ l. list_any (is_same l) (once_in_order (map location_of others.now))) 0 (map location_of spots.now)) }
+    ensures { IfOk result (λ numbers. numbers.items ≡ numbers_where (λ l. list_any (is_same l) (once_in_order (map (place_location T.Name.bytes) others.now))) 0 (map (place_location T.Name.bytes) spots.now)) }
 {
     let places = ordered_spots(alloc, others)?;
     let mut numbers = Vec::new(alloc);
@@ -113,12 +126,12 @@ fn push_index_if(passes: bool, number: usize, numbers: &mut Vec<usize>) -> Resul
 }
 
 // The spots as a set in document order, each location once.
-fn ordered_spots<'a>(
+fn ordered_spots<T: Tree>(
     alloc: Global,
-    spots: &[Spot<'a>],
-) -> Result<BTreeSet<OrderedSpot<'a>>, NoMemory>
-    ensures order { IfOk result (λ placed. map ordered_spot_location placed.keys ≡ once_in_order (map location_of spots.now)) }
-    ensures shown { IfOk result (λ placed. (doc : Document) (ls : List Location) → StandAt doc ls spots.now → AllByRecursion (IsShownIn doc) placed.keys) }
+    spots: &[Place<T, T::Name>],
+) -> Result<BTreeSet<OrderedSpot<T, T::Name>>, NoMemory>
+    ensures order { IfOk result (λ placed. map (ordered_spot_location T.Name.bytes) placed.keys ≡ once_in_order (map (place_location T.Name.bytes) spots.now)) }
+    ensures shown { IfOk result (λ placed. (doc : Document) (ls : List Location) → MarksStandAt true (place_location T.Name.bytes) (place_value T.content) doc ls spots.now → AllByRecursion (IsShownIn T.Name.bytes T.content doc) placed.keys) }
 {
     let mut placed = BTreeSet::new(alloc);
     for spot in spots {
@@ -135,8 +148,11 @@ fn ordered_spots<'a>(
 /// let below = Spot::root(alloc, &document).below(alloc)?;
 /// assert_eq!(rt; topmost_spots(alloc, below.as_slice())?.len(), 1);
 /// ```
-pub fn topmost_spots<'a>(alloc: Global, spots: &[Spot<'a>]) -> Result<Vec<Spot<'a>>, NoMemory>
-    ensures { IfOk result (λ found. LeadsBy (λ _ ls. topmost ls) spots.now found.items) }
+pub fn topmost_spots<T: Tree>(
+    alloc: Global,
+    spots: &[Place<T, T::Name>],
+) -> Result<Vec<Place<T, T::Name>>, NoMemory>
+    ensures { IfOk result (λ found. MarksLeadBy true (place_location T.Name.bytes) (place_value T.content) (λ _ ls. topmost ls) spots.now found.items) }
 {
     let mut kept = Vec::new(alloc);
     let mut last = None;
@@ -147,16 +163,16 @@ pub fn topmost_spots<'a>(alloc: Global, spots: &[Spot<'a>]) -> Result<Vec<Spot<'
 }
 
 // Adds a spot to those kept, unless it stands at or below the last one kept, to which `last` has the steps.
-fn push_if_topmost<'a>(
+fn push_if_topmost<T: Tree>(
     alloc: Global,
-    spot: &Spot<'a>,
-    last: &mut Option<Vec<PathStep<'a>>>,
-    kept: &mut Vec<Spot<'a>>,
+    spot: &Place<T, T::Name>,
+    last: &mut Option<Vec<DownStep<T::Name>>>,
+    kept: &mut Vec<Place<T, T::Name>>,
 ) -> Result<(), NoMemory>
-    ensures last { OnOk result (last_location last.new ≡ (if is_at_or_below (last_location last.old) (location_of spot.now) then last_location last.old else Some (location_of spot.now))) }
-    ensures kept { OnOk result (map sight_of kept.new.items ≡ map sight_of kept.old.items ++ (if is_at_or_below (last_location last.old) (location_of spot.now) then [] else sight_of spot.now ∷ [])) }
+    ensures last { OnOk result (last_location T.Name.bytes last.new ≡ (if is_at_or_below (last_location T.Name.bytes last.old) (place_location T.Name.bytes spot.now) then last_location T.Name.bytes last.old else Some (place_location T.Name.bytes spot.now))) }
+    ensures kept { OnOk result (map (place_sight T.Name.bytes T.content) kept.new.items ≡ map (place_sight T.Name.bytes T.content) kept.old.items ++ (if is_at_or_below (last_location T.Name.bytes last.old) (place_location T.Name.bytes spot.now) then [] else place_sight T.Name.bytes T.content spot.now ∷ [])) }
 {
-    let up = reversed_steps(alloc, spot)?;
+    let up = reversed_steps(alloc, &spot.trail)?;
     if !is_at_or_below_last(last, up.as_slice()) {
         kept.push(spot.clone()?)?;
         *last = Some(up);
@@ -165,8 +181,8 @@ fn push_if_topmost<'a>(
 }
 
 // Whether a location is `last` or below it; false without a last. Steps are given last step first.
-fn is_at_or_below_last(last: &Option<Vec<PathStep<'_>>>, up: &[PathStep<'_>]) -> bool
-    ensures { result ≡ is_at_or_below (last_location last.now) (from_top up.now) }
+fn is_at_or_below_last<N: Name>(last: &Option<Vec<DownStep<N>>>, up: &[DownStep<N>]) -> bool
+    ensures { result ≡ is_at_or_below (last_location N.bytes last.now) (from_top N.bytes up.now) }
 {
     match last {
         Some(top) => is_reversed_prefix_of(top.as_slice(), up),
@@ -176,18 +192,21 @@ fn is_at_or_below_last(last: &Option<Vec<PathStep<'_>>>, up: &[PathStep<'_>]) ->
 
 // A spot with the steps to it, the last one first, so that spots are ordered by their locations.
 #[derive(Drop)]
-pub struct OrderedSpot<'a> {
-    pub(crate) up: Vec<PathStep<'a>>,
-    pub(crate) spot: Spot<'a>,
+pub struct OrderedSpot<T, N> {
+    pub(crate) up: Vec<DownStep<N>>,
+    pub(crate) spot: Place<T, N>,
 }
 
-impl<'a> OrderedSpot<'a> {
+impl<T: Tree> OrderedSpot<T, T::Name> {
     // A clone of the spot beside the steps to it, by which it is ordered.
-    pub(crate) fn of_spot(alloc: Global, spot: &Spot<'a>) -> Result<OrderedSpot<'a>, NoMemory>
-        ensures location { IfOk result (λ placed. ordered_spot_location placed ≡ location_of spot.now) }
-        ensures sight { IfOk result (λ placed. ordered_spot_sight placed ≡ sight_of spot.now) }
+    pub(crate) fn of_spot(
+        alloc: Global,
+        spot: &Place<T, T::Name>,
+    ) -> Result<OrderedSpot<T, T::Name>, NoMemory>
+        ensures location { IfOk result (λ placed. ordered_spot_location T.Name.bytes placed ≡ place_location T.Name.bytes spot.now) }
+        ensures sight { IfOk result (λ placed. ordered_spot_sight T.Name.bytes T.content placed ≡ place_sight T.Name.bytes T.content spot.now) }
     {
-        let up = reversed_steps(alloc, spot)?;
+        let up = reversed_steps(alloc, &spot.trail)?;
         Ok(OrderedSpot {
             up,
             spot: spot.clone()?,
@@ -195,50 +214,50 @@ impl<'a> OrderedSpot<'a> {
     }
 }
 
-impl<'a> PartialEq for OrderedSpot<'a> {
-    ghost eq = { on ordered_spot_location (eq_by_cmp location_cmp) };
+impl<T: Copy + Drop, N: Name> PartialEq for OrderedSpot<T, N> {
+    ghost eq = { on (ordered_spot_location N.bytes) (eq_by_cmp location_cmp) };
 
-    ghost laws = { partial_equiv_from_equiv (eq_by_cmp_equiv (on_total ordered_spot_location location_total)) };
+    ghost laws = { partial_equiv_from_equiv (eq_by_cmp_equiv (on_total (ordered_spot_location N.bytes) location_total)) };
 
-    fn eq(&self, other: &OrderedSpot<'a>) -> bool {
+    fn eq(&self, other: &OrderedSpot<T, N>) -> bool {
         compare_reversed_locations(self.up.as_slice(), other.up.as_slice()).is_eq()
     }
 }
 
-impl<'a> Eq for OrderedSpot<'a> {
-    ghost laws = { eq_by_cmp_equiv (on_total ordered_spot_location location_total) };
+impl<T: Copy + Drop, N: Name> Eq for OrderedSpot<T, N> {
+    ghost laws = { eq_by_cmp_equiv (on_total (ordered_spot_location N.bytes) location_total) };
 }
 
-impl<'a> PartialOrd for OrderedSpot<'a> {
-    ghost partial_cmp = { as_partial_cmp (on ordered_spot_location location_cmp) };
+impl<T: Copy + Drop, N: Name> PartialOrd for OrderedSpot<T, N> {
+    ghost partial_cmp = { as_partial_cmp (on (ordered_spot_location N.bytes) location_cmp) };
 
-    ghost laws = { partial_order_from_total (on_total ordered_spot_location location_total) };
+    ghost laws = { partial_order_from_total (on_total (ordered_spot_location N.bytes) location_total) };
 
-    fn partial_cmp(&self, other: &OrderedSpot<'a>) -> Option<Ordering> {
+    fn partial_cmp(&self, other: &OrderedSpot<T, N>) -> Option<Ordering> {
         Some(compare_reversed_locations(self.up.as_slice(), other.up.as_slice()))
     }
 }
 
-impl<'a> Ord for OrderedSpot<'a> {
-    ghost cmp = { on ordered_spot_location location_cmp };
+impl<T: Copy + Drop, N: Name> Ord for OrderedSpot<T, N> {
+    ghost cmp = { on (ordered_spot_location N.bytes) location_cmp };
 
-    ghost total = { on_total ordered_spot_location location_total };
+    ghost total = { on_total (ordered_spot_location N.bytes) location_total };
 
     ghost matches_partial_cmp = { λ x y. refl };
 
     ghost matches_eq = { λ x y. refl };
 
-    fn cmp(&self, other: &OrderedSpot<'a>) -> Ordering {
+    fn cmp(&self, other: &OrderedSpot<T, N>) -> Ordering {
         compare_reversed_locations(self.up.as_slice(), other.up.as_slice())
     }
 }
 
 // The spots of an ordered set, in document order, without the steps beside them.
-fn into_spots<'a>(
+fn into_spots<T: Tree>(
     alloc: Global,
-    placed: BTreeSet<OrderedSpot<'a>>,
-) -> Result<Vec<Spot<'a>>, NoMemory>
-    ensures { IfOk result (λ found. map sight_of found.items ≡ map ordered_spot_sight placed.entry.keys) }
+    placed: BTreeSet<OrderedSpot<T, T::Name>>,
+) -> Result<Vec<Place<T, T::Name>>, NoMemory>
+    ensures { IfOk result (λ found. map (place_sight T.Name.bytes T.content) found.items ≡ map (ordered_spot_sight T.Name.bytes T.content) placed.keys) }
 {
     let mut found = Vec::new(alloc);
     for one in placed {

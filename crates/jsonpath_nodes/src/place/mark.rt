@@ -6,14 +6,14 @@ ghost use Rattle.jsonpath_nodes.specs.document.Document.{Document};
 ghost use Rattle.jsonpath_nodes.specs.place.Location.{Location, flat};
 ghost use Rattle.jsonpath_nodes.specs.place.Mark.{MarksGain, MarksStandAt, shown};
 ghost use Rattle.jsonpath_nodes.specs.place.Order.{IsOrderedDocument};
-ghost use Rattle.jsonpath_nodes.specs.place.SpotPlace.{location_of, value_of};
+ghost use Rattle.jsonpath_nodes.specs.place.SpotPlace.{place_location, place_value};
 ghost use Rattle.jsonpath_nodes.specs.step.Candidates.{candidates_below};
 ghost use Rattle.jsonpath_nodes.specs.step.PlainSteps.{plain_step_of};
 ghost use Rattle.jsonpath_nodes.specs.step.Separate.{HasNamesInOrder};
 ghost use Rattle.jsonpath_nodes.specs.step.Steps.{deep, named, single_steps};
 
 use crate::memory::NoMemory;
-use crate::place::spot::Spot;
+use crate::place::spot::Place;
 use crate::step::plain_step::PlainStep;
 use crate::step::{candidates, children, gather};
 use crate::tree::{Tree, order};
@@ -172,20 +172,20 @@ impl<T: Tree> Mark for T {
 
 /// Implements the trait `Mark` (a node of a document) for `Spot`: such a node has its value and its location. The
 /// `Spot`s of a node's children share the steps of the node's location instead of copying them.
-impl<'a> Mark for Spot<'a> {
+impl<T: Tree> Mark for Place<T, T::Name> {
     ghost located = { true };
 
-    ghost stand = { location_of };
+    ghost stand = { λ place. place_location T.Name.bytes place };
 
-    ghost content = { value_of };
+    ghost content = { λ place. place_value T.content place };
 
     #[inline(always)]
-    fn as_root(&self, alloc: Global) -> Spot<'a> {
-        Spot::root(alloc, self.value)
+    fn as_root(&self, _alloc: Global) -> Place<T, T::Name> {
+        Place::at_root(self.value)
     }
 
     #[inline(always)]
-    fn copy(&self) -> Result<Spot<'a>, NoMemory> {
+    fn copy(&self) -> Result<Place<T, T::Name>, NoMemory> {
         Ok(self.clone()?)
     }
 
@@ -203,7 +203,7 @@ impl<'a> Mark for Spot<'a> {
         &self,
         alloc: Global,
         plain: &PlainStep<'_>,
-        out: &mut Vec<Spot<'a>>,
+        out: &mut Vec<Place<T, T::Name>>,
     ) -> Result<(), NoMemory> {
         children::add_selected_children(self, alloc, plain, out)
     }
@@ -213,7 +213,7 @@ impl<'a> Mark for Spot<'a> {
         &self,
         alloc: Global,
         name: &str,
-        out: &mut Vec<Spot<'a>>,
+        out: &mut Vec<Place<T, T::Name>>,
     ) -> Result<(), NoMemory> {
         children::add_named_member(self, alloc, name, out)
     }
@@ -223,18 +223,26 @@ impl<'a> Mark for Spot<'a> {
         &self,
         alloc: Global,
         plain: &PlainStep<'_>,
-        out: &mut Vec<Spot<'a>>,
+        out: &mut Vec<Place<T, T::Name>>,
     ) -> Result<(), NoMemory> {
         gather::add_selected_at_or_below(alloc, self, plain, out)
     }
 
     #[inline]
-    fn add_flattened(&self, alloc: Global, out: &mut Vec<Spot<'a>>) -> Result<(), NoMemory> {
+    fn add_flattened(
+        &self,
+        alloc: Global,
+        out: &mut Vec<Place<T, T::Name>>,
+    ) -> Result<(), NoMemory> {
         candidates::add_flattened(alloc, self, out)
     }
 
     #[inline]
-    fn add_candidates_below(&self, alloc: Global, out: &mut Vec<Spot<'a>>) -> Result<(), NoMemory> {
+    fn add_candidates_below(
+        &self,
+        alloc: Global,
+        out: &mut Vec<Place<T, T::Name>>,
+    ) -> Result<(), NoMemory> {
         candidates::add_candidates_below(alloc, self, out)
     }
 }

@@ -1,23 +1,28 @@
 //! `Spot`, a node: a value of a document with its location. Children of one value share its location.
 
-ghost use Rattle.std.specs.Prelude.{◌≡◌, ◌↔◌, [], ◌∷◌, ◌++◌, ◌^◌, ◌-◌, length, min, pos, true, IsTrue, IfOk, OnOk, IfSome, IfNone, IsSomeAnd, option_to_list};
+ghost use Rattle.std.specs.Prelude.{◌≡◌, ◌↔◌, [], ◌∷◌, ◌++◌, ◌^◌, ◌-◌, length, min, pos, true, IsTrue, IfOk, OnOk, IfSome, IfNone, option_to_list};
 ghost use Rattle.serde_json.specs.View.{view};
 ghost use Rattle.jsonpath_nodes.specs.document.OfData.{document_of};
 ghost use Rattle.jsonpath_nodes.specs.place.Location.{below};
 ghost use Rattle.jsonpath_nodes.specs.place.Mark.{MarksGain};
-ghost use Rattle.jsonpath_nodes.specs.place.SpotPlace.{step_of, steps_of, path_location, location_of, value_of, sight_of, LeadsBy};
+ghost use Rattle.jsonpath_nodes.specs.place.SpotPlace.{key_bytes, step_of, steps_of, path_location, place_location, place_value, location_of, value_of, LeadsBy};
+ghost use Rattle.jsonpath_nodes.specs.plan.OrderedSpots.{place_sight};
+ghost use Rattle.jsonpath_nodes.specs.plan.Way.{down_step};
 ghost use Rattle.jsonpath_nodes.specs.step.Steps.{step, all_below, every, named, nth};
 
 use crate::memory::NoMemory;
 use crate::place::location::Location;
 use crate::place::mark::Mark;
+use crate::place::reversed_steps::split_last_step;
 use crate::place::trail::{
-    PathTo, Trail, add_steps_of_path_to_value, clone_trail, is_root, len_of_path_to_value,
-    shared_trail,
+    PathTo, Trail, add_steps_of_path_to_value, clone_trail, len_of_path_to_value, shared_trail,
 };
 use crate::step::child_lookup::item_of_value;
 use crate::step::descend::add_node_and_all_below;
+use crate::step::descends::DownStep;
 use crate::step::plain_step::PlainStep;
+use crate::tree::Tree;
+use crate::tree::name::Name;
 use serde_json::Value;
 use std::alloc::{AllocError, Global};
 
@@ -50,10 +55,19 @@ pub enum PathStep<'a> {
 /// assert_eq!(rt; items.len(), 2);
 /// assert!(rt; items[1].location(alloc)?.to_string(alloc)?.as_str() == "$['a'][1]");
 /// ```
+pub type Spot<'a> = Place<&'a Value, &'a String>;
+
+/// A node of any `Tree`: a value, by its handle of type `T`, with its location. `N` is the type of the tree's names.
+/// `Spot` is such a node of a `serde_json` value.
+///
+/// ```text
+/// let root = Place::at_root(&document);
+/// assert!(rt; root.location_in(alloc)?.steps().is_empty());
+/// ```
 #[derive(Drop)]
-pub struct Spot<'a> {
-    pub(crate) value: &'a Value,
-    pub(crate) trail: Trail<'a>,
+pub struct Place<T, N> {
+    pub(crate) value: T,
+    pub(crate) trail: Trail<N>,
 }
 
 /// The steps from the root to a node. A `for` loop goes through them from the root down, and `split_last` takes off the
@@ -66,7 +80,7 @@ pub struct Spot<'a> {
 /// ```
 #[derive(Clone, Copy)]
 pub struct Steps<'b, 'a> {
-    pub(crate) path_to: PathTo<'b, 'a>,
+    pub(crate) path_to: PathTo<'b, &'a String>,
 }
 
 // A spot takes four words: a list of spots is copied as it grows.
@@ -83,10 +97,7 @@ impl<'a> Spot<'a> {
         ensures location { location_of result ≡ [] }
         ensures value { value_of result ≡ document_of (view value.now) }
     {
-        Spot {
-            value,
-            trail: Trail::Root,
-        }
+        Place::at_root(value)
     }
 
     /// The value of the node, borrowed from the document.
@@ -174,7 +185,7 @@ impl<'a> Spot<'a> {
         match item_of_value(self.value, index) {
             Some(item) => {
                 let here = shared_trail(alloc, &self.trail)?;
-                Ok(Some(Spot {
+                Ok(Some(Place {
                     value: item,
                     trail: Trail::Item(here, index),
                 }))
@@ -212,14 +223,56 @@ impl<'a> Spot<'a> {
 
 /// Clones a node: the clone has the same value and shares the steps of its location. `clone` returns a `Result`; it
 /// fails only if the reference count of these steps would overflow.
-impl<'a> Clone for Spot<'a> {
-    ghost is_clone = { λ spot copy. sight_of copy ≡ sight_of spot };
+impl<T: Tree> Clone for Place<T, T::Name> {
+    ghost is_clone = { λ place copy. place_sight T.Name.bytes T.content copy ≡ place_sight T.Name.bytes T.content place };
 
-    fn clone(&self) -> Result<Spot<'a>, AllocError> {
-        Ok(Spot {
+    fn clone(&self) -> Result<Place<T, T::Name>, AllocError> {
+        Ok(Place {
             value: self.value,
             trail: clone_trail(&self.trail)?,
         })
+    }
+}
+
+impl<T: Tree> Place<T, T::Name> {
+    /// The root node of a document, with the whole document as its value.
+    ///
+    /// ```text
+    /// let root = Place::at_root(&document);
+    /// assert!(rt; root.handle().is_object());
+    /// ```
+    pub fn at_root(value: T) -> Place<T, T::Name>
+        ensures location { place_location T.Name.bytes result ≡ [] }
+        ensures value { place_value T.content result ≡ T.content value }
+    {
+        Place {
+            value,
+            trail: Trail::Root,
+        }
+    }
+
+    /// The handle to the node's value.
+    ///
+    /// ```text
+    /// let root = Place::at_root(&document);
+    /// assert!(rt; root.handle().get("a").is_some());
+    /// ```
+    pub fn handle(&self) -> T
+        ensures { T.content result ≡ place_value T.content self.now }
+    {
+        self.value
+    }
+
+    /// The location of the node, copied into a `Location`. The only error is `NoMemory`.
+    ///
+    /// ```text
+    /// let root = Place::at_root(&document);
+    /// assert!(rt; root.location_in(alloc)?.to_string(alloc)?.as_str() == "$");
+    /// ```
+    pub fn location_in(&self, alloc: Global) -> Result<Location, NoMemory>
+        ensures { IfOk result (λ location. location ≡ place_location T.Name.bytes self.now) }
+    {
+        location_of_path(alloc, PathTo::Whole(&self.trail))
     }
 }
 
@@ -233,24 +286,9 @@ impl<'b, 'a> Steps<'b, 'a> {
         ensures last { IfSome result (λ p. steps_of p.1 ++ step_of p.0 ∷ [] ≡ steps_of self.entry) }
         ensures root { IfNone result (steps_of self.entry ≡ []) }
     {
-        match self.path_to {
-            PathTo::Whole(Trail::Root) => None,
-            PathTo::Whole(Trail::Member(parent, key)) => last_step_and_before(
-                PathTo::Whole(parent),
-                PathStep::Name(key.as_str()),
-            ),
-            PathTo::Whole(Trail::Item(parent, i)) => last_step_and_before(
-                PathTo::Whole(parent),
-                PathStep::Index(*i),
-            ),
-            PathTo::Whole(Trail::ItemMember(i, parent, key)) => last_step_and_before(
-                PathTo::Item(parent, *i as usize),
-                PathStep::Name(key.as_str()),
-            ),
-            PathTo::Item(parent, i) => last_step_and_before(
-                PathTo::Whole(parent),
-                PathStep::Index(i),
-            ),
+        match split_last_step(self.path_to) {
+            Some((step, path_to)) => Some((borrowed_step(step), Steps { path_to })),
+            None => None,
         }
     }
 
@@ -273,7 +311,10 @@ impl<'b, 'a> Steps<'b, 'a> {
     pub fn is_empty(self) -> bool
         ensures { IsTrue result ↔ (steps_of self.entry ≡ []) }
     {
-        is_root(self.path_to)
+        match split_last_step(self.path_to) {
+            Some(_) => false,
+            None => true,
+        }
     }
 
     /// Copies the steps from the root to the node into a `Location`. The only error is `NoMemory`.
@@ -285,18 +326,25 @@ impl<'b, 'a> Steps<'b, 'a> {
     pub fn to_location(self, alloc: Global) -> Result<Location, NoMemory>
         ensures { IfOk result (λ location. location ≡ steps_of self.entry) }
     {
-        let mut steps = Vec::new(alloc);
-        add_steps_of_path_to_value(self.path_to, &mut steps)?;
-        Ok(Location::from_steps(steps))
+        location_of_path(alloc, self.path_to)
     }
 }
 
-// A last step beside the steps of the path before it, as `Steps::split_last` answers them; it is never None.
-fn last_step_and_before<'b, 'a>(
-    path_to: PathTo<'b, 'a>,
-    step: PathStep<'a>,
-) -> Option<(PathStep<'a>, Steps<'b, 'a>)>
-    ensures { IsSomeAnd result (λ p. steps_of p.1 ++ step_of p.0 ∷ [] ≡ path_location path_to.entry ++ step_of step.entry ∷ []) }
+// The steps of a path to a value, copied.
+fn location_of_path<N: Name>(alloc: Global, path_to: PathTo<'_, N>) -> Result<Location, NoMemory>
+    ensures { IfOk result (λ location. location ≡ path_location N.bytes path_to.entry) }
 {
-    Some((step, Steps { path_to }))
+    let mut steps = Vec::new(alloc);
+    add_steps_of_path_to_value(alloc, path_to, &mut steps)?;
+    Ok(Location::from_steps(steps))
+}
+
+// A step down, by a name borrowed from the document.
+fn borrowed_step<'a>(step: DownStep<&'a String>) -> PathStep<'a>
+    ensures { step_of result ≡ down_step key_bytes step.entry }
+{
+    match step {
+        DownStep::Item(index) => PathStep::Index(index),
+        DownStep::Member(key) => PathStep::Name(key.as_str()),
+    }
 }

@@ -3,7 +3,7 @@
 ghost use Rattle.std.specs.Prelude.{◌≡◌, ◌∷◌, [], ◌++◌, ◌-◌, ◌^◌, ℕ, take};
 ghost use Rattle.std.specs.Iterator.{YieldsFirstBy, item_count};
 ghost use Rattle.jsonpath_nodes.specs.place.Location.{Location};
-ghost use Rattle.jsonpath_nodes.specs.place.SpotPlace.{location_at, path_location, step_of, steps_of, steps_left, IsStepAt};
+ghost use Rattle.jsonpath_nodes.specs.place.SpotPlace.{key_bytes, location_at, path_location, step_of, steps_of, steps_left, IsStepAt};
 
 use crate::place::spot::{PathStep, Steps};
 use crate::place::trail::{PathTo, Trail};
@@ -19,13 +19,16 @@ use crate::place::trail::{PathTo, Trail};
 /// ```
 #[derive(Clone, Copy)]
 pub struct StepsFromRoot<'b, 'a> {
-    pub(crate) path_to: PathTo<'b, 'a>,
+    pub(crate) path_to: PathTo<'b, &'a String>,
     pub(crate) taken: usize,
 }
 
 // The step at this index of a trail, from the root down; or how far behind its end that is, 0 right behind it.
-fn step_at_index_of_trail<'a>(trail: &Trail<'a>, index: usize) -> Result<PathStep<'a>, usize>
-    ensures { IsStepAt (location_at trail.now) index result }
+fn step_at_index_of_trail<'a>(
+    trail: &Trail<&'a String>,
+    index: usize,
+) -> Result<PathStep<'a>, usize>
+    ensures { IsStepAt (location_at key_bytes trail.now) index result }
 {
     match trail {
         Trail::Root => Err(index),
@@ -64,10 +67,10 @@ fn found_or_last_step<'a>(
 
 // The step at this index of a path to a value, from the root down; or how far behind its end that is.
 fn step_at_index_of_path_to_value<'a>(
-    path_to: PathTo<'_, 'a>,
+    path_to: PathTo<'_, &'a String>,
     index: usize,
 ) -> Result<PathStep<'a>, usize>
-    ensures { IsStepAt (path_location path_to.entry) index result }
+    ensures { IsStepAt (path_location key_bytes path_to.entry) index result }
 {
     match path_to {
         PathTo::Whole(trail) => step_at_index_of_trail(trail, index),

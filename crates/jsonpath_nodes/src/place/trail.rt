@@ -1,49 +1,50 @@
 //! Trails: the locations of nodes, as linked lists. All nodes below a container share its trail.
 
-ghost use Rattle.std.specs.Prelude.{◌≡◌, ◌↔◌, [], ◌∷◌, ◌++◌, ◌^◌, ◌-◌, length, min, string_bytes, IsTrue, IfOk, IfSome, OnOk};
+ghost use Rattle.std.specs.Prelude.{◌≡◌, [], ◌∷◌, ◌++◌, ◌^◌, ◌-◌, length, min, IfOk, IfSome, OnOk};
 ghost use Rattle.jsonpath_nodes.specs.place.Location.{name as by_name, index as by_index};
 ghost use Rattle.jsonpath_nodes.specs.place.Owned.{owned_steps};
 ghost use Rattle.jsonpath_nodes.specs.place.SpotPlace.{location_at, path_location, object_path_location, held_path_location};
 
 use crate::memory::NoMemory;
 use crate::place::location::LocStep;
+use crate::tree::name::Name;
 use std::alloc::{AllocError, Global};
 use std::rc::Rc;
 
 // The steps from the root to a value. The members of an object that is an item of an array share the steps to the
 // array; the index takes 32 bits there, so that a trail takes three words.
 #[derive(Drop)]
-pub enum Trail<'a> {
+pub enum Trail<N> {
     Root,
-    Member(Rc<Trail<'a>>, &'a String),
-    Item(Rc<Trail<'a>>, usize),
-    ItemMember(u32, Rc<Trail<'a>>, &'a String),
+    Member(Rc<Trail<N>>, N),
+    Item(Rc<Trail<N>>, usize),
+    ItemMember(u32, Rc<Trail<N>>, N),
 }
 
 // What leads to an object, lent: the trail to it, or that to the array that has it as an item, and its index.
 #[derive(Clone, Copy)]
-pub enum PathToObject<'b, 'a> {
-    Whole(&'b Rc<Trail<'a>>),
-    Item(&'b Rc<Trail<'a>>, u32),
+pub enum PathToObject<'b, N> {
+    Whole(&'b Rc<Trail<N>>),
+    Item(&'b Rc<Trail<N>>, u32),
 }
 
 // What leads to an array or object, held for its contents: its trail, or its array's trail and its index there.
 #[derive(Drop)]
-pub enum HeldPathToContainer<'a> {
-    Whole(Rc<Trail<'a>>),
-    Item(Rc<Trail<'a>>, u32),
+pub enum HeldPathToContainer<N> {
+    Whole(Rc<Trail<N>>),
+    Item(Rc<Trail<N>>, u32),
 }
 
 // What leads to a value, lent: the trail to it, or that to the array that has it as an item, and its index.
 #[derive(Clone, Copy)]
-pub enum PathTo<'b, 'a> {
-    Whole(&'b Trail<'a>),
-    Item(&'b Rc<Trail<'a>>, usize),
+pub enum PathTo<'b, N> {
+    Whole(&'b Trail<N>),
+    Item(&'b Rc<Trail<N>>, usize),
 }
 
 // A trail to the same place.
-pub(crate) fn clone_trail<'a>(trail: &Trail<'a>) -> Result<Trail<'a>, AllocError>
-    ensures { IfOk result (λ copy. location_at copy ≡ location_at trail.now) }
+pub(crate) fn clone_trail<N: Name>(trail: &Trail<N>) -> Result<Trail<N>, AllocError>
+    ensures { IfOk result (λ copy. location_at N.bytes copy ≡ location_at N.bytes trail.now) }
 {
     match trail {
         Trail::Root => Ok(Trail::Root),
@@ -55,11 +56,11 @@ pub(crate) fn clone_trail<'a>(trail: &Trail<'a>) -> Result<Trail<'a>, AllocError
 
 // A trail to the member of this name of the object where a path leads. It shares the trail that the path lends.
 #[inline]
-pub(crate) fn member_trail_of_path_to_object<'a>(
-    path_to_object: PathToObject<'_, 'a>,
-    key: &'a String,
-) -> Result<Trail<'a>, AllocError>
-    ensures { IfOk result (λ trail. location_at trail ≡ object_path_location path_to_object.entry ++ by_name (string_bytes key.now) ∷ []) }
+pub(crate) fn member_trail_of_path_to_object<N: Name>(
+    path_to_object: PathToObject<'_, N>,
+    key: N,
+) -> Result<Trail<N>, AllocError>
+    ensures { IfOk result (λ trail. location_at N.bytes trail ≡ object_path_location N.bytes path_to_object.entry ++ by_name (N.bytes key) ∷ []) }
 {
     match path_to_object {
         PathToObject::Whole(parent) => Ok(Trail::Member(parent.clone()?, key)),
@@ -68,8 +69,11 @@ pub(crate) fn member_trail_of_path_to_object<'a>(
 }
 
 // A trail to the same value, for its children to share.
-pub(crate) fn shared_trail<'a>(alloc: Global, trail: &Trail<'a>) -> Result<Rc<Trail<'a>>, NoMemory>
-    ensures { IfOk result (λ here. location_at here.value ≡ location_at trail.now) }
+pub(crate) fn shared_trail<N: Name>(
+    alloc: Global,
+    trail: &Trail<N>,
+) -> Result<Rc<Trail<N>>, NoMemory>
+    ensures { IfOk result (λ here. location_at N.bytes here.value ≡ location_at N.bytes trail.now) }
 {
     Ok(Rc::new(alloc, clone_trail(trail)?)?)
 }
@@ -77,8 +81,8 @@ pub(crate) fn shared_trail<'a>(alloc: Global, trail: &Trail<'a>) -> Result<Rc<Tr
 // A trail to an item of an array, as a `PathToObject`, also where the item is itself an array. None where it leads to no
 // item, and where the index takes more than 32 bits.
 #[inline]
-fn as_path_to_object_in_array<'b, 'a>(trail: &'b Trail<'a>) -> Option<PathToObject<'b, 'a>>
-    ensures { IfSome result (λ path_to_object. object_path_location path_to_object ≡ location_at trail.now) }
+fn as_path_to_object_in_array<'b, N: Name>(trail: &'b Trail<N>) -> Option<PathToObject<'b, N>>
+    ensures { IfSome result (λ path_to_object. object_path_location N.bytes path_to_object ≡ location_at N.bytes trail.now) }
 {
     match trail {
         Trail::Item(parent, i) => path_to_object_at_index(parent, *i),
@@ -88,11 +92,11 @@ fn as_path_to_object_in_array<'b, 'a>(trail: &'b Trail<'a>) -> Option<PathToObje
 
 // The path to the object at this index of an array; None where the index takes more than 32 bits.
 #[inline]
-fn path_to_object_at_index<'b, 'a>(
-    parent: &'b Rc<Trail<'a>>,
+fn path_to_object_at_index<'b, N: Name>(
+    parent: &'b Rc<Trail<N>>,
     index: usize,
-) -> Option<PathToObject<'b, 'a>>
-    ensures { IfSome result (λ path_to_object. object_path_location path_to_object ≡ location_at parent.now.value ++ by_index index ∷ []) }
+) -> Option<PathToObject<'b, N>>
+    ensures { IfSome result (λ path_to_object. object_path_location N.bytes path_to_object ≡ location_at N.bytes parent.now.value ++ by_index index ∷ []) }
 {
     match u32::try_from(index) {
         Ok(short) => Some(PathToObject::Item(parent, short)),
@@ -102,11 +106,11 @@ fn path_to_object_at_index<'b, 'a>(
 
 // The path to an array or object, to which the trail leads, held for what stands in it to share.
 #[inline]
-pub(crate) fn held_path_to_container<'a>(
+pub(crate) fn held_path_to_container<N: Name>(
     alloc: Global,
-    trail: &Trail<'a>,
-) -> Result<HeldPathToContainer<'a>, NoMemory>
-    ensures { IfOk result (λ here. held_path_location here ≡ location_at trail.now) }
+    trail: &Trail<N>,
+) -> Result<HeldPathToContainer<N>, NoMemory>
+    ensures { IfOk result (λ here. held_path_location N.bytes here ≡ location_at N.bytes trail.now) }
 {
     match as_path_to_object_in_array(trail) {
         Some(PathToObject::Item(parent, i)) => Ok(HeldPathToContainer::Item(parent.clone()?, i)),
@@ -117,12 +121,12 @@ pub(crate) fn held_path_to_container<'a>(
 
 // The path to the item at this index of an array, to which `parent` leads, held for what is in the item to share.
 #[inline]
-pub(crate) fn held_path_to_item<'a>(
+pub(crate) fn held_path_to_item<N: Name>(
     alloc: Global,
-    parent: Rc<Trail<'a>>,
+    parent: Rc<Trail<N>>,
     index: usize,
-) -> Result<HeldPathToContainer<'a>, NoMemory>
-    ensures { IfOk result (λ held. held_path_location held ≡ location_at parent.entry.value ++ by_index index ∷ []) }
+) -> Result<HeldPathToContainer<N>, NoMemory>
+    ensures { IfOk result (λ held. held_path_location N.bytes held ≡ location_at N.bytes parent.value ++ by_index index ∷ []) }
 {
     match u32::try_from(index) {
         Ok(short) => Ok(HeldPathToContainer::Item(parent, short)),
@@ -132,10 +136,10 @@ pub(crate) fn held_path_to_item<'a>(
 
 // A held path to the same array or object, which shares its trail.
 #[inline]
-pub(crate) fn clone_held_path<'a>(
-    held: &HeldPathToContainer<'a>,
-) -> Result<HeldPathToContainer<'a>, AllocError>
-    ensures { IfOk result (λ copy. held_path_location copy ≡ held_path_location held.now) }
+pub(crate) fn clone_held_path<N: Name>(
+    held: &HeldPathToContainer<N>,
+) -> Result<HeldPathToContainer<N>, AllocError>
+    ensures { IfOk result (λ copy. held_path_location N.bytes copy ≡ held_path_location N.bytes held.now) }
 {
     match held {
         HeldPathToContainer::Whole(parent) => Ok(HeldPathToContainer::Whole(parent.clone()?)),
@@ -144,11 +148,11 @@ pub(crate) fn clone_held_path<'a>(
 }
 
 // A trail to the array or object where a held path leads: the one that it holds, or a new one to the item of an array.
-pub(crate) fn trail_of_held_path<'a>(
+pub(crate) fn trail_of_held_path<N: Name>(
     alloc: Global,
-    held: &HeldPathToContainer<'a>,
-) -> Result<Rc<Trail<'a>>, NoMemory>
-    ensures { IfOk result (λ trail. location_at trail.value ≡ held_path_location held.now) }
+    held: &HeldPathToContainer<N>,
+) -> Result<Rc<Trail<N>>, NoMemory>
+    ensures { IfOk result (λ trail. location_at N.bytes trail.value ≡ held_path_location N.bytes held.now) }
 {
     match held {
         HeldPathToContainer::Whole(parent) => Ok(parent.clone()?),
@@ -161,8 +165,10 @@ pub(crate) fn trail_of_held_path<'a>(
 
 // A path to an object, lent by one that is held.
 #[inline]
-pub(crate) fn lend_path_to_object<'b, 'a>(here: &'b HeldPathToContainer<'a>) -> PathToObject<'b, 'a>
-    ensures { object_path_location result ≡ held_path_location here.now }
+pub(crate) fn lend_path_to_object<'b, N: Name>(
+    here: &'b HeldPathToContainer<N>,
+) -> PathToObject<'b, N>
+    ensures { object_path_location N.bytes result ≡ held_path_location N.bytes here.now }
 {
     match here {
         HeldPathToContainer::Whole(parent) => PathToObject::Whole(parent),
@@ -173,12 +179,12 @@ pub(crate) fn lend_path_to_object<'b, 'a>(here: &'b HeldPathToContainer<'a>) -> 
 // A trail to the member of this name of the object where a trail leads, which is made anew for it; where the object is
 // an item of an array, the trail to the array is shared instead.
 #[inline]
-pub(crate) fn member_trail<'a>(
+pub(crate) fn member_trail<N: Name>(
     alloc: Global,
-    trail: &Trail<'a>,
-    key: &'a String,
-) -> Result<Trail<'a>, NoMemory>
-    ensures { IfOk result (λ longer. location_at longer ≡ location_at trail.now ++ by_name (string_bytes key.now) ∷ []) }
+    trail: &Trail<N>,
+    key: N,
+) -> Result<Trail<N>, NoMemory>
+    ensures { IfOk result (λ longer. location_at N.bytes longer ≡ location_at N.bytes trail.now ++ by_name (N.bytes key) ∷ []) }
 {
     match as_path_to_object_in_array(trail) {
         Some(path_to_object) => Ok(member_trail_of_path_to_object(path_to_object, key)?),
@@ -186,19 +192,9 @@ pub(crate) fn member_trail<'a>(
     }
 }
 
-// Whether a path leads to the root.
-pub(crate) fn is_root(path_to: PathTo<'_, '_>) -> bool
-    ensures { IsTrue result ↔ (path_location path_to.entry ≡ []) }
-{
-    match path_to {
-        PathTo::Whole(Trail::Root) => true,
-        _ => false,
-    }
-}
-
 // How many steps a path to a value has. More than `usize::MAX` count as that.
-pub(crate) fn len_of_path_to_value(path_to: PathTo<'_, '_>) -> usize
-    ensures { result ≡ min (length (path_location path_to.entry)) (2 ^ 64 - 1) }
+pub(crate) fn len_of_path_to_value<N: Name>(path_to: PathTo<'_, N>) -> usize
+    ensures { result ≡ min (length (path_location N.bytes path_to.entry)) (2 ^ 64 - 1) }
 {
     match path_to {
         PathTo::Whole(trail) => len_of_trail(trail),
@@ -207,8 +203,8 @@ pub(crate) fn len_of_path_to_value(path_to: PathTo<'_, '_>) -> usize
 }
 
 // How many steps a trail has. More than `usize::MAX` count as that.
-fn len_of_trail(trail: &Trail<'_>) -> usize
-    ensures { result ≡ min (length (location_at trail.now)) (2 ^ 64 - 1) }
+fn len_of_trail<N: Name>(trail: &Trail<N>) -> usize
+    ensures { result ≡ min (length (location_at N.bytes trail.now)) (2 ^ 64 - 1) }
 {
     match trail {
         Trail::Root => 0,
@@ -219,16 +215,17 @@ fn len_of_trail(trail: &Trail<'_>) -> usize
 }
 
 // Adds the steps of a path to a value, from the root down, to a list of owned ones.
-pub(crate) fn add_steps_of_path_to_value(
-    path_to: PathTo<'_, '_>,
+pub(crate) fn add_steps_of_path_to_value<N: Name>(
+    alloc: Global,
+    path_to: PathTo<'_, N>,
     steps: &mut Vec<LocStep>,
 ) -> Result<(), NoMemory>
-    ensures { OnOk result (owned_steps steps.new.items ≡ owned_steps steps.old.items ++ path_location path_to.entry) }
+    ensures { OnOk result (owned_steps steps.new.items ≡ owned_steps steps.old.items ++ path_location N.bytes path_to.entry) }
 {
     match path_to {
-        PathTo::Whole(trail) => add_steps_of_trail(trail, steps)?,
+        PathTo::Whole(trail) => add_steps_of_trail(alloc, trail, steps)?,
         PathTo::Item(parent, i) => {
-            add_steps_of_trail(parent, steps)?;
+            add_steps_of_trail(alloc, parent, steps)?;
             steps.push(LocStep::Index(i))?;
         }
     }
@@ -236,23 +233,27 @@ pub(crate) fn add_steps_of_path_to_value(
 }
 
 // Adds the steps of a trail, from the root down, to a list of owned ones.
-fn add_steps_of_trail(trail: &Trail<'_>, steps: &mut Vec<LocStep>) -> Result<(), NoMemory>
-    ensures { OnOk result (owned_steps steps.new.items ≡ owned_steps steps.old.items ++ location_at trail.now) }
+fn add_steps_of_trail<N: Name>(
+    alloc: Global,
+    trail: &Trail<N>,
+    steps: &mut Vec<LocStep>,
+) -> Result<(), NoMemory>
+    ensures { OnOk result (owned_steps steps.new.items ≡ owned_steps steps.old.items ++ location_at N.bytes trail.now) }
 {
     match trail {
         Trail::Root => {}
         Trail::Member(parent, key) => {
-            add_steps_of_trail(parent, steps)?;
-            steps.push(LocStep::Name((*key).clone()?))?;
+            add_steps_of_trail(alloc, parent, steps)?;
+            steps.push(LocStep::Name(String::from_str(alloc, key.as_text())?))?;
         }
         Trail::Item(parent, i) => {
-            add_steps_of_trail(parent, steps)?;
+            add_steps_of_trail(alloc, parent, steps)?;
             steps.push(LocStep::Index(*i))?;
         }
         Trail::ItemMember(i, parent, key) => {
-            add_steps_of_trail(parent, steps)?;
+            add_steps_of_trail(alloc, parent, steps)?;
             steps.push(LocStep::Index(*i as usize))?;
-            steps.push(LocStep::Name((*key).clone()?))?;
+            steps.push(LocStep::Name(String::from_str(alloc, key.as_text())?))?;
         }
     }
     Ok(())

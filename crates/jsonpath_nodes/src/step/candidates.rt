@@ -6,20 +6,25 @@ ghost use Rattle.jsonpath_nodes.specs.document.Document.{array, object};
 ghost use Rattle.jsonpath_nodes.specs.plan.Ascending.{first_difference_ascends, Ascend};
 ghost use Rattle.jsonpath_nodes.specs.plan.Containers.{some_container};
 ghost use Rattle.jsonpath_nodes.specs.plan.Way.{way_stand, Stays};
-ghost use Rattle.jsonpath_nodes.specs.place.Location.{Location as Place, flat, flat_items};
-ghost use Rattle.jsonpath_nodes.specs.place.Mark.{MarksGain};
+ghost use Rattle.jsonpath_nodes.specs.place.Location.{Location as Stand, flat, flat_items};
+ghost use Rattle.jsonpath_nodes.specs.place.Mark.{MarksGain, MarksLeadBy};
 ghost use Rattle.jsonpath_nodes.specs.place.Order.{IsOrderedDocument};
 ghost use Rattle.jsonpath_nodes.specs.place.Owned.{owned_steps};
-ghost use Rattle.jsonpath_nodes.specs.place.SpotPlace.{LeadsBy, location_of, sight_of};
+ghost use Rattle.jsonpath_nodes.specs.place.SpotPlace.{place_location, place_value};
+ghost use Rattle.jsonpath_nodes.specs.plan.OrderedSpots.{place_sight};
 ghost use Rattle.jsonpath_nodes.specs.step.Candidates.{candidates_below, flat_members, in_objects};
-ghost use Rattle.jsonpath_nodes.specs.step.Steps.{each_once};
+ghost use Rattle.jsonpath_nodes.specs.step.Steps.{step, all_below, each_once, every, flattened};
 
 use crate::memory::NoMemory;
 use crate::place::location::{LocStep, Location};
-use crate::place::spot::Spot;
+use crate::place::spot::Place;
 use crate::step::child_lookup::is_container;
 use crate::step::descends::{Descends, DownStep};
 use crate::step::gather::{Flattened, add_at_or_below};
+use crate::step::plain_step::PlainStep;
+use crate::steps_on_marks::{
+    candidates_below_mark, flattened_from_each, plain_step_from_all_below,
+};
 use crate::tree::Tree;
 use std::alloc::Global;
 use std::cmp::Ordering;
@@ -136,19 +141,49 @@ fn add_in_objects<M: Descends>(
 
 // ---- each location once
 
-// Whether the spots ascend in document order, none at or below another: no candidate is then found from two of them.
-pub(crate) fn are_ordered_and_disjoint<'a>(
+// The candidates of a filter with a relative query of at least one segment, found from these nodes, each location once.
+pub(crate) fn flattened_once<T: Tree>(
     alloc: Global,
-    spots: &[Spot<'a>],
+    places: &[Place<T, T::Name>],
+) -> Result<Vec<Place<T, T::Name>>, NoMemory>
+    ensures { IfOk result (λ found. MarksLeadBy true (place_location T.Name.bytes) (place_value T.content) flattened places.now found.items) }
+{
+    let found = flattened_from_each(alloc, places)?;
+    if are_ordered_and_disjoint(alloc, places)? {
+        return Ok(found);
+    }
+    first_of_each_location(alloc, found)
+}
+
+// Those of a filter after `..`, each location once.
+pub(crate) fn candidates_below_once<T: Tree>(
+    alloc: Global,
+    places: &[Place<T, T::Name>],
+) -> Result<Vec<Place<T, T::Name>>, NoMemory>
+    ensures { IfOk result (λ found. MarksLeadBy true (place_location T.Name.bytes) (place_value T.content) (λ doc ls. flattened doc (step doc every (all_below doc ls))) places.now found.items) }
+{
+    match places {
+        [place] => candidates_below_mark(alloc, place),
+        _ => {
+            let lower = plain_step_from_all_below(alloc, places, &PlainStep::Every)?;
+            flattened_once(alloc, lower.as_slice())
+        }
+    }
+}
+
+// Whether the spots ascend in document order, none at or below another: no candidate is then found from two of them.
+fn are_ordered_and_disjoint<T: Tree>(
+    alloc: Global,
+    spots: &[Place<T, T::Name>],
 ) -> Result<bool, NoMemory>
-    ensures { IfOk result (λ apart. IsTrue apart → Ascend (map location_of spots.now)) }
+    ensures { IfOk result (λ apart. IsTrue apart → Ascend (map (place_location T.Name.bytes) spots.now)) }
 {
     if spots.len() < 2 {
         return Ok(true);
     }
     let mut last: Option<Location> = None;
     for spot in spots {
-        let here = spot.steps().to_location(alloc)?;
+        let here = spot.location_in(alloc)?;
         if !is_after_and_disjoint(&last, &here) {
             return Ok(false);
         }
@@ -159,7 +194,7 @@ pub(crate) fn are_ordered_and_disjoint<'a>(
 
 // Whether a location comes after `last` in document order, and neither is below the other; true where there is no last.
 fn is_after_and_disjoint(last: &Option<Location>, here: &Location) -> bool
-    ensures { IsTrue result → (l : Place) → last.now ≡ Some l → first_difference_ascends l here.now ≡ true }
+    ensures { IsTrue result → (l : Stand) → last.now ≡ Some l → first_difference_ascends l here.now ≡ true }
 {
     match last {
         Some(before) => first_difference_ascends(before.steps(), here.steps()),
@@ -185,24 +220,28 @@ fn first_difference_ascends(left: &[LocStep], right: &[LocStep]) -> bool
 }
 
 // The first of the spots at each location, in their order.
-pub(crate) fn first_of_each_location<'a>(
+fn first_of_each_location<T: Tree>(
     alloc: Global,
-    spots: Vec<Spot<'a>>,
-) -> Result<Vec<Spot<'a>>, NoMemory>
-    ensures { IfOk result (λ kept. LeadsBy (λ _ ls. each_once ls) spots.entry.items kept.items) }
+    spots: Vec<Place<T, T::Name>>,
+) -> Result<Vec<Place<T, T::Name>>, NoMemory>
+    ensures { IfOk result (λ kept. MarksLeadBy true (place_location T.Name.bytes) (place_value T.content) (λ _ ls. each_once ls) spots.items kept.items) }
 {
     let mut seen = BTreeSet::new(alloc);
     let mut kept = Vec::new(alloc);
     for spot in spots {
-        let is_new = seen.insert(spot.steps().to_location(alloc)?)?;
+        let is_new = seen.insert(spot.location_in(alloc)?)?;
         push_if_new(is_new, spot, &mut kept)?;
     }
     Ok(kept)
 }
 
 // Adds a spot to those kept, if its location is new among them.
-fn push_if_new<'a>(is_new: bool, spot: Spot<'a>, kept: &mut Vec<Spot<'a>>) -> Result<(), NoMemory>
-    ensures { OnOk result (map sight_of kept.new.items ≡ map sight_of kept.old.items ++ (if is_new then sight_of spot.entry ∷ [] else [])) }
+fn push_if_new<T: Tree>(
+    is_new: bool,
+    spot: Place<T, T::Name>,
+    kept: &mut Vec<Place<T, T::Name>>,
+) -> Result<(), NoMemory>
+    ensures { OnOk result (map (place_sight T.Name.bytes T.content) kept.new.items ≡ map (place_sight T.Name.bytes T.content) kept.old.items ++ (if is_new then place_sight T.Name.bytes T.content spot ∷ [] else [])) }
 {
     if is_new {
         kept.push(spot)?;

@@ -57,7 +57,7 @@ fn add_all_under_child<M: Descends>(
     way: &mut M::Way,
     out: &mut Vec<M>,
 ) -> Result<(), NoMemory>
-    ensures gains { OnOk result (MarksGain M.located M.stand M.content descendants (way_stand M.located (M.start way.old) (M.steps way.old ++ down_step M.Tree.name_bytes step ∷ [])) (M.Tree.content value) out.old.items out.new.items) }
+    ensures gains { OnOk result (MarksGain M.located M.stand M.content descendants (way_stand M.located (M.start way.old) (M.steps way.old ++ down_step M.Tree.Name.bytes step ∷ [])) (M.Tree.content value) out.old.items out.new.items) }
     ensures stays { OnOk result (Stays M.located (M.start way.old) (M.steps way.old) (M.start way.new) (M.steps way.new)) }
 {
     if is_container(value) {

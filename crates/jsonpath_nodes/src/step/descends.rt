@@ -74,7 +74,7 @@ pub trait Descends: Drop + Sized {
         value: Self::Tree,
         out: &mut Vec<Self>,
     ) -> Result<(), NoMemory>
-        ensures { OnOk result (MarksGainOne located stand content (members_stand here.now ++ by_name (Self.Tree.name_bytes name) ∷ []) (Self.Tree.content value) out.old.items out.new.items) };
+        ensures { OnOk result (MarksGainOne located stand content (members_stand here.now ++ by_name (Self.Tree.Name.bytes name) ∷ []) (Self.Tree.content value) out.old.items out.new.items) };
 
     // Adds a member of the value to a list, if no other is to share the value's location with it.
     fn push_single_member(
@@ -84,7 +84,7 @@ pub trait Descends: Drop + Sized {
         value: Self::Tree,
         out: &mut Vec<Self>,
     ) -> Result<(), NoMemory>
-        ensures { OnOk result (MarksGainOne located stand content (stand self.now ++ by_name (Self.Tree.name_bytes name) ∷ []) (Self.Tree.content value) out.old.items out.new.items) };
+        ensures { OnOk result (MarksGainOne located stand content (stand self.now ++ by_name (Self.Tree.Name.bytes name) ∷ []) (Self.Tree.content value) out.old.items out.new.items) };
 
     // The way of a descent that begins at the node.
     fn way_from(&self, alloc: Global) -> Result<Self::Way, NoMemory>
@@ -96,7 +96,7 @@ pub trait Descends: Drop + Sized {
         step: DownStep<<Self::Tree as Tree>::Name>,
     ) -> Result<(), NoMemory>
         ensures start { OnOk result (start way.new ≡ start way.old) }
-        ensures steps { OnOk result (AreSame located (steps way.new) (steps way.old ++ down_step Self.Tree.name_bytes step ∷ [])) };
+        ensures steps { OnOk result (AreSame located (steps way.new) (steps way.old ++ down_step Self.Tree.Name.bytes step ∷ [])) };
 
     // Takes the last step back.
     fn go_back(way: &mut Self::Way)
@@ -190,7 +190,7 @@ impl<T: Tree> Descends for T {
     #[inline(always)]
     fn go_down(_way: &mut (), step: DownStep<T::Name>) -> Result<(), NoMemory>
         ensures start { OnOk result (way_stand false [] [] ≡ []) }
-        ensures steps { OnOk result (AreSame false [] (down_step T.name_bytes step ∷ [])) }
+        ensures steps { OnOk result (AreSame false [] (down_step T.Name.bytes step ∷ [])) }
     {
         Ok(())
     }

@@ -171,7 +171,7 @@ fn add_at_or_below_child<M: Descends, G: Gathers>(
     what: &G,
     out: &mut Vec<M>,
 ) -> Result<(), NoMemory>
-    ensures gains { OnOk result (MarksGain M.located M.stand M.content (all_gathered (gathered_at (G.what what.now))) (way_stand M.located (M.start way.old) (M.steps way.old ++ down_step M.Tree.name_bytes step ∷ [])) (M.Tree.content value) out.old.items out.new.items) }
+    ensures gains { OnOk result (MarksGain M.located M.stand M.content (all_gathered (gathered_at (G.what what.now))) (way_stand M.located (M.start way.old) (M.steps way.old ++ down_step M.Tree.Name.bytes step ∷ [])) (M.Tree.content value) out.old.items out.new.items) }
     ensures stays { OnOk result (Stays M.located (M.start way.old) (M.steps way.old) (M.start way.new) (M.steps way.new)) }
     ensures document { OnOk result (IsOrderedDocument (M.Tree.content value)) }
 {

@@ -10,9 +10,7 @@ use crate::memory::NoMemory;
 use crate::place::spot::Spot;
 use crate::step::candidates;
 use crate::step::plain_step::PlainStep;
-use crate::steps_on_marks::{
-    candidates_below_mark, flattened_from_each, plain_step_from_all_below, plain_step_from_each,
-};
+use crate::steps_on_marks::{plain_step_from_all_below, plain_step_from_each};
 use std::alloc::Global;
 
 /// The steps (segments) of a path, each as a function that applies it to a list of nodes at once.
@@ -210,11 +208,7 @@ impl ValueWalker {
     pub fn walk_dedup_all<'a>(alloc: Global, spots: &[Spot<'a>]) -> Result<Vec<Spot<'a>>, NoMemory>
         ensures { IfOk result (λ found. LeadsBy flattened spots.now found.items) }
     {
-        let found = flattened_from_each(alloc, spots)?;
-        if candidates::are_ordered_and_disjoint(alloc, spots)? {
-            return Ok(found);
-        }
-        candidates::first_of_each_location(alloc, found)
+        candidates::flattened_once(alloc, spots)
     }
 
     /// Returns the values that a filter after `..` tests when it is applied to the given nodes, if the filter has a
@@ -232,12 +226,6 @@ impl ValueWalker {
     ) -> Result<Vec<Spot<'a>>, NoMemory>
         ensures { IfOk result (λ found. LeadsBy (λ doc ls. flattened doc (step doc every (all_below doc ls))) spots.now found.items) }
     {
-        match spots {
-            [spot] => candidates_below_mark(alloc, spot),
-            _ => {
-                let lower = ValueWalker::all(alloc, spots)?;
-                ValueWalker::walk_dedup_all(alloc, lower.as_slice())
-            }
-        }
+        candidates::candidates_below_once(alloc, spots)
     }
 }

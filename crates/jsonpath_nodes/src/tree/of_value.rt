@@ -1,6 +1,5 @@
 //! The tree of `serde_json`: a value is a reference, an object a map that is sorted by names.
 
-ghost use Rattle.std.specs.Prelude.{string_bytes};
 ghost use Rattle.std.specs.Slice.Iter.{iter_rest};
 ghost use Rattle.serde_json.specs.View.{view};
 ghost use Rattle.jsonpath_nodes.specs.document.OfData.{document_of, items_document, members_document};
@@ -33,8 +32,6 @@ impl<'a> Tree for &'a Value {
     ghost items = { λ a. items_document a.now.items };
 
     ghost members = { λ o. members_document o.now.entries };
-
-    ghost name_bytes = { λ k. string_bytes k.now };
 
     ghost items_left = { λ left. items_document (iter_rest left) };
 

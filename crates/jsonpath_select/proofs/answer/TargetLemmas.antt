@@ -4,7 +4,7 @@ use Rattle.jsonpath_nodes.specs.document.Document.{Document}
 use Rattle.jsonpath_nodes.specs.place.Location.{Location}
 use Rattle.jsonpath_nodes.specs.place.Order.{once_in_order}
 use Rattle.jsonpath_nodes.specs.place.SpotPlace.{StandAt, location_of}
-use Rattle.jsonpath_nodes.specs.declared.place.spot.Spot.{Spot}
+use Rattle.jsonpath_nodes.specs.place.SpotPlace.{Spot}
 use Rattle.jsonpath_select.specs.Meaning.{SelectsSet}
 use Rattle.jsonpath_select.specs.Targets.{AreTargets}
 

@@ -8,7 +8,7 @@ use Rattle.serde_json.specs.contracts.value.Value as value
 use Rattle.jsonpath_nodes.specs.document.OfData.{document_of, value_document}
 use Rattle.serde_json.specs.declared.value.Value.{Value}
 use Rattle.jsonpath_nodes.specs.place.Location.{Location}
-use Rattle.jsonpath_nodes.specs.declared.place.spot.Spot.{Spot}
+use Rattle.jsonpath_nodes.specs.place.SpotPlace.{Spot}
 use Rattle.jsonpath_select.specs.Meaning.{Selects, SelectsAt, SelectsSpots}
 use Rattle.jsonpath_select.specs.ErrorCases.{ByCase, NoMessage}
 use Rattle.jsonpath_select.specs.answer.AnswerText.{list_text, holds_unread, SaysUnread}

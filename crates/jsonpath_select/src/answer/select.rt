@@ -1,20 +1,21 @@
 //! What a compiled path or a bare token list selects in a value, as nodes and as values.
-ghost use Rattle.std.specs.Prelude.{◌≡◌, map, IfOk, IfErr};
+ghost use Rattle.std.specs.Prelude.{◌≡◌, map, true, IfOk, IfErr};
 ghost use Rattle.serde_json.specs.View.{view};
 ghost use Rattle.jsonpath_nodes.specs.document.OfData.{document_of};
-ghost use Rattle.jsonpath_nodes.specs.place.SpotPlace.{StandAt};
+ghost use Rattle.jsonpath_nodes.specs.place.SpotPlace.{StandAt, place_location, place_value};
+ghost use Rattle.jsonpath_nodes.specs.place.Mark.{MarksStandAt};
 ghost use Rattle.jsonpath_paths.specs.Listed.{IsListOf, IsSomePath};
 ghost use Rattle.jsonpath_select.specs.AnyPath.{ArePartsOf};
-ghost use Rattle.jsonpath_select.specs.Meaning.{sel, Selects, SelectsSet, SelectsSpots};
+ghost use Rattle.jsonpath_select.specs.Meaning.{sel, Selects, SelectsNodes, SelectsSet, SelectsSpots};
 ghost use Rattle.jsonpath_paths.specs.tree.Tree.{Path};
 
-use crate::answer::of_spots::values_of_selected_spots;
+use crate::answer::of_spots::values_of_selected_nodes;
 use crate::compile::any_path::{AnyPath, PathParts};
 use crate::error::JsonPathError;
 use crate::machine::machine::Machine;
 use crate::machine::manner::manner_of_token_list;
 use crate::walk::follower::Follower;
-use jsonpath_nodes::{Halt, Spot, Tree};
+use jsonpath_nodes::{Halt, Place, Spot, Tree};
 use jsonpath_paths::{ParseToken, PathParser};
 use serde_json::Value;
 use std::alloc::Global;
@@ -64,13 +65,7 @@ pub fn select_tokens<'a>(
     ensures ok { IfOk result (λ found. (p : Path) → IsListOf text.now p tokens.now → StandAt (document_of (view json.now)) (sel text.now (document_of (view json.now)) p) found.items) }
     ensures refused { IfErr result (λ e. e ≡ JsonPathError.OutOfMemory) }
 {
-    let machine = Machine {
-        alloc,
-        root: &Spot::root(alloc, json),
-        text,
-        by_sets: false,
-    };
-    Ok(machine.select_by_tokens(tokens)?)
+    Ok(nodes_by_tokens(alloc, json, text, tokens)?)
 }
 
 /// The nodes that the path selects in the value: the same set as from `select_path`, in any order, with or without
@@ -94,9 +89,8 @@ pub fn select_path_in_any_order<'a>(
 }
 
 /// The values that the path selects in a document of any `Tree`, such as one with its numbers as a text writes them, in
-/// the order in which the path finds them, with duplicates. Values have no locations: if a path such as `$..*[?(@.a)]` can't
-/// be evaluated without knowing which values are at the same location, the error is `NeedsLocations`. Any other error is
-/// one of the tree, such as that a number can't be compared.
+/// the order in which the path finds them, with duplicates. An error is one of the tree, such as that a number can't be
+/// compared, or that memory ran out.
 ///
 /// ```text
 /// let document = read_document(alloc, b"[1, 2, 3]")?;
@@ -107,14 +101,85 @@ pub fn select_in_tree<T: Tree>(
     alloc: Global,
     root: T,
     path: &PathParser<'_>,
-) -> Result<Vec<T>, Halt<T::Error>>
+) -> Result<Vec<T>, T::Error>
     ensures { IfOk result (λ found. Selects path.now (T.content root) (map T.content found.items)) }
 {
     values_in_tree(alloc, root, path.parts())
 }
 
-// The values that the path selects in a tree, in the path's order, by the machine. It follows values alone.
+/// The nodes that the path selects in a document of any `Tree`, in the order in which the path finds them, with
+/// duplicates. An error is one of the tree, such as that a number can't be compared, or that memory ran out.
+///
+/// ```text
+/// let document = read_document(alloc, b"[1, 2, 3]")?;
+/// let path = compile_path(alloc, "$[2]")?;
+/// let nodes = select_nodes_in_tree(alloc, &document, &path)?;
+/// assert!(rt; nodes[0].location_in(alloc)?.to_string(alloc)?.as_str() == "$[2]");
+/// ```
+pub fn select_nodes_in_tree<T: Tree>(
+    alloc: Global,
+    root: T,
+    path: &PathParser<'_>,
+) -> Result<Vec<Place<T, T::Name>>, T::Error>
+    ensures { IfOk result (λ found. SelectsNodes T.Name.bytes T.content path.now (T.content root) found.items) }
+{
+    nodes_by_parts(alloc, root, path.parts())
+}
+
+// Nodes at what a token list selects in a tree, in its order, by the machine.
+fn nodes_by_tokens<T: Tree>(
+    alloc: Global,
+    root: T,
+    text: &str,
+    tokens: &[ParseToken],
+) -> Result<Vec<Place<T, T::Name>>, T::Error>
+    requires { IsSomePath text.now tokens.now }
+    ensures { IfOk result (λ found. (p : Path) → IsListOf text.now p tokens.now → MarksStandAt true (place_location T.Name.bytes) (place_value T.content) (T.content root) (sel text.now (T.content root) p) found.items) }
+{
+    let machine = Machine {
+        alloc,
+        root: &Place::at_root(root),
+        text,
+        by_sets: false,
+    };
+    machine.select_by_tokens(tokens)
+}
+
+// Nodes at what the path selects in a tree, in the path's order.
+fn nodes_by_parts<T: Tree>(
+    alloc: Global,
+    root: T,
+    path: PathParts<'_>,
+) -> Result<Vec<Place<T, T::Name>>, T::Error>
+    requires { ArePartsOf path.text.now path }
+    ensures { IfOk result (λ found. SelectsNodes T.Name.bytes T.content path.entry.text.now (T.content root) found.items) }
+{
+    nodes_by_tokens(alloc, root, path.text, path.tokens)
+}
+
+// The values that the path selects in a tree, in the path's order, by the machine. It follows values alone, and nodes
+// only where values can't tell whether a location is met twice.
 fn values_in_tree<T: Tree>(
+    alloc: Global,
+    root: T,
+    path: PathParts<'_>,
+) -> Result<Vec<T>, T::Error>
+    requires { ArePartsOf path.text.now path }
+    ensures { IfOk result (λ found. Selects path.entry.text.now (T.content root) (map T.content found.items)) }
+{
+    match values_without_locations(alloc, root, path) {
+        Ok(found) => Ok(found),
+        Err(Halt::Refused(error)) => Err(error),
+        Err(Halt::NeedsLocations) => {
+            let nodes = nodes_by_parts(alloc, root, path)?;
+            let found = values_of_selected_nodes(alloc, nodes.as_slice())?;
+            Ok(found)
+        }
+    }
+}
+
+// The values that the path selects in a tree, in the path's order, by the machine on values alone.
+fn values_without_locations<T: Tree>(
     alloc: Global,
     root: T,
     path: PathParts<'_>,
@@ -141,11 +206,10 @@ pub(crate) fn spots_by_parts<'a>(
     ensures ok { IfOk result (λ found. SelectsSpots path.entry.text.now (document_of (view json.now)) found.items) }
     ensures refused { IfErr result (λ e. e ≡ JsonPathError.OutOfMemory) }
 {
-    select_tokens(alloc, json, path.text, path.tokens)
+    Ok(nodes_by_parts(alloc, json, path)?)
 }
 
-// The values that the path selects in the value, in the path's order, by the machine. It follows references, and spots
-// only where references can't tell whether a place is met twice.
+// The values that the path selects in the value, in the path's order, by the machine.
 pub(crate) fn values_by_parts<'a>(
     alloc: Global,
     json: &'a Value,
@@ -155,15 +219,7 @@ pub(crate) fn values_by_parts<'a>(
     ensures ok { IfOk result (λ found. Selects path.entry.text.now (document_of (view json.now)) (map (λ v. document_of (view v.now)) found.items)) }
     ensures refused { IfErr result (λ e. e ≡ JsonPathError.OutOfMemory) }
 {
-    match values_in_tree(alloc, json, path) {
-        Ok(found) => Ok(found),
-        Err(Halt::Refused(_)) => Err(JsonPathError::OutOfMemory),
-        Err(Halt::NeedsLocations) => {
-            let spots = spots_by_parts(alloc, json, path)?;
-            let found = values_of_selected_spots(alloc, spots.as_slice())?;
-            Ok(found)
-        }
-    }
+    Ok(values_in_tree(alloc, json, path)?)
 }
 
 // Nodes at what the path selects in the value, as a set.
@@ -228,7 +284,7 @@ pub(crate) fn values_by_walk<'a>(
         Err(Halt::Refused(_)) => Err(JsonPathError::OutOfMemory),
         Err(Halt::NeedsLocations) => {
             let spots = spots_by_walk(alloc, json, path)?;
-            let found = values_of_selected_spots(alloc, spots.as_slice())?;
+            let found = values_of_selected_nodes(alloc, spots.as_slice())?;
             Ok(found)
         }
     }

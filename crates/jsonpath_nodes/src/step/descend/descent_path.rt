@@ -10,32 +10,33 @@ use crate::place::trail::{
     lend_path_to_object, member_trail_of_path_to_object, trail_of_held_path,
 };
 use crate::step::descends::DownStep;
+use crate::tree::name::Name;
 use std::alloc::Global;
 use std::marker::Model;
 use std::rc::Rc;
 
 // The location of a descent: where it began, and the steps down from there.
 #[derive(Drop)]
-pub struct DescentPath<'a> {
-    pub(crate) path: SharedPath<'a>,
+pub struct DescentPath<N: Name> {
+    pub(crate) path: SharedPath<N>,
 }
 
-impl<'a> Model for DescentPath<'a> {
+impl<N: Name> Model for DescentPath<N> {
     ghost use Rattle.std.specs.Prelude.{List};
     ghost use Rattle.jsonpath_nodes.specs.place.Location.{Location, Step};
     ghost use Rattle.jsonpath_nodes.specs.plan.DescentPath.{IsDescentPath, start_and_steps};
 
     ghost Value = { Location × List Step };
 
-    ghost view = { λ descent. start_and_steps descent.path };
+    ghost view = { λ descent. start_and_steps N.bytes descent.path };
 
-    ghost invariant = { λ descent. IsDescentPath descent.path };
+    ghost invariant = { λ descent. IsDescentPath N.bytes descent.path };
 }
 
-impl<'a> DescentPath<'a> {
+impl<N: Name> DescentPath<N> {
     // The path of a descent that is at its start. It takes no memory.
-    pub(crate) fn new(alloc: Global, start: Trail<'a>) -> DescentPath<'a>
-        ensures { result ≡ (location_at start.entry, []) }
+    pub(crate) fn new(alloc: Global, start: Trail<N>) -> DescentPath<N>
+        ensures { result ≡ (location_at N.bytes start, []) }
     {
         DescentPath {
             path: SharedPath {
@@ -50,21 +51,21 @@ impl<'a> DescentPath<'a> {
 
 // The steps down from a descent's start and what of the path is shared: to the start, then to each step's end.
 #[derive(Drop)]
-pub struct SharedPath<'a> {
+pub struct SharedPath<N> {
     alloc: Global,
-    start: Trail<'a>,
-    steps: Vec<DownStep<&'a String>>,
-    shared: Vec<HeldPathToContainer<'a>>,
+    start: Trail<N>,
+    steps: Vec<DownStep<N>>,
+    shared: Vec<HeldPathToContainer<N>>,
 }
 
-impl<'a> SharedPath<'a> {
+impl<N: Name> SharedPath<N> {
     // Goes on with the path by a step to an item or a member. Nothing is shared for it yet.
     #[inline]
-    pub(crate) fn go_step_down(&mut self, step: DownStep<&'a String>) -> Result<(), NoMemory>
-        requires { IsDescentPath self.old }
-        ensures start { OnOk result (location_at self.new.start ≡ location_at self.old.start) }
-        ensures steps { OnOk result (self.new.steps.items ≡ self.old.steps.items ++ step.entry ∷ []) }
-        ensures descent { IsDescentPath self.new }
+    pub(crate) fn go_step_down(&mut self, step: DownStep<N>) -> Result<(), NoMemory>
+        requires { IsDescentPath N.bytes self.old }
+        ensures start { OnOk result (location_at N.bytes self.new.start ≡ location_at N.bytes self.old.start) }
+        ensures steps { OnOk result (self.new.steps.items ≡ self.old.steps.items ++ step ∷ []) }
+        ensures descent { IsDescentPath N.bytes self.new }
     {
         self.steps.push(step)?;
         Ok(())
@@ -73,21 +74,21 @@ impl<'a> SharedPath<'a> {
     // Takes the last step back, with what was shared for where it leads.
     #[inline]
     pub(crate) fn go_step_up(&mut self)
-        requires { IsDescentPath self.old }
-        ensures start { location_at self.new.start ≡ location_at self.old.start }
+        requires { IsDescentPath N.bytes self.old }
+        ensures start { location_at N.bytes self.new.start ≡ location_at N.bytes self.old.start }
         ensures steps { self.new.steps.items ≡ take (vec_len self.old.steps - 1) self.old.steps.items }
-        ensures descent { IsDescentPath self.new }
+        ensures descent { IsDescentPath N.bytes self.new }
     {
         self.shared.truncate(self.steps.len());
         let _last = self.steps.pop();
     }
 
     // A trail to the array where the descent is, for its items to share.
-    pub(crate) fn trail_for_items(&mut self) -> Result<Rc<Trail<'a>>, NoMemory>
-        requires { IsDescentPath self.old }
-        ensures leads { IfOk result (λ shared. location_at shared.value ≡ descent_location self.old) }
-        ensures stays { OnOk result (IsKeptAt self.old self.new) }
-        ensures descent { IsDescentPath self.new }
+    pub(crate) fn trail_for_items(&mut self) -> Result<Rc<Trail<N>>, NoMemory>
+        requires { IsDescentPath N.bytes self.old }
+        ensures leads { IfOk result (λ shared. location_at N.bytes shared.value ≡ descent_location N.bytes self.old) }
+        ensures stays { OnOk result (IsKeptAt N.bytes self.old self.new) }
+        ensures descent { IsDescentPath N.bytes self.new }
     {
         let count = self.steps.len();
         self.share_up_to(count)?;
@@ -95,11 +96,11 @@ impl<'a> SharedPath<'a> {
     }
 
     // The path to the object where the descent is, held for its members to share.
-    pub(crate) fn held_path_for_members(&mut self) -> Result<HeldPathToContainer<'a>, NoMemory>
-        requires { IsDescentPath self.old }
-        ensures leads { IfOk result (λ held. held_path_location held ≡ descent_location self.old) }
-        ensures stays { OnOk result (IsKeptAt self.old self.new) }
-        ensures descent { IsDescentPath self.new }
+    pub(crate) fn held_path_for_members(&mut self) -> Result<HeldPathToContainer<N>, NoMemory>
+        requires { IsDescentPath N.bytes self.old }
+        ensures leads { IfOk result (λ held. held_path_location N.bytes held ≡ descent_location N.bytes self.old) }
+        ensures stays { OnOk result (IsKeptAt N.bytes self.old self.new) }
+        ensures descent { IsDescentPath N.bytes self.new }
     {
         let count = self.steps.len();
         self.share_up_to(count)?;
@@ -108,12 +109,12 @@ impl<'a> SharedPath<'a> {
 
     // Makes what is to be shared of the way to where the first `count` steps lead, as far as it is not made yet.
     fn share_up_to(&mut self, count: usize) -> Result<(), NoMemory>
-        requires descent { IsDescentPath self.old }
+        requires descent { IsDescentPath N.bytes self.old }
         requires within { count ≤ vec_len self.old.steps }
         ensures shared { OnOk result (count < vec_len self.new.shared) }
-        ensures start { OnOk result (location_at self.new.start ≡ location_at self.old.start) }
+        ensures start { OnOk result (location_at N.bytes self.new.start ≡ location_at N.bytes self.old.start) }
         ensures steps { OnOk result (self.new.steps.items ≡ self.old.steps.items) }
-        ensures descent { IsDescentPath self.new }
+        ensures descent { IsDescentPath N.bytes self.new }
     {
         while self.shared.len() <= count {
             let next = self.next_path_to_share()?;
@@ -123,14 +124,14 @@ impl<'a> SharedPath<'a> {
     }
 
     // The held path to where one step more leads than what is shared so far; to the start, where nothing is.
-    fn next_path_to_share(&mut self) -> Result<HeldPathToContainer<'a>, NoMemory>
-        requires descent { IsDescentPath self.old }
+    fn next_path_to_share(&mut self) -> Result<HeldPathToContainer<N>, NoMemory>
+        requires descent { IsDescentPath N.bytes self.old }
         requires more { vec_len self.old.shared ≤ vec_len self.old.steps }
-        ensures leads { IfOk result (λ held. held_path_location held ≡ location_after (location_at self.old.start) (take (vec_len self.old.shared) self.old.steps.items)) }
+        ensures leads { IfOk result (λ held. held_path_location N.bytes held ≡ location_after N.bytes (location_at N.bytes self.old.start) (take (vec_len self.old.shared) self.old.steps.items)) }
         ensures shared { OnOk result (vec_len self.new.shared ≡ vec_len self.old.shared) }
-        ensures start { OnOk result (location_at self.new.start ≡ location_at self.old.start) }
+        ensures start { OnOk result (location_at N.bytes self.new.start ≡ location_at N.bytes self.old.start) }
         ensures steps { OnOk result (self.new.steps.items ≡ self.old.steps.items) }
-        ensures descent { IsDescentPath self.new }
+        ensures descent { IsDescentPath N.bytes self.new }
     {
         let count = self.shared.len();
         if count == 0 {
@@ -153,14 +154,14 @@ impl<'a> SharedPath<'a> {
 
     // The trail to where the first `count` steps lead, to which the path is shared already. Where what is shared for
     // that place is an array's trail and an index, a trail of its own takes its place, for its items to share.
-    fn trail_after_steps(&mut self, count: usize) -> Result<Rc<Trail<'a>>, NoMemory>
-        requires descent { IsDescentPath self.old }
+    fn trail_after_steps(&mut self, count: usize) -> Result<Rc<Trail<N>>, NoMemory>
+        requires descent { IsDescentPath N.bytes self.old }
         requires within { count < vec_len self.old.shared }
-        ensures leads { IfOk result (λ trail. location_at trail.value ≡ location_after (location_at self.old.start) (take count self.old.steps.items)) }
+        ensures leads { IfOk result (λ trail. location_at N.bytes trail.value ≡ location_after N.bytes (location_at N.bytes self.old.start) (take count self.old.steps.items)) }
         ensures shared { OnOk result (vec_len self.new.shared ≡ vec_len self.old.shared) }
-        ensures start { OnOk result (location_at self.new.start ≡ location_at self.old.start) }
+        ensures start { OnOk result (location_at N.bytes self.new.start ≡ location_at N.bytes self.old.start) }
         ensures steps { OnOk result (self.new.steps.items ≡ self.old.steps.items) }
-        ensures descent { IsDescentPath self.new }
+        ensures descent { IsDescentPath N.bytes self.new }
     {
         if let HeldPathToContainer::Whole(trail) = &self.shared[count] {
             return Ok(trail.clone()?);

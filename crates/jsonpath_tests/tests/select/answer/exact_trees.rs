@@ -3,8 +3,7 @@
 use crate::asserts::check;
 use jpath_texts::{DocumentRefusal, OrderedValue, put_in_order};
 use json::{Scratch, Value as Exact};
-use jsonpath_nodes::Halt;
-use jsonpath_select::{compile_path, select_in_tree};
+use jsonpath_select::{compile_path, select_in_tree, select_nodes_in_tree};
 use std::process::Abort;
 
 // The texts of the values that a path selects in the tree of a text, a blank between two; why there are none.
@@ -12,7 +11,7 @@ fn selected(
     rt: &(impl Abort + AllocGlobal),
     text: &str,
     path: &str,
-) -> Result<String, Halt<DocumentRefusal>> {
+) -> Result<String, DocumentRefusal> {
     let alloc = rt.alloc();
     let mut scratch = Scratch::new(alloc);
     let tree = Exact::parse(alloc, text, &mut scratch).expect(rt, "a tree");
@@ -89,13 +88,49 @@ fn values_as_they_are_written(rt: HostRuntime) {
 fn number_that_has_no_place_is_refused(rt: HostRuntime) {
     let text = "[1e9999999999999999999999999999999999999999999999]";
     let found = selected(&rt, text, "$[*][?(@ > 1)]");
-    check!(rt; matches!(found, Err(Halt::Refused(DocumentRefusal::HugeExponent))));
+    check!(rt; matches!(found, Err(DocumentRefusal::HugeExponent)));
     check!(rt; matches!(selected(&rt, text, "$[*]"), Ok(_)));
 }
 
+// Duplicates are dropped by location, so these paths can't be evaluated by values alone.
 #[test]
-fn values_have_no_locations(rt: HostRuntime) {
-    let text = "[[[{\"a\":1}]]]";
-    let found = selected(&rt, text, "$..*[?(@.a)]");
-    check!(rt; matches!(found, Err(Halt::NeedsLocations)));
+fn values_where_locations_matter(rt: HostRuntime) {
+    let rows = [
+        ("[[[{\"a\":1.0}]]]", "$..*[?(@.a)]", "{\"a\":1.0}"),
+        ("[[0.5,0.50],[0.5]]", "$..*[?(@ == 0.5)]", "0.5 0.50 0.5"),
+    ];
+    for (text, path, want) in rows {
+        let found = selected(&rt, text, path);
+        check!(rt; matches!(&found, Ok(shown) if shown.as_str() == want), path);
+    }
+}
+
+#[test]
+fn nodes_of_a_tree(rt: HostRuntime) {
+    let alloc = rt.alloc();
+    let mut scratch = Scratch::new(alloc);
+    let text = "{\"a\":[1.50,{\"b\":2e0}],\"b\":[]}";
+    let tree = Exact::parse(alloc, text, &mut scratch).expect(&rt, "a tree");
+    let root = OrderedValue::of(alloc, &tree).expect(&rt, "an ordered tree");
+    let rows = [
+        ("$", "$"),
+        ("$..b", "$['b'] $['a'][1]['b']"),
+        ("$.a[?(@ > 1)]", ""),
+        ("$.a[*][?(@ > 1)]", "$['a'][0]"),
+        ("$..*[?(@.b)]", "$['a'][1]"),
+    ];
+    for (path, want) in rows {
+        let compiled = compile_path(alloc, path).expect(&rt, "a path");
+        let found = select_nodes_in_tree(alloc, root, &compiled).expect(&rt, "nodes");
+        let mut shown = String::new(alloc);
+        for node in &found {
+            if !shown.is_empty() {
+                shown.push(' ').expect(&rt, "memory");
+            }
+            let location = node.location_in(alloc).expect(&rt, "a location");
+            let text = location.to_string(alloc).expect(&rt, "a text");
+            shown.push_str(text.as_str()).expect(&rt, "memory");
+        }
+        check!(rt; shown.as_str() == want, path);
+    }
 }

@@ -1,7 +1,7 @@
 use Rattle.std.proofs.Common.{List, map, ap, ◌∙◌}
 use Rattle.jsonpath_nodes.specs.place.Order.{once_in_order}
 use Rattle.jsonpath_nodes.specs.place.SpotPlace.{location_of}
-use Rattle.jsonpath_nodes.specs.declared.place.spot.Spot.{Spot}
+use Rattle.jsonpath_nodes.specs.place.SpotPlace.{Spot}
 use Rattle.jsonpath_lib.proofs.update.several_paths.targets_of_all.Goals as goal
 
 pub returns-clause-ok : goal.returns-clause-ok

@@ -44,7 +44,7 @@ add_members_and_all_below-loop-name-preserved g t c =
     let show = shown g.M.Descends.stand g.M.Descends.content in
     let first = c.members_here.new.way in
     let l = way_stand b (g.M.Descends.start first) (g.M.Descends.steps first) in
-    let x = name (g.M.Tree.Tree.name_bytes c.in-Some.name) in
+    let x = name (g.M.Tree.Name.Name.bytes c.in-Some.name) in
     let d = g.M.Tree.Tree.content c.in-Some.member in
     let now = c.loop-name.way in
     let k = way_stand b (g.M.Descends.start now) (g.M.Descends.steps now ++ x ∷ []) in
@@ -55,7 +55,7 @@ add_members_and_all_below-loop-name-preserved g t c =
     let gained = node_then_descendants b k (l ++ x ∷ []) d (map show c.loop-name.out.items) (map show c.push_member.new.out.items) (map show c.add_all_under_child.new.out.items)
     (pushed ∙ ap (λ (m : Location). map show c.loop-name.out.items ++ (kept_location b (m ++ x ∷ []), Some d) ∷ []) c.loop-name.invariant.here) here later in
     record {
-      gains = member_next b below l k (g.M.Tree.Tree.name_bytes c.in-Some.name) d (g.M.Tree.Tree.members_left c.next_member.new.left) (g.M.Tree.Tree.members_left c.loop-name.left) _ _ _ (search (rules, c.in-Some.ensures)) here gained c.loop-name.invariant.gains;
+      gains = member_next b below l k (g.M.Tree.Name.Name.bytes c.in-Some.name) d (g.M.Tree.Tree.members_left c.next_member.new.left) (g.M.Tree.Tree.members_left c.loop-name.left) _ _ _ (search (rules, c.in-Some.ensures)) here gained c.loop-name.invariant.gains;
       stays = stays_on b _ _ _ _ _ _ c.loop-name.invariant.stays c.in_ok-add_all_under_child.ensures.stays;
       here = c.loop-name.invariant.here;
       within = search rules;

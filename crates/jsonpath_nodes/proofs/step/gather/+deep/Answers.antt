@@ -63,5 +63,5 @@ add_at_or_below-returns-in_default-as_array-clause-gains g t c =
 
 pub add_at_or_below_child-returns-else-is_container-clause-gains : goal.add_at_or_below_child-returns-else-is_container-clause-gains
 add_at_or_below_child-returns-else-is_container-clause-gains g t c =
-    leaf_gathered_step g.M.Descends.located (g.G.Gathers.what c.args.what.now) (way_stand g.M.Descends.located (g.M.Descends.start c.args.way.now) (g.M.Descends.steps c.args.way.now ++ down_step g.M.Tree.Tree.name_bytes c.args.step ∷ [])) (g.M.Tree.Tree.content c.args.value) _
+    leaf_gathered_step g.M.Descends.located (g.G.Gathers.what c.args.what.now) (way_stand g.M.Descends.located (g.M.Descends.start c.args.way.now) (g.M.Descends.steps c.args.way.now ++ down_step g.M.Tree.Name.Name.bytes c.args.step ∷ [])) (g.M.Tree.Tree.content c.args.value) _
     (no_container (g.M.Tree.Tree.content c.args.value) (sym c.is_container.ensures ∙ c.if-is_container.false))

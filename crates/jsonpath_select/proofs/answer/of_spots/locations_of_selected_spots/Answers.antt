@@ -1,6 +1,6 @@
 use Rattle.std.proofs.Common.{◌≡◌, ◌≤◌, ◌++◌, map, List, length, sym, ap, ◌∙◌, append-nil, drop_of_length-le, arith}
 use Rattle.jsonpath_nodes.specs.place.SpotPlace.{location_of}
-use Rattle.jsonpath_nodes.specs.declared.place.spot.Spot.{Spot}
+use Rattle.jsonpath_nodes.specs.place.SpotPlace.{Spot}
 use Rattle.jsonpath_select.specs.Meaning.{sel}
 use Rattle.jsonpath_select.proofs.answer.of_spots.locations_of_selected_spots.Goals as goal
 

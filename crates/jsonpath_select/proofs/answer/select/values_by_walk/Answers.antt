@@ -1,6 +1,6 @@
 use Rattle.std.proofs.Common.{List, [], false, sym, subst}
 use Rattle.jsonpath_nodes.specs.document.OfData.{value_document}
-use Rattle.jsonpath_nodes.specs.declared.place.spot.Spot.{Spot}
+use Rattle.jsonpath_nodes.specs.place.SpotPlace.{Spot}
 use Rattle.jsonpath_paths.specs.tree.View.{path_of}
 use Rattle.jsonpath_select.specs.Meaning.{sel, SelectsSpots}
 use Rattle.jsonpath_select.proofs.walk.MarkLemmas.{contents-at}
@@ -20,4 +20,4 @@ pub returns-in_ok-found-in-Err-NeedsLocations-clause-ok : goal.returns-in_ok-fou
 returns-in_ok-found-in-Err-NeedsLocations-clause-ok c =
     let text = c.args.path.text.now in
     let doc = value_document c.args.json.now in
-    c.in_ok-found-in-Err-NeedsLocations.ensures.ok text doc (subst (λ (ss : List Spot). SelectsSpots text doc ss) (sym c.as_slice.ensures.value) c.in_ok-spots-in-Err-NeedsLocations.ensures.ok)
+    c.in_ok-found-in-Err-NeedsLocations.ensures text doc (subst (λ (ss : List Spot). SelectsSpots text doc ss) (sym c.as_slice.ensures.value) c.in_ok-spots-in-Err-NeedsLocations.ensures.ok)

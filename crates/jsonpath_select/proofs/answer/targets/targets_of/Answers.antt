@@ -2,7 +2,7 @@ use Rattle.std.proofs.Common.{List, map, ap, ◌∙◌}
 use Rattle.jsonpath_nodes.specs.document.OfData.{value_document}
 use Rattle.jsonpath_nodes.specs.place.Order.{once_in_order}
 use Rattle.jsonpath_nodes.specs.place.SpotPlace.{location_of}
-use Rattle.jsonpath_nodes.specs.declared.place.spot.Spot.{Spot}
+use Rattle.jsonpath_nodes.specs.place.SpotPlace.{Spot}
 use Rattle.jsonpath_select.proofs.answer.TargetLemmas.{targets_are}
 use Rattle.jsonpath_select.proofs.answer.targets.targets_of.Goals as goal
 

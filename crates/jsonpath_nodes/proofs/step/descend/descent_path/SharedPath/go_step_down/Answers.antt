@@ -4,5 +4,5 @@ use Rattle.jsonpath_nodes.proofs.step.DescentPathLemmas.{along_longer}
 use Rattle.jsonpath_nodes.proofs.step.descend.descent_path.SharedPath.go_step_down.Goals as goal
 
 pub returns-clause-descent : goal.returns-clause-descent
-returns-clause-descent c =
-    rw c.in_ok-push.ensures.items (along_longer (location_at c.args.self.now.start) c.args.self.now.steps.items (c.args.step ∷ []) c.args.self.now.shared.items c.requires)
+returns-clause-descent g c =
+    rw c.in_ok-push.ensures.items (along_longer g.N.Name.bytes (location_at g.N.Name.bytes c.args.self.now.start) c.args.self.now.steps.items (c.args.step ∷ []) c.args.self.now.shared.items c.requires)

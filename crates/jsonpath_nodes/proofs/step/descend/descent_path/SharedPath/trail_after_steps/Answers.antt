@@ -6,28 +6,28 @@ use Rattle.jsonpath_nodes.proofs.step.DescentPathLemmas.{leads_there, along_put}
 use Rattle.jsonpath_nodes.proofs.step.descend.descent_path.SharedPath.trail_after_steps.Goals as goal
 
 pub returns-in-Whole-clause-leads : goal.returns-in-Whole-clause-leads
-returns-in-Whole-clause-leads c =
+returns-in-Whole-clause-leads g c =
     let t = c.args.self.now in
-    ap location_at c.in_ok-clone.ensures.cases
-    ∙ ap held_path_location (sym c.in-Whole.is ∙ c.index.ensures)
-    ∙ leads_there (location_at t.start) t.steps.items t.shared.items c.args.count c.index.result.now c.requires.descent (omega arith)
+    ap (location_at g.N.Name.bytes) c.in_ok-clone.ensures.cases
+    ∙ ap (held_path_location g.N.Name.bytes) (sym c.in-Whole.is ∙ c.index.ensures)
+    ∙ leads_there g.N.Name.bytes (location_at g.N.Name.bytes t.start) t.steps.items t.shared.items c.args.count c.index.result.now c.requires.descent (omega arith)
 
 pub returns-clause-leads : goal.returns-clause-leads
-returns-clause-leads c =
+returns-clause-leads g c =
     let t = c.args.self.now in
     c.in_ok-trail.ensures
-    ∙ ap held_path_location c.index-2.ensures
-    ∙ leads_there (location_at t.start) t.steps.items t.shared.items c.args.count c.index-2.result.now c.requires.descent (omega arith)
+    ∙ ap (held_path_location g.N.Name.bytes) c.index-2.ensures
+    ∙ leads_there g.N.Name.bytes (location_at g.N.Name.bytes t.start) t.steps.items t.shared.items c.args.count c.index-2.result.now c.requires.descent (omega arith)
 
 pub returns-clause-descent : goal.returns-clause-descent
-returns-clause-descent c =
+returns-clause-descent g c =
     let t = c.args.self.now in
-    let l = location_at t.start in
-    let made : HeldPathToContainer = Whole c.in_ok-clone-2.field-0 in
-    let same : held_path_location made ≡ held_path_location (get_or t.shared.items c.args.count made) =
-    ap location_at c.in_ok-clone-2.ensures.cases
+    let l = location_at g.N.Name.bytes t.start in
+    let made : HeldPathToContainer _ = Whole c.in_ok-clone-2.field-0 in
+    let same : held_path_location g.N.Name.bytes made ≡ held_path_location g.N.Name.bytes (get_or t.shared.items c.args.count made) =
+    ap (location_at g.N.Name.bytes) c.in_ok-clone-2.ensures.cases
     ∙ c.in_ok-trail.ensures
-    ∙ ap held_path_location c.index-2.ensures
-    ∙ leads_there l t.steps.items t.shared.items c.args.count c.index-2.result.now c.requires.descent (omega arith)
-    ∙ sym (leads_there l t.steps.items t.shared.items c.args.count made c.requires.descent (omega arith)) in
-    along_put l t.steps.items t.shared.items c.args.count made c.requires.descent same
+    ∙ ap (held_path_location g.N.Name.bytes) c.index-2.ensures
+    ∙ leads_there g.N.Name.bytes l t.steps.items t.shared.items c.args.count c.index-2.result.now c.requires.descent (omega arith)
+    ∙ sym (leads_there g.N.Name.bytes l t.steps.items t.shared.items c.args.count made c.requires.descent (omega arith)) in
+    along_put g.N.Name.bytes l t.steps.items t.shared.items c.args.count made c.requires.descent same

@@ -1,0 +1,38 @@
+//! The names of members, as trees hand them out.
+
+ghost use Rattle.std.specs.Prelude.{◌≡◌, List, ℕ, string_bytes};
+
+/// A trait: the name of a member of an object, as a document stores it: a small handle that can be copied, such as
+/// `&String`.
+///
+/// ```text
+/// let name = String::from_str(alloc, "a")?;
+/// assert!(rt; Name::as_text(&&name) == "a");
+/// ```
+pub trait Name: Copy + Drop {
+    ghost bytes: { Self → List ℕ };
+
+    /// A method that implementors provide: returns the name as a text.
+    fn as_text(&self) -> &str
+        ensures { result.now ≡ bytes self.now };
+}
+
+/// Implements `Name` (a member's name) for the names of `serde_json`'s objects.
+impl<'a> Name for &'a String {
+    ghost bytes = { λ name. string_bytes name.now };
+
+    #[inline(always)]
+    fn as_text(&self) -> &str {
+        self.as_str()
+    }
+}
+
+/// Implements `Name` (a member's name) for texts.
+impl<'a> Name for &'a str {
+    ghost bytes = { λ name. name.now };
+
+    #[inline(always)]
+    fn as_text(&self) -> &str {
+        self
+    }
+}
