@@ -20,7 +20,7 @@ pub use place::carried::Carried;
 pub use place::document_order::{in_document_order, indexes_standing_among, topmost_spots};
 pub use place::location::{LocStep, Location};
 pub use place::mark::Mark;
-pub use place::spot::{PathStep, Place, Spot, Steps};
+pub use place::spot::{PathStep, Spot, Steps, TreeNode};
 pub use place::steps_from_root::StepsFromRoot;
 pub use step::child_lookup::abs_index;
 pub use step::plain_step::PlainStep;

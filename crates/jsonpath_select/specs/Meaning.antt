@@ -9,7 +9,7 @@ use Rattle.jsonpath_nodes.specs.compare.Comparisons.{Seen, seen}
 use Rattle.jsonpath_nodes.specs.place.Order.{once_in_order}
 use Rattle.jsonpath_nodes.specs.place.Mark.{MarksStandAt}
 use Rattle.jsonpath_nodes.specs.place.SpotPlace.{Spot, StandAt, place_location, place_value}
-use Rattle.jsonpath_nodes.specs.declared.place.spot.Place.{Place}
+use Rattle.jsonpath_nodes.specs.declared.place.spot.TreeNode.{TreeNode}
 use Rattle.jsonpath_paths.specs.OfPath.{OfPath}
 use Rattle.jsonpath_select.specs.Parts.{plain_of, literals, has_pair, joined}
 
@@ -104,5 +104,5 @@ abbrev pub SelectsSpots : List ℕ → Document → List Spot → Type 0
 SelectsSpots text doc spots = OfPath text (λ path. StandAt doc (sel text doc path) spots)
 
 -- the same of the nodes of any tree, by the bytes of its names and the documents of its values
-abbrev pub SelectsNodes : {T N : Type 0} → (N → List ℕ) → (T → Document) → List ℕ → Document → List (Place T N) → Type 0
+abbrev pub SelectsNodes : {T N : Type 0} → (N → List ℕ) → (T → Document) → List ℕ → Document → List (TreeNode T N) → Type 0
 SelectsNodes bytes content text doc nodes = OfPath text (λ path. MarksStandAt true (place_location bytes) (place_value content) doc (sel text doc path) nodes)

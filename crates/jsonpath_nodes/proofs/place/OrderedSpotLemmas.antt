@@ -13,18 +13,18 @@ use Rattle.jsonpath_nodes.specs.document.Document.{Document}
 use Rattle.jsonpath_nodes.specs.place.Location.{Location, location_cmp, is_same}
 use Rattle.jsonpath_nodes.specs.place.NumbersWhere.{numbers_where}
 use Rattle.jsonpath_nodes.specs.place.Order.{location_total, once_in_order}
-use Rattle.jsonpath_nodes.specs.place.SpotPlace.{look, place_location}
-use Rattle.jsonpath_nodes.specs.plan.OrderedSpots.{place_sight, IsShownIn as shows_in, ordered_spot_location as ordered_at, ordered_spot_sight as ordered_sight}
+use Rattle.jsonpath_nodes.specs.place.SpotPlace.{look, place_location, place_sight}
+use Rattle.jsonpath_nodes.specs.plan.OrderedSpots.{IsShownIn as shows_in, ordered_spot_location as ordered_at, ordered_spot_sight as ordered_sight}
 use Rattle.jsonpath_nodes.specs.step.SameMembers.{is_at_or_below, topmost_after}
 use Rattle.jsonpath_nodes.specs.declared.place.document_order.OrderedSpot.{OrderedSpot}
-use Rattle.jsonpath_nodes.specs.declared.place.spot.Place.{Place}
+use Rattle.jsonpath_nodes.specs.declared.place.spot.TreeNode.{TreeNode}
 use Rattle.jsonpath_nodes.proofs.place.OrderLemmas.{all_insert}
 use Rattle.jsonpath_nodes.proofs.step.InOrderLemmas.{once_sorted}
 use Rattle.jsonpath_nodes.proofs.place.SightLemmas.{Sight}
 
 module _ {T N : Type 0} (bytes : N → List ℕ) (content : T → Document) where
   abbrev Node : Type 0
-  Node = Place T N
+  Node = TreeNode T N
 
   abbrev location_of : Node → Location
   location_of = place_location bytes

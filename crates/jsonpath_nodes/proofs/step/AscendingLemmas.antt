@@ -10,7 +10,7 @@ use Rattle.jsonpath_nodes.specs.place.SpotPlace.{look, place_location, place_val
 use Rattle.jsonpath_nodes.specs.plan.Ascending.{first_difference_ascends, AscendFrom, Ascend}
 use Rattle.jsonpath_nodes.specs.place.Mark.{MarksLeadBy}
 use Rattle.jsonpath_nodes.specs.document.Document.{Document}
-use Rattle.jsonpath_nodes.specs.declared.place.spot.Place.{Place}
+use Rattle.jsonpath_nodes.specs.declared.place.spot.TreeNode.{TreeNode}
 use Rattle.jsonpath_nodes.proofs.step.DisjointLemmas.{disjoint_stands_apart}
 use Rattle.jsonpath_nodes.proofs.place.OrderedSpotLemmas.{locations-StandAt}
 use Rattle.jsonpath_nodes.proofs.step.OnceLemmas.{step_same}
@@ -58,7 +58,7 @@ ascend_disjoint (l ∷ ls) h = (all_then (λ m. first_difference_ascends l m ≡
 
 -- ---- nodes
 
-pub leads_apart : {T N : Type 0} (bytes : N → List ℕ) (content : T → Document) (places found : List (Place T N)) → Ascend (map (place_location bytes) places)
+pub leads_apart : {T N : Type 0} (bytes : N → List ℕ) (content : T → Document) (places found : List (TreeNode T N)) → Ascend (map (place_location bytes) places)
     → MarksLeadBy true (place_location bytes) (place_value content) (λ doc ls. from_each doc flat ls) places found → MarksLeadBy true (place_location bytes) (place_value content) flattened places found
 leads_apart bytes content places found h lead doc ls stand =
     lead doc ls stand ∙ ap (map (look doc)) (sym (apart_has_no_repeat_flat doc ls (disjoint_stands_apart ls (ascend_disjoint ls (subst Ascend (locations-StandAt bytes content doc ls places stand) h)))))

@@ -8,9 +8,8 @@ use Rattle.std.proofs.lemmas.List.Folds.{list_any-append}
 use Rattle.jsonpath_nodes.specs.document.Document.{Document}
 use Rattle.jsonpath_nodes.specs.place.Location.{Location, location_cmp, is_same}
 use Rattle.jsonpath_nodes.specs.step.Steps.{each_once}
-use Rattle.jsonpath_nodes.specs.place.SpotPlace.{look, place_location}
-use Rattle.jsonpath_nodes.specs.plan.OrderedSpots.{place_sight}
-use Rattle.jsonpath_nodes.specs.declared.place.spot.Place.{Place}
+use Rattle.jsonpath_nodes.specs.place.SpotPlace.{look, place_location, place_sight}
+use Rattle.jsonpath_nodes.specs.declared.place.spot.TreeNode.{TreeNode}
 use Rattle.jsonpath_nodes.proofs.place.SightLemmas.{Sight}
 use Rattle.jsonpath_nodes.proofs.place.OrderedSpotLemmas.{looked}
 use Rattle.jsonpath_nodes.proofs.step.RepeatLemmas.{each_once_after-append}
@@ -18,7 +17,7 @@ use Rattle.jsonpath_nodes.proofs.step.SeparateLemmas.{same_turned}
 
 module _ {T N : Type 0} (bytes : N → List ℕ) (content : T → Document) where
   abbrev Node : Type 0
-  Node = Place T N
+  Node = TreeNode T N
 
   abbrev location_of : Node → Location
   location_of = place_location bytes

@@ -19,7 +19,7 @@ use Rattle.jsonpath_nodes.specs.declared.place.trail.HeldPathToContainer.{HeldPa
 use Rattle.jsonpath_nodes.specs.declared.place.trail.HeldPathToContainer.TheVariants as held
 use Rattle.jsonpath_nodes.specs.declared.place.trail.PathTo.{PathTo}
 use Rattle.jsonpath_nodes.specs.declared.place.trail.PathTo.TheVariants as path_to
-use Rattle.jsonpath_nodes.specs.declared.place.spot.Place.{Place}
+use Rattle.jsonpath_nodes.specs.declared.place.spot.TreeNode.{TreeNode}
 use Rattle.jsonpath_nodes.specs.declared.place.spot.Steps.{Steps}
 use Rattle.jsonpath_nodes.specs.declared.place.steps_from_root.StepsFromRoot.{StepsFromRoot}
 
@@ -61,16 +61,20 @@ path_location bytes (path_to.Whole t) = location_at bytes t.now
 path_location bytes (path_to.Item t i) = location_at bytes t.now.value ++ index i ∷ []
 
 -- where a node of a tree stands, and the value there
-abbrev pub place_location : {T N : Type 0} → (N → List ℕ) → Place T N → Location
+abbrev pub place_location : {T N : Type 0} → (N → List ℕ) → TreeNode T N → Location
 place_location bytes p = location_at bytes p.trail
 
-abbrev pub place_value : {T N : Type 0} → (T → Document) → Place T N → Document
+abbrev pub place_value : {T N : Type 0} → (T → Document) → TreeNode T N → Document
 place_value content p = content p.value
+
+-- a node's location with its value
+abbrev pub place_sight : {T N : Type 0} → (N → List ℕ) → (T → Document) → TreeNode T N → Location × Option Document
+place_sight bytes content p = (place_location bytes p, Some (place_value content p))
 
 -- ---- of `serde_json`'s values
 
 abbrev pub Spot : Type 0
-Spot = Place (Bor Value) Key
+Spot = TreeNode (Bor Value) Key
 
 -- where a spot stands, and the value there
 abbrev pub location_of : Spot → Location

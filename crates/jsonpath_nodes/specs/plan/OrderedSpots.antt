@@ -2,18 +2,12 @@
 use Rattle.std.specs.Prelude.{◌≡◌, ℕ, List, map, reverse, Option, Some, None, option_map, Bool, true}
 use Rattle.std.specs.Ordering.{is_lt}
 use Rattle.jsonpath_nodes.specs.document.Document.{Document}
-use Rattle.jsonpath_nodes.specs.place.Location.{Location, at, location_cmp}
-use Rattle.jsonpath_nodes.specs.place.Mark.{shown}
-use Rattle.jsonpath_nodes.specs.place.SpotPlace.{look, place_location, place_value}
+use Rattle.jsonpath_nodes.specs.place.Location.{Location, location_cmp}
+use Rattle.jsonpath_nodes.specs.place.SpotPlace.{look, place_sight}
 use Rattle.jsonpath_nodes.specs.plan.Way.{down_step}
 use Rattle.jsonpath_nodes.specs.declared.place.document_order.OrderedSpot.{OrderedSpot}
-use Rattle.jsonpath_nodes.specs.declared.place.spot.Place.{Place}
 use Rattle.jsonpath_nodes.specs.declared.step.descends.DownStep.{DownStep}
 use Rattle.std.specs.Global.{Vec}
-
--- what a node shows
-abbrev pub place_sight : {T N : Type 0} → (N → List ℕ) → (T → Document) → Place T N → Location × Option Document
-place_sight bytes content = shown (place_location bytes) (place_value content)
 
 -- the location whose steps are these, the last one first
 abbrev pub from_top : {N : Type 0} → (N → List ℕ) → List (DownStep N) → Location

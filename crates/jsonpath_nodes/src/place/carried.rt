@@ -18,7 +18,7 @@ use crate::compare::fraction::Fraction;
 use crate::memory::{Halt, NoMemory};
 use crate::place::document_order::{in_document_order, indexes_standing_among, topmost_spots};
 use crate::place::mark::Mark;
-use crate::place::spot::Place;
+use crate::place::spot::TreeNode;
 use crate::step::candidates;
 use crate::steps_on_marks::{candidates_below_mark, flattened_from_mark};
 use crate::tree::Tree;
@@ -142,7 +142,7 @@ impl<T: Tree> Carried for T {
 }
 
 /// Implements the trait `Carried` (a node that is passed from step to step) for `Spot`, which has its location.
-impl<T: Tree> Carried for Place<T, T::Name> {
+impl<T: Tree> Carried for TreeNode<T, T::Name> {
     type Number = T::Number;
 
     type Stop = T::Error;
@@ -159,36 +159,36 @@ impl<T: Tree> Carried for Place<T, T::Name> {
 
     fn flattened_once(
         alloc: Global,
-        marks: &[Place<T, T::Name>],
-    ) -> Result<Vec<Place<T, T::Name>>, T::Error> {
+        marks: &[TreeNode<T, T::Name>],
+    ) -> Result<Vec<TreeNode<T, T::Name>>, T::Error> {
         Ok(candidates::flattened_once(alloc, marks)?)
     }
 
     fn candidates_below_once(
         alloc: Global,
-        marks: &[Place<T, T::Name>],
-    ) -> Result<Vec<Place<T, T::Name>>, T::Error> {
+        marks: &[TreeNode<T, T::Name>],
+    ) -> Result<Vec<TreeNode<T, T::Name>>, T::Error> {
         Ok(candidates::candidates_below_once(alloc, marks)?)
     }
 
     fn marks_in_document_order(
         alloc: Global,
-        marks: &[Place<T, T::Name>],
-    ) -> Result<Vec<Place<T, T::Name>>, T::Error> {
+        marks: &[TreeNode<T, T::Name>],
+    ) -> Result<Vec<TreeNode<T, T::Name>>, T::Error> {
         Ok(in_document_order(alloc, marks)?)
     }
 
     fn topmost_marks(
         alloc: Global,
-        marks: &[Place<T, T::Name>],
-    ) -> Result<Vec<Place<T, T::Name>>, T::Error> {
+        marks: &[TreeNode<T, T::Name>],
+    ) -> Result<Vec<TreeNode<T, T::Name>>, T::Error> {
         Ok(topmost_spots(alloc, marks)?)
     }
 
     fn indexes_standing_among(
         alloc: Global,
-        marks: &[Place<T, T::Name>],
-        others: &[Place<T, T::Name>],
+        marks: &[TreeNode<T, T::Name>],
+        others: &[TreeNode<T, T::Name>],
     ) -> Result<Vec<usize>, T::Error> {
         Ok(indexes_standing_among(alloc, marks, others)?)
     }

@@ -10,16 +10,16 @@ ghost use Rattle.jsonpath_nodes.specs.document.Document.{Document};
 ghost use Rattle.jsonpath_nodes.specs.place.Location.{Location, location_cmp, is_same};
 ghost use Rattle.jsonpath_nodes.specs.place.NumbersWhere.{numbers_where};
 ghost use Rattle.jsonpath_nodes.specs.place.Order.{location_total, once_in_order};
-ghost use Rattle.jsonpath_nodes.specs.place.SpotPlace.{place_location, place_value};
+ghost use Rattle.jsonpath_nodes.specs.place.SpotPlace.{place_location, place_value, place_sight};
 ghost use Rattle.jsonpath_nodes.specs.place.Mark.{MarksLeadBy, MarksStandAt};
-ghost use Rattle.jsonpath_nodes.specs.plan.OrderedSpots.{IsShownIn, comes_behind, place_sight, from_top, last_location, ordered_spot_location, ordered_spot_sight};
+ghost use Rattle.jsonpath_nodes.specs.plan.OrderedSpots.{IsShownIn, comes_behind, from_top, last_location, ordered_spot_location, ordered_spot_sight};
 ghost use Rattle.jsonpath_nodes.specs.step.SameMembers.{is_at_or_below, topmost};
 
 use crate::memory::NoMemory;
 use crate::place::reversed_steps::{
     compare_reversed_locations, is_reversed_prefix_of, reversed_steps,
 };
-use crate::place::spot::Place;
+use crate::place::spot::TreeNode;
 use crate::step::descends::DownStep;
 use crate::tree::Tree;
 use crate::tree::name::Name;
@@ -36,8 +36,8 @@ use std::collections::BTreeSet;
 /// ```
 pub fn in_document_order<T: Tree>(
     alloc: Global,
-    spots: &[Place<T, T::Name>],
-) -> Result<Vec<Place<T, T::Name>>, NoMemory>
+    spots: &[TreeNode<T, T::Name>],
+) -> Result<Vec<TreeNode<T, T::Name>>, NoMemory>
     ensures { IfOk result (λ found. MarksLeadBy true (place_location T.Name.bytes) (place_value T.content) (λ _ ls. once_in_order ls) spots.now found.items) }
 {
     if are_ordered_without_repeats(alloc, spots)? {
@@ -52,7 +52,7 @@ pub fn in_document_order<T: Tree>(
 // Whether each spot comes behind the one before it, so that they stand in document order, each once.
 fn are_ordered_without_repeats<T: Tree>(
     alloc: Global,
-    spots: &[Place<T, T::Name>],
+    spots: &[TreeNode<T, T::Name>],
 ) -> Result<bool, NoMemory>
     ensures { IfOk result (λ ordered. IsTrue ordered → IsStrictlySortedBy location_cmp (map (place_location T.Name.bytes) spots.now)) }
 {
@@ -80,8 +80,8 @@ fn is_after_last_spot<N: Name>(last: &Option<Vec<DownStep<N>>>, up: &[DownStep<N
 // Clones of the spots.
 fn clone_spots<T: Tree>(
     alloc: Global,
-    spots: &[Place<T, T::Name>],
-) -> Result<Vec<Place<T, T::Name>>, NoMemory>
+    spots: &[TreeNode<T, T::Name>],
+) -> Result<Vec<TreeNode<T, T::Name>>, NoMemory>
     ensures { IfOk result (λ same. map (place_sight T.Name.bytes T.content) same.items ≡ map (place_sight T.Name.bytes T.content) spots.now) }
 {
     let mut same = Vec::with_capacity(alloc, spots.len())?;
@@ -101,8 +101,8 @@ fn clone_spots<T: Tree>(
 /// ```
 pub fn indexes_standing_among<T: Tree>(
     alloc: Global,
-    spots: &[Place<T, T::Name>],
-    others: &[Place<T, T::Name>],
+    spots: &[TreeNode<T, T::Name>],
+    others: &[TreeNode<T, T::Name>],
 ) -> Result<Vec<usize>, NoMemory>
     ensures { IfOk result (λ numbers. numbers.items ≡ numbers_where (λ l. list_any (is_same l) (once_in_order (map (place_location T.Name.bytes) others.now))) 0 (map (place_location T.Name.bytes) spots.now)) }
 {
@@ -128,7 +128,7 @@ fn push_index_if(passes: bool, number: usize, numbers: &mut Vec<usize>) -> Resul
 // The spots as a set in document order, each location once.
 fn ordered_spots<T: Tree>(
     alloc: Global,
-    spots: &[Place<T, T::Name>],
+    spots: &[TreeNode<T, T::Name>],
 ) -> Result<BTreeSet<OrderedSpot<T, T::Name>>, NoMemory>
     ensures order { IfOk result (λ placed. map (ordered_spot_location T.Name.bytes) placed.keys ≡ once_in_order (map (place_location T.Name.bytes) spots.now)) }
     ensures shown { IfOk result (λ placed. (doc : Document) (ls : List Location) → MarksStandAt true (place_location T.Name.bytes) (place_value T.content) doc ls spots.now → AllByRecursion (IsShownIn T.Name.bytes T.content doc) placed.keys) }
@@ -150,8 +150,8 @@ fn ordered_spots<T: Tree>(
 /// ```
 pub fn topmost_spots<T: Tree>(
     alloc: Global,
-    spots: &[Place<T, T::Name>],
-) -> Result<Vec<Place<T, T::Name>>, NoMemory>
+    spots: &[TreeNode<T, T::Name>],
+) -> Result<Vec<TreeNode<T, T::Name>>, NoMemory>
     ensures { IfOk result (λ found. MarksLeadBy true (place_location T.Name.bytes) (place_value T.content) (λ _ ls. topmost ls) spots.now found.items) }
 {
     let mut kept = Vec::new(alloc);
@@ -165,9 +165,9 @@ pub fn topmost_spots<T: Tree>(
 // Adds a spot to those kept, unless it stands at or below the last one kept, to which `last` has the steps.
 fn push_if_topmost<T: Tree>(
     alloc: Global,
-    spot: &Place<T, T::Name>,
+    spot: &TreeNode<T, T::Name>,
     last: &mut Option<Vec<DownStep<T::Name>>>,
-    kept: &mut Vec<Place<T, T::Name>>,
+    kept: &mut Vec<TreeNode<T, T::Name>>,
 ) -> Result<(), NoMemory>
     ensures last { OnOk result (last_location T.Name.bytes last.new ≡ (if is_at_or_below (last_location T.Name.bytes last.old) (place_location T.Name.bytes spot.now) then last_location T.Name.bytes last.old else Some (place_location T.Name.bytes spot.now))) }
     ensures kept { OnOk result (map (place_sight T.Name.bytes T.content) kept.new.items ≡ map (place_sight T.Name.bytes T.content) kept.old.items ++ (if is_at_or_below (last_location T.Name.bytes last.old) (place_location T.Name.bytes spot.now) then [] else place_sight T.Name.bytes T.content spot.now ∷ [])) }
@@ -194,14 +194,14 @@ fn is_at_or_below_last<N: Name>(last: &Option<Vec<DownStep<N>>>, up: &[DownStep<
 #[derive(Drop)]
 pub struct OrderedSpot<T, N> {
     pub(crate) up: Vec<DownStep<N>>,
-    pub(crate) spot: Place<T, N>,
+    pub(crate) spot: TreeNode<T, N>,
 }
 
 impl<T: Tree> OrderedSpot<T, T::Name> {
     // A clone of the spot beside the steps to it, by which it is ordered.
     pub(crate) fn of_spot(
         alloc: Global,
-        spot: &Place<T, T::Name>,
+        spot: &TreeNode<T, T::Name>,
     ) -> Result<OrderedSpot<T, T::Name>, NoMemory>
         ensures location { IfOk result (λ placed. ordered_spot_location T.Name.bytes placed ≡ place_location T.Name.bytes spot.now) }
         ensures sight { IfOk result (λ placed. ordered_spot_sight T.Name.bytes T.content placed ≡ place_sight T.Name.bytes T.content spot.now) }
@@ -256,7 +256,7 @@ impl<T: Copy + Drop, N: Name> Ord for OrderedSpot<T, N> {
 fn into_spots<T: Tree>(
     alloc: Global,
     placed: BTreeSet<OrderedSpot<T, T::Name>>,
-) -> Result<Vec<Place<T, T::Name>>, NoMemory>
+) -> Result<Vec<TreeNode<T, T::Name>>, NoMemory>
     ensures { IfOk result (λ found. map (place_sight T.Name.bytes T.content) found.items ≡ map (ordered_spot_sight T.Name.bytes T.content) placed.keys) }
 {
     let mut found = Vec::new(alloc);

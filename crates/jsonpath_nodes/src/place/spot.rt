@@ -5,8 +5,7 @@ ghost use Rattle.serde_json.specs.View.{view};
 ghost use Rattle.jsonpath_nodes.specs.document.OfData.{document_of};
 ghost use Rattle.jsonpath_nodes.specs.place.Location.{below};
 ghost use Rattle.jsonpath_nodes.specs.place.Mark.{MarksGain};
-ghost use Rattle.jsonpath_nodes.specs.place.SpotPlace.{key_bytes, step_of, steps_of, path_location, place_location, place_value, location_of, value_of, LeadsBy};
-ghost use Rattle.jsonpath_nodes.specs.plan.OrderedSpots.{place_sight};
+ghost use Rattle.jsonpath_nodes.specs.place.SpotPlace.{key_bytes, step_of, steps_of, path_location, place_location, place_value, location_of, value_of, LeadsBy, place_sight};
 ghost use Rattle.jsonpath_nodes.specs.plan.Way.{down_step};
 ghost use Rattle.jsonpath_nodes.specs.step.Steps.{step, all_below, every, named, nth};
 
@@ -55,17 +54,17 @@ pub enum PathStep<'a> {
 /// assert_eq!(rt; items.len(), 2);
 /// assert!(rt; items[1].location(alloc)?.to_string(alloc)?.as_str() == "$['a'][1]");
 /// ```
-pub type Spot<'a> = Place<&'a Value, &'a String>;
+pub type Spot<'a> = TreeNode<&'a Value, &'a String>;
 
 /// A node of any `Tree`: a value, by its handle of type `T`, with its location. `N` is the type of the tree's names.
 /// `Spot` is such a node of a `serde_json` value.
 ///
 /// ```text
-/// let root = Place::at_root(&document);
+/// let root = TreeNode::at_root(&document);
 /// assert!(rt; root.location_in(alloc)?.steps().is_empty());
 /// ```
 #[derive(Drop)]
-pub struct Place<T, N> {
+pub struct TreeNode<T, N> {
     pub(crate) value: T,
     pub(crate) trail: Trail<N>,
 }
@@ -97,7 +96,7 @@ impl<'a> Spot<'a> {
         ensures location { location_of result ≡ [] }
         ensures value { value_of result ≡ document_of (view value.now) }
     {
-        Place::at_root(value)
+        TreeNode::at_root(value)
     }
 
     /// The value of the node, borrowed from the document.
@@ -185,7 +184,7 @@ impl<'a> Spot<'a> {
         match item_of_value(self.value, index) {
             Some(item) => {
                 let here = shared_trail(alloc, &self.trail)?;
-                Ok(Some(Place {
+                Ok(Some(TreeNode {
                     value: item,
                     trail: Trail::Item(here, index),
                 }))
@@ -223,29 +222,29 @@ impl<'a> Spot<'a> {
 
 /// Clones a node: the clone has the same value and shares the steps of its location. `clone` returns a `Result`; it
 /// fails only if the reference count of these steps would overflow.
-impl<T: Tree> Clone for Place<T, T::Name> {
+impl<T: Tree> Clone for TreeNode<T, T::Name> {
     ghost is_clone = { λ place copy. place_sight T.Name.bytes T.content copy ≡ place_sight T.Name.bytes T.content place };
 
-    fn clone(&self) -> Result<Place<T, T::Name>, AllocError> {
-        Ok(Place {
+    fn clone(&self) -> Result<TreeNode<T, T::Name>, AllocError> {
+        Ok(TreeNode {
             value: self.value,
             trail: clone_trail(&self.trail)?,
         })
     }
 }
 
-impl<T: Tree> Place<T, T::Name> {
+impl<T: Tree> TreeNode<T, T::Name> {
     /// The root node of a document, with the whole document as its value.
     ///
     /// ```text
-    /// let root = Place::at_root(&document);
+    /// let root = TreeNode::at_root(&document);
     /// assert!(rt; root.handle().is_object());
     /// ```
-    pub fn at_root(value: T) -> Place<T, T::Name>
+    pub fn at_root(value: T) -> TreeNode<T, T::Name>
         ensures location { place_location T.Name.bytes result ≡ [] }
         ensures value { place_value T.content result ≡ T.content value }
     {
-        Place {
+        TreeNode {
             value,
             trail: Trail::Root,
         }
@@ -254,7 +253,7 @@ impl<T: Tree> Place<T, T::Name> {
     /// The handle to the node's value.
     ///
     /// ```text
-    /// let root = Place::at_root(&document);
+    /// let root = TreeNode::at_root(&document);
     /// assert!(rt; root.handle().get("a").is_some());
     /// ```
     pub fn handle(&self) -> T
@@ -266,7 +265,7 @@ impl<T: Tree> Place<T, T::Name> {
     /// The location of the node, copied into a `Location`. The only error is `NoMemory`.
     ///
     /// ```text
-    /// let root = Place::at_root(&document);
+    /// let root = TreeNode::at_root(&document);
     /// assert!(rt; root.location_in(alloc)?.to_string(alloc)?.as_str() == "$");
     /// ```
     pub fn location_in(&self, alloc: Global) -> Result<Location, NoMemory>

@@ -1,11 +1,12 @@
-//! `Place` as a node whose children are nodes: they share its location.
+//! `TreeNode` as a node whose children are nodes: they share its location.
 
 ghost use Rattle.std.specs.Prelude.{◌≡◌, [], ◌∷◌, ◌++◌, true, OnOk};
 ghost use Rattle.jsonpath_nodes.specs.place.SpotPlace.{place_location, place_value, location_at, held_path_location};
-ghost use Rattle.jsonpath_nodes.specs.plan.Way.{down_step};
+ghost use Rattle.jsonpath_nodes.specs.declared.step.descends.DownStep.TheVariants.{Item, Member};
+ghost use Rattle.jsonpath_nodes.specs.place.Location.{name as by_name, index as by_index};
 
 use crate::memory::NoMemory;
-use crate::place::spot::Place;
+use crate::place::spot::TreeNode;
 use crate::place::trail::{
     HeldPathToContainer, Trail, clone_trail, held_path_to_container, lend_path_to_object,
     member_trail, member_trail_of_path_to_object, shared_trail,
@@ -16,7 +17,7 @@ use crate::tree::Tree;
 use std::alloc::Global;
 use std::rc::Rc;
 
-impl<T: Tree> Descends for Place<T, T::Name> {
+impl<T: Tree> Descends for TreeNode<T, T::Name> {
     type Tree = T;
 
     type Items = Rc<Trail<T::Name>>;
@@ -45,7 +46,7 @@ impl<T: Tree> Descends for Place<T, T::Name> {
     }
 
     #[inline]
-    fn copy(&self) -> Result<Place<T, T::Name>, NoMemory> {
+    fn copy(&self) -> Result<TreeNode<T, T::Name>, NoMemory> {
         Ok(self.clone()?)
     }
 
@@ -65,9 +66,9 @@ impl<T: Tree> Descends for Place<T, T::Name> {
         here: &Rc<Trail<T::Name>>,
         index: usize,
         value: T,
-        out: &mut Vec<Place<T, T::Name>>,
+        out: &mut Vec<TreeNode<T, T::Name>>,
     ) -> Result<(), NoMemory> {
-        out.push(Place {
+        out.push(TreeNode {
             value,
             trail: Trail::Item(here.clone()?, index),
         })?;
@@ -80,9 +81,9 @@ impl<T: Tree> Descends for Place<T, T::Name> {
         here: &HeldPathToContainer<T::Name>,
         name: T::Name,
         value: T,
-        out: &mut Vec<Place<T, T::Name>>,
+        out: &mut Vec<TreeNode<T, T::Name>>,
     ) -> Result<(), NoMemory> {
-        out.push(Place {
+        out.push(TreeNode {
             value,
             trail: member_trail_of_path_to_object(lend_path_to_object(here), name)?,
         })?;
@@ -97,9 +98,9 @@ impl<T: Tree> Descends for Place<T, T::Name> {
         alloc: Global,
         name: T::Name,
         value: T,
-        out: &mut Vec<Place<T, T::Name>>,
+        out: &mut Vec<TreeNode<T, T::Name>>,
     ) -> Result<(), NoMemory> {
-        out.push(Place {
+        out.push(TreeNode {
             value,
             trail: member_trail(alloc, &self.trail, name)?,
         })?;
@@ -113,7 +114,7 @@ impl<T: Tree> Descends for Place<T, T::Name> {
     #[inline]
     fn go_down(way: &mut DescentPath<T::Name>, step: DownStep<T::Name>) -> Result<(), NoMemory>
         ensures start { OnOk result (way.new.0 ≡ way.old.0) }
-        ensures steps { OnOk result (way.new.1 ≡ way.old.1 ++ down_step T.Name.bytes step ∷ []) }
+        ensures steps { OnOk result (way.new.1 ≡ way.old.1 ++ (elim step [ Item i ↦ by_index i | Member k ↦ by_name (T.Name.bytes k) ]) ∷ []) }
     {
         way.path.go_step_down(step)
     }

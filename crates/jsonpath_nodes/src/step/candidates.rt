@@ -10,14 +10,13 @@ ghost use Rattle.jsonpath_nodes.specs.place.Location.{Location as Stand, flat, f
 ghost use Rattle.jsonpath_nodes.specs.place.Mark.{MarksGain, MarksLeadBy};
 ghost use Rattle.jsonpath_nodes.specs.place.Order.{IsOrderedDocument};
 ghost use Rattle.jsonpath_nodes.specs.place.Owned.{owned_steps};
-ghost use Rattle.jsonpath_nodes.specs.place.SpotPlace.{place_location, place_value};
-ghost use Rattle.jsonpath_nodes.specs.plan.OrderedSpots.{place_sight};
+ghost use Rattle.jsonpath_nodes.specs.place.SpotPlace.{place_location, place_value, place_sight};
 ghost use Rattle.jsonpath_nodes.specs.step.Candidates.{candidates_below, flat_members, in_objects};
 ghost use Rattle.jsonpath_nodes.specs.step.Steps.{step, all_below, each_once, every, flattened};
 
 use crate::memory::NoMemory;
 use crate::place::location::{LocStep, Location};
-use crate::place::spot::Place;
+use crate::place::spot::TreeNode;
 use crate::step::child_lookup::is_container;
 use crate::step::descends::{Descends, DownStep};
 use crate::step::gather::{Flattened, add_at_or_below};
@@ -144,8 +143,8 @@ fn add_in_objects<M: Descends>(
 // The candidates of a filter with a relative query of at least one segment, found from these nodes, each location once.
 pub(crate) fn flattened_once<T: Tree>(
     alloc: Global,
-    places: &[Place<T, T::Name>],
-) -> Result<Vec<Place<T, T::Name>>, NoMemory>
+    places: &[TreeNode<T, T::Name>],
+) -> Result<Vec<TreeNode<T, T::Name>>, NoMemory>
     ensures { IfOk result (λ found. MarksLeadBy true (place_location T.Name.bytes) (place_value T.content) flattened places.now found.items) }
 {
     let found = flattened_from_each(alloc, places)?;
@@ -158,8 +157,8 @@ pub(crate) fn flattened_once<T: Tree>(
 // Those of a filter after `..`, each location once.
 pub(crate) fn candidates_below_once<T: Tree>(
     alloc: Global,
-    places: &[Place<T, T::Name>],
-) -> Result<Vec<Place<T, T::Name>>, NoMemory>
+    places: &[TreeNode<T, T::Name>],
+) -> Result<Vec<TreeNode<T, T::Name>>, NoMemory>
     ensures { IfOk result (λ found. MarksLeadBy true (place_location T.Name.bytes) (place_value T.content) (λ doc ls. flattened doc (step doc every (all_below doc ls))) places.now found.items) }
 {
     match places {
@@ -174,7 +173,7 @@ pub(crate) fn candidates_below_once<T: Tree>(
 // Whether the spots ascend in document order, none at or below another: no candidate is then found from two of them.
 fn are_ordered_and_disjoint<T: Tree>(
     alloc: Global,
-    spots: &[Place<T, T::Name>],
+    spots: &[TreeNode<T, T::Name>],
 ) -> Result<bool, NoMemory>
     ensures { IfOk result (λ apart. IsTrue apart → Ascend (map (place_location T.Name.bytes) spots.now)) }
 {
@@ -222,8 +221,8 @@ fn first_difference_ascends(left: &[LocStep], right: &[LocStep]) -> bool
 // The first of the spots at each location, in their order.
 fn first_of_each_location<T: Tree>(
     alloc: Global,
-    spots: Vec<Place<T, T::Name>>,
-) -> Result<Vec<Place<T, T::Name>>, NoMemory>
+    spots: Vec<TreeNode<T, T::Name>>,
+) -> Result<Vec<TreeNode<T, T::Name>>, NoMemory>
     ensures { IfOk result (λ kept. MarksLeadBy true (place_location T.Name.bytes) (place_value T.content) (λ _ ls. each_once ls) spots.items kept.items) }
 {
     let mut seen = BTreeSet::new(alloc);
@@ -238,8 +237,8 @@ fn first_of_each_location<T: Tree>(
 // Adds a spot to those kept, if its location is new among them.
 fn push_if_new<T: Tree>(
     is_new: bool,
-    spot: Place<T, T::Name>,
-    kept: &mut Vec<Place<T, T::Name>>,
+    spot: TreeNode<T, T::Name>,
+    kept: &mut Vec<TreeNode<T, T::Name>>,
 ) -> Result<(), NoMemory>
     ensures { OnOk result (map (place_sight T.Name.bytes T.content) kept.new.items ≡ map (place_sight T.Name.bytes T.content) kept.old.items ++ (if is_new then place_sight T.Name.bytes T.content spot ∷ [] else [])) }
 {

@@ -5,7 +5,7 @@ ghost use Rattle.jsonpath_select.specs.Meaning.{Selects, SelectsAt, SelectsNodes
 
 use crate::error::JsonPathError;
 use jsonpath_nodes::laws::spots_show_their_locations;
-use jsonpath_nodes::{Location, NoMemory, Place, Spot, Tree};
+use jsonpath_nodes::{Location, NoMemory, Spot, Tree, TreeNode};
 use std::alloc::Global;
 
 // The locations of the spots that a path has selected, in their order, with their repeats.
@@ -27,7 +27,7 @@ pub(crate) fn locations_of_selected_spots(
 // The values at the nodes that a path has selected in a tree, in their order, with their repeats.
 pub(crate) fn values_of_selected_nodes<T: Tree>(
     alloc: Global,
-    nodes: &[Place<T, T::Name>],
+    nodes: &[TreeNode<T, T::Name>],
 ) -> Result<Vec<T>, NoMemory>
     ensures { IfOk result (λ found. (text : List ℕ) (doc : Document) → SelectsNodes T.Name.bytes T.content text doc nodes.now → Selects text doc (map T.content found.items)) }
 {

@@ -15,7 +15,7 @@ use crate::error::JsonPathError;
 use crate::machine::machine::Machine;
 use crate::machine::manner::manner_of_token_list;
 use crate::walk::follower::Follower;
-use jsonpath_nodes::{Halt, Place, Spot, Tree};
+use jsonpath_nodes::{Halt, Spot, Tree, TreeNode};
 use jsonpath_paths::{ParseToken, PathParser};
 use serde_json::Value;
 use std::alloc::Global;
@@ -120,7 +120,7 @@ pub fn select_nodes_in_tree<T: Tree>(
     alloc: Global,
     root: T,
     path: &PathParser<'_>,
-) -> Result<Vec<Place<T, T::Name>>, T::Error>
+) -> Result<Vec<TreeNode<T, T::Name>>, T::Error>
     ensures { IfOk result (λ found. SelectsNodes T.Name.bytes T.content path.now (T.content root) found.items) }
 {
     nodes_by_parts(alloc, root, path.parts())
@@ -132,13 +132,13 @@ fn nodes_by_tokens<T: Tree>(
     root: T,
     text: &str,
     tokens: &[ParseToken],
-) -> Result<Vec<Place<T, T::Name>>, T::Error>
+) -> Result<Vec<TreeNode<T, T::Name>>, T::Error>
     requires { IsSomePath text.now tokens.now }
     ensures { IfOk result (λ found. (p : Path) → IsListOf text.now p tokens.now → MarksStandAt true (place_location T.Name.bytes) (place_value T.content) (T.content root) (sel text.now (T.content root) p) found.items) }
 {
     let machine = Machine {
         alloc,
-        root: &Place::at_root(root),
+        root: &TreeNode::at_root(root),
         text,
         by_sets: false,
     };
@@ -150,7 +150,7 @@ fn nodes_by_parts<T: Tree>(
     alloc: Global,
     root: T,
     path: PathParts<'_>,
-) -> Result<Vec<Place<T, T::Name>>, T::Error>
+) -> Result<Vec<TreeNode<T, T::Name>>, T::Error>
     requires { ArePartsOf path.text.now path }
     ensures { IfOk result (λ found. SelectsNodes T.Name.bytes T.content path.entry.text.now (T.content root) found.items) }
 {

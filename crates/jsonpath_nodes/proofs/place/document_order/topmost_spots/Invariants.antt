@@ -1,12 +1,10 @@
 use Rattle.std.proofs.Common.{◌≡◌, ◌++◌, List, map, drop}
 use Rattle.jsonpath_nodes.specs.document.Document.{Document}
 use Rattle.jsonpath_nodes.specs.place.Location.{Location}
-use Rattle.jsonpath_nodes.specs.place.SpotPlace.{place_value, look}
+use Rattle.jsonpath_nodes.specs.place.SpotPlace.{place_value, look, place_location, place_sight}
 use Rattle.jsonpath_nodes.specs.plan.OrderedSpots.{last_location}
 use Rattle.jsonpath_nodes.specs.step.SameMembers.{topmost, topmost_after}
 use Rattle.jsonpath_nodes.proofs.place.document_order.topmost_spots.Given as goal
-use Rattle.jsonpath_nodes.specs.place.SpotPlace.{place_location}
-use Rattle.jsonpath_nodes.specs.plan.OrderedSpots.{place_sight}
 use Rattle.jsonpath_nodes.specs.place.Mark.{MarksStandAt}
 use Rattle.std.proofs.Common.{true}
 
