@@ -295,13 +295,21 @@ refused("$.a b", 4, "expected: the end\n")
 refused("$[?(@.a x)]", 8, 'expected: ")", a comparison, "&&", "||"\n')
 refused("$[?(1.x == 2)]", 6, "expected: digits\n")
 for path, caret, hint in [(".a[]", 0, "write $.a[*]"), (".users[].n", 0, "write $.users[*].n"), ("$.users[].n", 8, "$.users[*].n"), (".a | length", 0, "jpath -c '$.a[*]'"),
-                          ("$.a | length", 4, "jpath -c"), ("length", 0, "jpath -c"), ("wavelength", 0, "write $.wavelength"), ("keys", 0, "jpath -l '$.*'"), (".title?", 0, "write $.title\n"), ("$.title?", 7, "$.title\n"),
+                          ("$.a | length", 4, "jpath -c"), ("length", 0, "jpath -c"), ("wavelength", 0, "write $.wavelength"), ("keys", 0, "jpath --keys '$'"), (".title?", 0, "write $.title\n"), ("$.title?", 7, "$.title\n"),
                           ("$.a, .b", 3, "-e '$.a' -e '$.b'"), (".a, .b", 0, "-e '$.a' -e '$.b'"), ("$[?(@.a in ['x'])]", 8, "no `in`"), ("books.json", 0, "comes before the FILE"),
                           ("$[?(@.t == cod)].x", 11, "$[?(@.t == 'cod')].x"), ("$[?(@.t > 10.day && @.b)]", 13, "$[?(@.t > '10.day' && @.b)]"), (".[] | select(.a == 1)", 0, "$[?(")]:
     refused(path, caret, hint)
 for path, caret, hint in [("$.my key", 5, "$['first name']"), ("$[?(@.a > .5)]", 10, "0.5, 100"), ("$[?(@.a == 1e2)]", 11, "0.5, 100"), ("$[?(@.d > 2024-01-01)]", 10, "'2024-01-01'"), ("$[?(@.ip == 10.0.0.1)]", 16, "'10.0.0.1'"),
                           ("$[?(@.a > 1.5e3)]", 12, "0.5, 100"), ("$[?(@.a > 5.)]", 12, "0.5, 100"),
                           ("$[?(@.t == Moby Dick)]", 11, "needs quotes"), ("$[?(@.a == {x})]", 11, "--arg NAME TEXT"), ("$[{x}]", 2, "--arg NAME TEXT")]:
+    refused(path, caret, hint)
+for path, caret, hint in [(".. | .price? // empty", 0, "there is no //"), ("$.price? // empty", 7, "there is no //"), ("data/books.json", 0, "comes before the FILE"), ("/tmp/x.json", 0, "comes before the FILE"), ("./x", 0, "comes before the FILE"),
+                          ("/store/book", 0, "write $.store.book\n"), ("//book[0]", 0, "write $..book[0]\n"), ("$/store/book", 0, "separated by dots: $.store.book\n"), (".a,.b", 0, "-e '$.a' -e '$.b'"), ("[0,1]", 0, "write $[0,1]\n"),
+                          ("keys[]", 0, "jpath --keys '$'"), ("keys_unsorted", 0, "jpath --keys '$'"), ("keys_unsorted[]", 0, "jpath --keys '$'"), (".a | keys", 0, "jpath --keys '$'"), (".keys", 0, "write $.keys\n"),
+                          ("to_entries", 0, "jpath --entries '$'"), (".a | to_entries", 0, "jpath --entries '$'"), ("with_entries(.value.n)", 0, "jpath --entries '$'"), ("paths", 0, "jpath -l '$..*'"), (".a|length", 0, "jpath --lengths '$.a'"),
+                          ("map(.x)", 0, "no functions"), ("sort_by(.x)", 0, "no functions"), ("group_by(.x)", 0, "no functions"), (".a | add", 0, "no functions"), ("add", 0, "write $.add\n"),
+                          (".rate = 0.5", 0, "jpath --set '$.rate' 0.5"), ("$.rate=0.5", 6, "jpath --set '$.rate' 0.5"), (".a |= 3", 0, "jpath --set"), (".a += 1", 0, "--set '$.a' 2"), ('.list += ["x"]', 0, "jpath --append '$.list' '\"x\"'"), ("del(.x)", 0, "jpath --remove '$.x'"),
+                          ("$[?(@.a === 1)]", 10, "written ==: $[?(@.a == 1)]\n"), ("$[?(@.a !== 1)]", 10, "written !=: $[?(@.a != 1)]\n"), ("$[?(@.a <> 1)]", 9, "written !=: $[?(@.a != 1)]\n"), (".store.book[] | select(.price < 10)", 0, "$[?(@.price < 10)]")]:
     refused(path, caret, hint)
 for path, shown, error in [('$[?(@.a == {x} && @.b == "c)]', '$[?(@.a == \'v\' && @.b == "c)]', "isn't closed"), ("$[?(@.a = {x})]", "$[?(@.a = 'v')]", "signs: $[?(@.a == 'v')]\n"),
                            ("$[?(@.a == {x} & {x} > @.b)]", "$[?(@.a == 'v' & 'v' > @.b)]", "&&: $[?(@.a == 'v' && 'v' > @.b)]\n")]:

@@ -4,6 +4,9 @@ ghost use Rattle.std.specs.Prelude.{◌≢◌, IfOk, IfSome, slice_index, string
 ghost use Rattle.jpath_words.specs.Refusals.{BeginsWithRoot, EndsWithPath};
 ghost use Rattle.jsonpath_paths.specs.Spelling.{IsInGrammar};
 
+mod other_tools;
+
+use crate::hints::other_tools::{hint_to_begin_with_root, sentence_for_other_tool};
 use jsonpath_paths::{PathParser, Token, Tokenizer};
 use std::alloc::{AllocError, Global};
 
@@ -19,9 +22,6 @@ const NO_MATCH: &str =
     "there are no regular expressions: compare with ==, or filter the lines by grep";
 
 const NO_FUNCTION: &str = "there are no functions in a path; jpath -c counts the matches";
-
-const NO_PIPE: &str =
-    "a path has no | to functions: jpath -c '$.a[*]' counts, jpath -l '$.*' lists the members";
 
 const NO_LIST: &str = "several paths are given by -e: jpath -e '$.a' -e '$.b'";
 
@@ -48,7 +48,15 @@ const NO_BRACKETS: &str = "a name with a blank needs brackets and quotes: $['fir
 
 const PARENTHESES: &str = "a filter's condition is written in parentheses: [?(@.price < 10)]";
 
-// What is written instead of a wrong text, and why.
+// What is written instead of a sign of another language, wherever it stands, and why.
+const SIGNS: [(&str, &str, &str); 4] = [
+    ("===", "==", "equal is written =="),
+    ("!==", "!=", "not equal is written !="),
+    ("<>", "!=", "not equal is written !="),
+    ("/", ".", "names are separated by dots"),
+];
+
+// What is written instead of a wrong text at the error, and why.
 const REPLACEMENTS: [(&str, &str, &str); 15] = [
     ("=>", ">=", "greater or equal is >="),
     ("=<", "<=", "less or equal is <="),
@@ -135,6 +143,13 @@ fn hint_with_path(
 fn hint_to_replace(alloc: Global, before: &str, rest: &str) -> Result<Option<String>, AllocError>
     ensures { IfOk result (λ o. IfSome o (λ hint. EndsWithPath (string_bytes hint))) }
 {
+    let mut fixed = format!(in alloc; "{before}{rest}")?;
+    for (wrong, right, sentence) in SIGNS {
+        fixed = fixed.as_str().replace(alloc, wrong, right)?;
+        if let Some(hint) = hint_if_path(alloc, sentence, fixed.as_str(), "", "")? {
+            return Ok(Some(hint));
+        }
+    }
     for (wrong, right, sentence) in REPLACEMENTS {
         if let Some(tail) = rest.strip_prefix(wrong) {
             if let Some(hint) = hint_if_path(alloc, sentence, before, right, tail)? {
@@ -292,69 +307,6 @@ fn hint_if_path(
     }
 }
 
-// The sentence for a text that begins with no `$`: to write it with `$` in front, if it is a path then, or what is written
-// for it.
-fn hint_to_begin_with_root(alloc: Global, path: &str) -> Result<String, AllocError>
-    ensures { IfOk result (λ hint. BeginsWithRoot (string_bytes hint)) }
-{
-    if let Some(more) = more_for_other_tool(path) {
-        return format!(in alloc; "a path begins with ${more}");
-    }
-    let fixed = path_from_root(alloc, path)?;
-    let is_sign = path.starts_with('{') || path.starts_with('@');
-    if !is_sign && PathParser::compile(alloc, fixed.as_str()).is_ok() {
-        let fixed = fixed.as_str();
-        return format!(in alloc; "a path begins with $: write {fixed}");
-    }
-    String::from_str(
-        alloc,
-        "a path begins with $, the document: $.name, $[0], $..name",
-    )
-}
-
-// The text with `$` in front, `[*]` for each `[]`, and no `?` at its end.
-fn path_from_root(alloc: Global, path: &str) -> Result<String, AllocError> {
-    let mut fixed = String::from_str(alloc, "$")?;
-    if path == "." {
-        return Ok(fixed);
-    }
-    if !path.starts_with('.') && !path.starts_with('[') {
-        fixed.push('.')?;
-    }
-    let mut is_first = true;
-    for part in path.trim_end_matches('?').split("[]") {
-        if !is_first {
-            fixed.push_str("[*]")?;
-        }
-        fixed.push_str(part)?;
-        is_first = false;
-    }
-    Ok(fixed)
-}
-
-// What follows "a path begins with $" where a file, a filter of jq or several are in the place of a path.
-fn more_for_other_tool(path: &str) -> Option<&'static str> {
-    if path.contains("/") || (path.ends_with(".json") && !path.starts_with('.')) {
-        return Some(" and comes before the FILE: jpath '$.name' file.json");
-    }
-    if path == "keys" || path.starts_with("keys[") || path.contains("| keys") {
-        return Some(", and has no functions: jpath -l '$.*' lists the members");
-    }
-    if path == "length" || path.contains("| length") || path.contains("|length") {
-        return Some(", and has no functions: jpath -c '$.a[*]' counts the items of a");
-    }
-    if path.contains("select(") {
-        return Some(", and a filter is written $[?(@.price < 10)]");
-    }
-    if path.contains("|") {
-        return Some(", and has no | to functions: write several commands between pipes");
-    }
-    if path.contains(", ") {
-        return Some("; several are given by -e: jpath -e '$.a' -e '$.b'");
-    }
-    None
-}
-
 // The path text with parentheses about the condition of its first filter, as `[?(..)]`. `None` where it has no filter,
 // where they stand there, or where it is no path with them.
 fn path_with_parentheses(alloc: Global, path: &str) -> Result<Option<String>, AllocError>
@@ -385,6 +337,11 @@ fn path_with_parentheses(alloc: Global, path: &str) -> Result<Option<String>, Al
 // up to the error and from there. `None` where it is none of them.
 fn hint_for_unsupported_syntax(path: &str, before: &str, rest: &str) -> Option<&'static str> {
     let has_filter = path.contains("[?");
+    if !has_filter && !rest.starts_with(|c: char| is_of_name(c) || matches!(c, '\'' | '"')) {
+        if let Some(sentence) = sentence_for_other_tool(rest) {
+            return Some(sentence);
+        }
+    }
     if rest
         .trim_start_matches('=')
         .trim_start()
@@ -410,9 +367,6 @@ fn hint_for_unsupported_syntax(path: &str, before: &str, rest: &str) -> Option<&
     }
     if rest.starts_with("in ") {
         return Some(NO_IN);
-    }
-    if !has_filter && rest.starts_with('|') {
-        return Some(NO_PIPE);
     }
     if !has_filter && rest.starts_with(',') && !before.ends_with(|c: char| c.is_ascii_digit()) {
         return Some(NO_LIST);

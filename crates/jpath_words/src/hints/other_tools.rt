@@ -1,0 +1,86 @@
+//! Hints for what other tools have in the place of a path: filters of jq, XPaths, and files.
+
+ghost use Rattle.std.specs.Prelude.{IfOk, string_bytes};
+ghost use Rattle.jpath_words.specs.Refusals.{BeginsWithRoot};
+
+use crate::hints::is_of_name;
+use jsonpath_paths::PathParser;
+use std::alloc::{AllocError, Global};
+
+// The sentence for a text that begins with no `$`: to write it with `$` in front, if it is a path then, or what is written
+// for it.
+pub(super) fn hint_to_begin_with_root(alloc: Global, path: &str) -> Result<String, AllocError>
+    ensures { IfOk result (λ hint. BeginsWithRoot (string_bytes hint)) }
+{
+    let fixed = path_from_root(alloc, path)?;
+    let fixed = fixed.as_str();
+    let more = if is_file_name(path) {
+        " and comes before the FILE: jpath '$.name' file.json"
+    } else if let Some(sentence) = sentence_for_other_tool(path) {
+        return format!(in alloc; "a path begins with $; {sentence}");
+    } else if !path.starts_with('{') && PathParser::compile(alloc, fixed).is_ok() {
+        return format!(in alloc; "a path begins with $: write {fixed}");
+    } else if path.contains(",") {
+        "; several are given by -e: jpath -e '$.a' -e '$.b'"
+    } else {
+        ", the document: $.name, $[0], $..name"
+    };
+    format!(in alloc; "a path begins with ${more}")
+}
+
+// The text with `$` in front, `[*]` for each `[]`, a dot for each slash of an XPath, and no `?` at its end.
+fn path_from_root(alloc: Global, path: &str) -> Result<String, AllocError> {
+    let slash = if path.starts_with('/') { "." } else { "/" };
+    let names = path.trim_end_matches('?').replace(alloc, "[]", "[*]")?;
+    let names = names.as_str().replace(alloc, "/", slash)?;
+    let names = names.as_str();
+    if names == "." {
+        return String::from_str(alloc, "$");
+    }
+    if names.starts_with('.') || names.starts_with('[') {
+        return format!(in alloc; "${names}");
+    }
+    format!(in alloc; "$.{names}")
+}
+
+// Whether the text looks like the name of a file. One that begins with a slash and has no dot may be an XPath.
+fn is_file_name(text: &str) -> bool {
+    (text.contains("/") || text.ends_with(".json"))
+        && !text.contains(|c: char| c.is_whitespace() || matches!(c, '|' | '(' | '['))
+        && (!text.starts_with('.') || text.starts_with("./") || text.starts_with("../"))
+        && (!text.starts_with('/') || text.contains("."))
+}
+
+// The sentence for what jq has and a path has not. `None` where the text has none of it.
+pub(super) fn sentence_for_other_tool(text: &str) -> Option<&'static str> {
+    if text.contains("//") && (text.contains(" ") || !text.starts_with('/')) {
+        return Some("there is no //: what is missing is passed over, as by $..price");
+    }
+    let has_call = text.contains("(") && !text.contains("(@");
+    for word in text.split(|c: char| !is_of_name(c) && !matches!(c, '.' | '-' | '\'' | '"')) {
+        let sentence = match word {
+            "keys" | "keys_unsorted" => "jpath --keys '$' lists the names of members",
+            "to_entries" | "with_entries" | "from_entries" =>
+                "jpath --entries '$' lists names with values",
+            "length" => "jpath --lengths '$.a' tells a length, jpath -c '$.a[*]' counts matches",
+            "paths" => "jpath -l '$..*' lists all locations",
+            "select" if has_call => "a filter is written $[?(@.price < 10)]",
+            "del" if has_call => "jpath --remove '$.x' removes x",
+            _ => continue,
+        };
+        return Some(sentence);
+    }
+    if text.contains("+=") {
+        return Some("jpath --append '$.list' '\"x\"' adds an item, --set '$.a' 2 sets a number");
+    }
+    let compares = ["==", "!=", "<=", ">=", "=>", "=~", "[?"]
+        .iter()
+        .any(|sign| text.contains(*sign));
+    if text.contains("=") && !compares {
+        return Some("jpath --set '$.rate' 0.5 sets a value, --add also one that is missing");
+    }
+    if text.contains("|") || has_call {
+        return Some("there are no functions and no |: write several commands between pipes");
+    }
+    None
+}
