@@ -17,7 +17,7 @@ pub use compare::cmp::{
 pub use compare::fraction::Fraction;
 pub use memory::{Halt, NoMemory};
 pub use place::carried::Carried;
-pub use place::document_order::{in_document_order, indexes_standing_among, topmost_spots};
+pub use place::document_order::in_document_order;
 pub use place::location::{LocStep, Location};
 pub use place::mark::Mark;
 pub use place::spot::{PathStep, Spot, Steps, TreeNode};

@@ -13,8 +13,6 @@ use Rattle.jsonpath_nodes.specs.declared.place.spot.PathStep.TheVariants.{Name, 
 use Rattle.jsonpath_nodes.specs.declared.place.trail.Trail.{Trail, fold-Trail}
 use Rattle.jsonpath_nodes.specs.declared.place.trail.Trail.TheOpen.{Trail-F}
 use Rattle.jsonpath_nodes.specs.declared.place.trail.Trail.TheOpen as layer
-use Rattle.jsonpath_nodes.specs.declared.place.trail.PathToObject.{PathToObject}
-use Rattle.jsonpath_nodes.specs.declared.place.trail.PathToObject.TheVariants as lent
 use Rattle.jsonpath_nodes.specs.declared.place.trail.HeldPathToContainer.{HeldPathToContainer}
 use Rattle.jsonpath_nodes.specs.declared.place.trail.HeldPathToContainer.TheVariants as held
 use Rattle.jsonpath_nodes.specs.declared.place.trail.PathTo.{PathTo}
@@ -45,11 +43,6 @@ one_step_on bytes (layer.ItemMember i parent key) = (parent.value ++ index i ∷
 
 abbrev pub location_at : {N : Type 0} → (N → List ℕ) → Trail N → Location
 location_at {N} bytes = fold-Trail N Location (one_step_on bytes)
-
--- where a lent path to an object leads
-abbrev pub object_path_location : {N : Type 0} → (N → List ℕ) → PathToObject N → Location
-object_path_location bytes (lent.Whole t) = location_at bytes t.now.value
-object_path_location bytes (lent.Item t i) = location_at bytes t.now.value ++ index i ∷ []
 
 -- where a held path to an object leads
 abbrev pub held_path_location : {N : Type 0} → (N → List ℕ) → HeldPathToContainer N → Location

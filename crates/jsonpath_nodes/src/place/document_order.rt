@@ -91,15 +91,8 @@ fn clone_spots<T: Tree>(
     Ok(same)
 }
 
-/// The ascending indexes, from 0, of the nodes in `spots` whose location a node in `others` has. Error: `NoMemory`.
-///
-/// ```text
-/// let spots = Spot::root(alloc, &document).children(alloc)?;
-/// let second = select_path(alloc, &document, &path)?;
-/// let numbers = indexes_standing_among(alloc, spots.as_slice(), second.as_slice())?;
-/// assert!(rt; numbers.as_slice() == [1].as_slice());
-/// ```
-pub fn indexes_standing_among<T: Tree>(
+// The ascending indexes, from 0, of the nodes in `spots` whose location a node in `others` has.
+pub(crate) fn indexes_standing_among<T: Tree>(
     alloc: Global,
     spots: &[TreeNode<T, T::Name>],
     others: &[TreeNode<T, T::Name>],
@@ -140,15 +133,8 @@ fn ordered_spots<T: Tree>(
     Ok(placed)
 }
 
-/// Goes through a list of nodes in order, and returns it without each node that is at or below the location of the node
-/// kept last. If the list is in document order (parents before children, members by their names' bytes, items by
-/// index), this keeps the nodes with no ancestor in the list, one for each location. The only error: `NoMemory`.
-///
-/// ```text
-/// let below = Spot::root(alloc, &document).below(alloc)?;
-/// assert_eq!(rt; topmost_spots(alloc, below.as_slice())?.len(), 1);
-/// ```
-pub fn topmost_spots<T: Tree>(
+// The nodes, in order, without each that is at or below the location of the node kept last.
+pub(crate) fn topmost_spots<T: Tree>(
     alloc: Global,
     spots: &[TreeNode<T, T::Name>],
 ) -> Result<Vec<TreeNode<T, T::Name>>, NoMemory>

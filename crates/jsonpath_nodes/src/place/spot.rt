@@ -13,9 +13,7 @@ use crate::memory::NoMemory;
 use crate::place::location::Location;
 use crate::place::mark::Mark;
 use crate::place::reversed_steps::split_last_step;
-use crate::place::trail::{
-    PathTo, Trail, add_steps_of_path_to_value, clone_trail, len_of_path_to_value, shared_trail,
-};
+use crate::place::trail::{PathTo, Trail, add_steps_of_path_to_value, clone_trail, shared_trail};
 use crate::step::child_lookup::item_of_value;
 use crate::step::descend::add_node_and_all_below;
 use crate::step::descends::DownStep;
@@ -299,7 +297,13 @@ impl<'b, 'a> Steps<'b, 'a> {
     pub fn len(self) -> usize
         ensures { result ≡ min (length (steps_of self.entry)) (2 ^ 64 - 1) }
     {
-        len_of_path_to_value(self.path_to)
+        let mut len = 0usize;
+        let mut rest = self.path_to;
+        while let Some((_, before)) = split_last_step(rest) {
+            len = len.saturating_add(1);
+            rest = before;
+        }
+        len
     }
 
     /// Whether there is no step from the root to the node, that is, whether the node is the root.

@@ -8,8 +8,8 @@ ghost use Rattle.jsonpath_nodes.specs.place.Location.{name as by_name, index as 
 use crate::memory::NoMemory;
 use crate::place::spot::TreeNode;
 use crate::place::trail::{
-    HeldPathToContainer, Trail, clone_trail, held_path_to_container, lend_path_to_object,
-    member_trail, member_trail_of_path_to_object, shared_trail,
+    HeldPathToContainer, Trail, clone_held_path, clone_trail, held_path_to_container, member_trail,
+    shared_trail,
 };
 use crate::step::descend::descent_path::DescentPath;
 use crate::step::descends::{Descends, DownStep};
@@ -85,7 +85,7 @@ impl<T: Tree> Descends for TreeNode<T, T::Name> {
     ) -> Result<(), NoMemory> {
         out.push(TreeNode {
             value,
-            trail: member_trail_of_path_to_object(lend_path_to_object(here), name)?,
+            trail: member_trail(clone_held_path(here)?, name),
         })?;
         Ok(())
     }
@@ -102,7 +102,7 @@ impl<T: Tree> Descends for TreeNode<T, T::Name> {
     ) -> Result<(), NoMemory> {
         out.push(TreeNode {
             value,
-            trail: member_trail(alloc, &self.trail, name)?,
+            trail: member_trail(held_path_to_container(alloc, &self.trail)?, name),
         })?;
         Ok(())
     }

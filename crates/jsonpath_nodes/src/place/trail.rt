@@ -1,9 +1,9 @@
 //! Trails: the locations of nodes, as linked lists. All nodes below a container share its trail.
 
-ghost use Rattle.std.specs.Prelude.{◌≡◌, [], ◌∷◌, ◌++◌, ◌^◌, ◌-◌, length, min, IfOk, IfSome, OnOk};
+ghost use Rattle.std.specs.Prelude.{◌≡◌, [], ◌∷◌, ◌++◌, IfOk, OnOk};
 ghost use Rattle.jsonpath_nodes.specs.place.Location.{name as by_name, index as by_index};
 ghost use Rattle.jsonpath_nodes.specs.place.Owned.{owned_steps};
-ghost use Rattle.jsonpath_nodes.specs.place.SpotPlace.{location_at, path_location, object_path_location, held_path_location};
+ghost use Rattle.jsonpath_nodes.specs.place.SpotPlace.{location_at, path_location, held_path_location};
 
 use crate::memory::NoMemory;
 use crate::place::location::LocStep;
@@ -19,13 +19,6 @@ pub enum Trail<N> {
     Member(Rc<Trail<N>>, N),
     Item(Rc<Trail<N>>, usize),
     ItemMember(u32, Rc<Trail<N>>, N),
-}
-
-// What leads to an object, lent: the trail to it, or that to the array that has it as an item, and its index.
-#[derive(Clone, Copy)]
-pub enum PathToObject<'b, N> {
-    Whole(&'b Rc<Trail<N>>),
-    Item(&'b Rc<Trail<N>>, u32),
 }
 
 // What leads to an array or object, held for its contents: its trail, or its array's trail and its index there.
@@ -54,20 +47,6 @@ pub(crate) fn clone_trail<N: Name>(trail: &Trail<N>) -> Result<Trail<N>, AllocEr
     }
 }
 
-// A trail to the member of this name of the object where a path leads. It shares the trail that the path lends.
-#[inline]
-pub(crate) fn member_trail_of_path_to_object<N: Name>(
-    path_to_object: PathToObject<'_, N>,
-    key: N,
-) -> Result<Trail<N>, AllocError>
-    ensures { IfOk result (λ trail. location_at N.bytes trail ≡ object_path_location N.bytes path_to_object.entry ++ by_name (N.bytes key) ∷ []) }
-{
-    match path_to_object {
-        PathToObject::Whole(parent) => Ok(Trail::Member(parent.clone()?, key)),
-        PathToObject::Item(parent, i) => Ok(Trail::ItemMember(i, parent.clone()?, key)),
-    }
-}
-
 // A trail to the same value, for its children to share.
 pub(crate) fn shared_trail<N: Name>(
     alloc: Global,
@@ -78,32 +57,6 @@ pub(crate) fn shared_trail<N: Name>(
     Ok(Rc::new(alloc, clone_trail(trail)?)?)
 }
 
-// A trail to an item of an array, as a `PathToObject`, also where the item is itself an array. None where it leads to no
-// item, and where the index takes more than 32 bits.
-#[inline]
-fn as_path_to_object_in_array<'b, N: Name>(trail: &'b Trail<N>) -> Option<PathToObject<'b, N>>
-    ensures { IfSome result (λ path_to_object. object_path_location N.bytes path_to_object ≡ location_at N.bytes trail.now) }
-{
-    match trail {
-        Trail::Item(parent, i) => path_to_object_at_index(parent, *i),
-        _ => None,
-    }
-}
-
-// The path to the object at this index of an array; None where the index takes more than 32 bits.
-#[inline]
-fn path_to_object_at_index<'b, N: Name>(
-    parent: &'b Rc<Trail<N>>,
-    index: usize,
-) -> Option<PathToObject<'b, N>>
-    ensures { IfSome result (λ path_to_object. object_path_location N.bytes path_to_object ≡ location_at N.bytes parent.now.value ++ by_index index ∷ []) }
-{
-    match u32::try_from(index) {
-        Ok(short) => Some(PathToObject::Item(parent, short)),
-        Err(_) => None,
-    }
-}
-
 // The path to an array or object, to which the trail leads, held for what stands in it to share.
 #[inline]
 pub(crate) fn held_path_to_container<N: Name>(
@@ -112,10 +65,9 @@ pub(crate) fn held_path_to_container<N: Name>(
 ) -> Result<HeldPathToContainer<N>, NoMemory>
     ensures { IfOk result (λ here. held_path_location N.bytes here ≡ location_at N.bytes trail.now) }
 {
-    match as_path_to_object_in_array(trail) {
-        Some(PathToObject::Item(parent, i)) => Ok(HeldPathToContainer::Item(parent.clone()?, i)),
-        Some(PathToObject::Whole(parent)) => Ok(HeldPathToContainer::Whole(parent.clone()?)),
-        None => Ok(HeldPathToContainer::Whole(shared_trail(alloc, trail)?)),
+    match trail {
+        Trail::Item(parent, i) => held_path_to_item(alloc, parent.clone()?, *i),
+        _ => Ok(HeldPathToContainer::Whole(shared_trail(alloc, trail)?)),
     }
 }
 
@@ -163,54 +115,14 @@ pub(crate) fn trail_of_held_path<N: Name>(
     }
 }
 
-// A path to an object, lent by one that is held.
+// A trail to the member of this name of the object where a held path leads.
 #[inline]
-pub(crate) fn lend_path_to_object<'b, N: Name>(
-    here: &'b HeldPathToContainer<N>,
-) -> PathToObject<'b, N>
-    ensures { object_path_location N.bytes result ≡ held_path_location N.bytes here.now }
+pub(crate) fn member_trail<N: Name>(held: HeldPathToContainer<N>, key: N) -> Trail<N>
+    ensures { location_at N.bytes result ≡ held_path_location N.bytes held ++ by_name (N.bytes key) ∷ [] }
 {
-    match here {
-        HeldPathToContainer::Whole(parent) => PathToObject::Whole(parent),
-        HeldPathToContainer::Item(parent, i) => PathToObject::Item(parent, *i),
-    }
-}
-
-// A trail to the member of this name of the object where a trail leads, which is made anew for it; where the object is
-// an item of an array, the trail to the array is shared instead.
-#[inline]
-pub(crate) fn member_trail<N: Name>(
-    alloc: Global,
-    trail: &Trail<N>,
-    key: N,
-) -> Result<Trail<N>, NoMemory>
-    ensures { IfOk result (λ longer. location_at N.bytes longer ≡ location_at N.bytes trail.now ++ by_name (N.bytes key) ∷ []) }
-{
-    match as_path_to_object_in_array(trail) {
-        Some(path_to_object) => Ok(member_trail_of_path_to_object(path_to_object, key)?),
-        None => Ok(Trail::Member(shared_trail(alloc, trail)?, key)),
-    }
-}
-
-// How many steps a path to a value has. More than `usize::MAX` count as that.
-pub(crate) fn len_of_path_to_value<N: Name>(path_to: PathTo<'_, N>) -> usize
-    ensures { result ≡ min (length (path_location N.bytes path_to.entry)) (2 ^ 64 - 1) }
-{
-    match path_to {
-        PathTo::Whole(trail) => len_of_trail(trail),
-        PathTo::Item(parent, _) => len_of_trail(parent).saturating_add(1),
-    }
-}
-
-// How many steps a trail has. More than `usize::MAX` count as that.
-fn len_of_trail<N: Name>(trail: &Trail<N>) -> usize
-    ensures { result ≡ min (length (location_at N.bytes trail.now)) (2 ^ 64 - 1) }
-{
-    match trail {
-        Trail::Root => 0,
-        Trail::Member(parent, _) => len_of_trail(parent).saturating_add(1),
-        Trail::Item(parent, _) => len_of_trail(parent).saturating_add(1),
-        Trail::ItemMember(_, parent, _) => len_of_trail(parent).saturating_add(1).saturating_add(1),
+    match held {
+        HeldPathToContainer::Whole(parent) => Trail::Member(parent, key),
+        HeldPathToContainer::Item(parent, i) => Trail::ItemMember(i, parent, key),
     }
 }
 

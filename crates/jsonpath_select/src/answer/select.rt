@@ -36,7 +36,7 @@ pub fn select_path<'a>(
     ensures ok { IfOk result (λ found. SelectsSpots path.now (document_of (view json.now)) found.items) }
     ensures refused { IfErr result (λ e. e ≡ JsonPathError.OutOfMemory) }
 {
-    spots_by_parts(alloc, json, path.parts())
+    Ok(nodes_by_parts(alloc, json, path.parts())?)
 }
 
 /// The nodes that a path selects in the value. The path is given not by its text but by its token list (its syntax tree
@@ -146,7 +146,7 @@ fn nodes_by_tokens<T: Tree>(
 }
 
 // Nodes at what the path selects in a tree, in the path's order.
-fn nodes_by_parts<T: Tree>(
+pub(crate) fn nodes_by_parts<T: Tree>(
     alloc: Global,
     root: T,
     path: PathParts<'_>,
@@ -159,31 +159,11 @@ fn nodes_by_parts<T: Tree>(
 
 // The values that the path selects in a tree, in the path's order, by the machine. It follows values alone, and nodes
 // only where values can't tell whether a location is met twice.
-fn values_in_tree<T: Tree>(
+pub(crate) fn values_in_tree<T: Tree>(
     alloc: Global,
     root: T,
     path: PathParts<'_>,
 ) -> Result<Vec<T>, T::Error>
-    requires { ArePartsOf path.text.now path }
-    ensures { IfOk result (λ found. Selects path.entry.text.now (T.content root) (map T.content found.items)) }
-{
-    match values_without_locations(alloc, root, path) {
-        Ok(found) => Ok(found),
-        Err(Halt::Refused(error)) => Err(error),
-        Err(Halt::NeedsLocations) => {
-            let nodes = nodes_by_parts(alloc, root, path)?;
-            let found = values_of_selected_nodes(alloc, nodes.as_slice())?;
-            Ok(found)
-        }
-    }
-}
-
-// The values that the path selects in a tree, in the path's order, by the machine on values alone.
-fn values_without_locations<T: Tree>(
-    alloc: Global,
-    root: T,
-    path: PathParts<'_>,
-) -> Result<Vec<T>, Halt<T::Error>>
     requires { ArePartsOf path.text.now path }
     ensures { IfOk result (λ found. Selects path.entry.text.now (T.content root) (map T.content found.items)) }
 {
@@ -193,33 +173,15 @@ fn values_without_locations<T: Tree>(
         text: path.text,
         by_sets: false,
     };
-    machine.select_by_tokens(path.tokens)
-}
-
-// Nodes at what the path selects in the value, in the path's order.
-pub(crate) fn spots_by_parts<'a>(
-    alloc: Global,
-    json: &'a Value,
-    path: PathParts<'_>,
-) -> Result<Vec<Spot<'a>>, JsonPathError>
-    requires { ArePartsOf path.text.now path }
-    ensures ok { IfOk result (λ found. SelectsSpots path.entry.text.now (document_of (view json.now)) found.items) }
-    ensures refused { IfErr result (λ e. e ≡ JsonPathError.OutOfMemory) }
-{
-    Ok(nodes_by_parts(alloc, json, path)?)
-}
-
-// The values that the path selects in the value, in the path's order, by the machine.
-pub(crate) fn values_by_parts<'a>(
-    alloc: Global,
-    json: &'a Value,
-    path: PathParts<'_>,
-) -> Result<Vec<&'a Value>, JsonPathError>
-    requires { ArePartsOf path.text.now path }
-    ensures ok { IfOk result (λ found. Selects path.entry.text.now (document_of (view json.now)) (map (λ v. document_of (view v.now)) found.items)) }
-    ensures refused { IfErr result (λ e. e ≡ JsonPathError.OutOfMemory) }
-{
-    Ok(values_in_tree(alloc, json, path)?)
+    match machine.select_by_tokens(path.tokens) {
+        Ok(found) => Ok(found),
+        Err(Halt::Refused(error)) => Err(error),
+        Err(Halt::NeedsLocations) => {
+            let nodes = nodes_by_parts(alloc, root, path)?;
+            let found = values_of_selected_nodes(alloc, nodes.as_slice())?;
+            Ok(found)
+        }
+    }
 }
 
 // Nodes at what the path selects in the value, as a set.

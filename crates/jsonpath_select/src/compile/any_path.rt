@@ -11,7 +11,7 @@ ghost use Rattle.jsonpath_select.specs.Tried.{IsTried, IsEnded};
 
 use crate::answer::count_first_exists::{exists_by_parts, first_by_parts};
 use crate::answer::of_spots::locations_of_selected_spots;
-use crate::answer::select::{spots_by_parts, values_by_parts};
+use crate::answer::select::{nodes_by_parts, values_in_tree};
 use crate::answer::targets::targets_of;
 use crate::answer::text::list_to_text;
 use crate::answer::try_replace::{TryFault, try_replace_at_targets};
@@ -81,7 +81,7 @@ pub trait AnyPath {
         ensures ok { IfOk result (λ found. Selects (spelling self.now) (document_of (view value.now)) (map (λ v. document_of (view v.now)) found.items)) }
         ensures refused { IfErr result (λ e. e ≡ JsonPathError.OutOfMemory) }
     {
-        values_by_parts(alloc, value, self.parts())
+        Ok(values_in_tree(alloc, value, self.parts())?)
     }
 
     /// The nodes that the path selects in the document, each a value with its location, in the order in which the path
@@ -102,7 +102,7 @@ pub trait AnyPath {
         ensures ok { IfOk result (λ found. SelectsSpots (spelling self.now) (document_of (view value.now)) found.items) }
         ensures refused { IfErr result (λ e. e ≡ JsonPathError.OutOfMemory) }
     {
-        spots_by_parts(alloc, value, self.parts())
+        Ok(nodes_by_parts(alloc, value, self.parts())?)
     }
 
     /// The locations that the path selects, in the order in which it finds them, with duplicates. Error: `OutOfMemory`.

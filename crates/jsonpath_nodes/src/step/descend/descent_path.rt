@@ -7,7 +7,7 @@ ghost use Rattle.jsonpath_nodes.specs.plan.DescentPath.{location_after, descent_
 use crate::memory::NoMemory;
 use crate::place::trail::{
     HeldPathToContainer, Trail, clone_held_path, held_path_to_container, held_path_to_item,
-    lend_path_to_object, member_trail_of_path_to_object, trail_of_held_path,
+    member_trail, trail_of_held_path,
 };
 use crate::step::descends::DownStep;
 use crate::tree::name::Name;
@@ -143,10 +143,8 @@ impl<N: Name> SharedPath<N> {
                 held_path_to_item(self.alloc, parent, index)
             }
             DownStep::Member(key) => {
-                let trail = member_trail_of_path_to_object(
-                    lend_path_to_object(&self.shared[count - 1]),
-                    key,
-                )?;
+                let held = clone_held_path(&self.shared[count - 1])?;
+                let trail = member_trail(held, key);
                 Ok(HeldPathToContainer::Whole(Rc::new(self.alloc, trail)?))
             }
         }

@@ -13,9 +13,9 @@ returns-in_ok-new-in-Member-clause-leads g c =
     let k = c.len-count.result - 1 in
     let count : k + 1 ≡ vec_len t.shared = omega arith in
     ap (location_at g.N.Name.bytes) c.in_ok-new-in-Member.ensures.ok
-    ∙ c.in_ok-trail-in-Member.ensures
+    ∙ c.member_trail-trail.ensures
     ∙ ap₂ (λ (m : Location) (s : Step). m ++ s ∷ [])
-    (c.lend_path_to_object.ensures ∙ ap (held_path_location g.N.Name.bytes) c.index-in-Member.ensures ∙ leads_there g.N.Name.bytes l t.steps.items t.shared.items k c.index-in-Member.result.now c.requires.descent (omega arith))
+    (c.in_ok-held-in-Member.ensures ∙ ap (held_path_location g.N.Name.bytes) c.index-in-Member.ensures ∙ leads_there g.N.Name.bytes l t.steps.items t.shared.items k c.index-in-Member.result.now c.requires.descent (omega arith))
     (ap (down_step g.N.Name.bytes) (sym c.in-Member.is ∙ c.index.ensures))
     ∙ one_further g.N.Name.bytes l t.steps.items k c.index.result.now (omega arith)
     ∙ ap (λ n. location_after g.N.Name.bytes l (take n t.steps.items)) count
