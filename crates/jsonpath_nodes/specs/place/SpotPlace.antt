@@ -102,10 +102,6 @@ sight_of s = (location_of s, Some (value_of s))
 abbrev pub StandAt : Document → List Location → List Spot → Type 0
 StandAt doc ls spots = map sight_of spots ≡ map (look doc) ls
 
--- a spot stands at this location of the document, and holds what it has there
-abbrev pub StandsAt : Document → Location → Spot → Type 0
-StandsAt doc l s = sight_of s ≡ look doc l
-
 -- wherever the first spots stand in the document, the found ones stand where f leads from there
 abbrev pub LeadsIn : Document → (List Location → List Location) → List Spot → List Spot → Type 0
 LeadsIn doc f spots found = (ls : List Location) → StandAt doc ls spots → StandAt doc (f ls) found

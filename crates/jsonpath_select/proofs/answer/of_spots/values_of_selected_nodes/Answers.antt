@@ -1,4 +1,4 @@
-use Rattle.std.proofs.Common.{◌≡◌, ◌≤◌, ◌++◌, true, map, List, length, sym, ap, ◌∙◌, append-nil, drop_of_length-le, arith}
+use Rattle.std.proofs.Common.{◌≡◌, ◌≤◌, ◌++◌, true, map, length, sym, ap, ◌∙◌, append-nil, drop_of_length-le, arith}
 use Rattle.jsonpath_nodes.specs.place.SpotPlace.{place_location, place_value}
 use Rattle.jsonpath_select.specs.Meaning.{sel}
 use Rattle.jsonpath_select.proofs.walk.MarkLemmas.{contents-at}
