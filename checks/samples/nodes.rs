@@ -3,7 +3,7 @@
 
 use jsonpath_nodes::{
     Atom, Cmp, CmpEq, CmpGe, CmpGt, CmpLe, CmpLt, CmpNe, LocStep, Location, Mark,
-    NoMemory, PathStep, PlainStep, Selection, Spot, Stride, ValueWalker, compute_paths, holds,
+    NoMemory, PathStep, PlainStep, Selection, Spot, Stride, TreeNode, ValueWalker, compute_paths, holds,
     holds_atoms, laws, replace_at, set_at_once, steps_on_marks, take_at_once, to_num,
     try_replace_at,
 };
@@ -209,6 +209,22 @@ fn samples_of_spots(rt: HostRuntime) -> Result<(), Fail> {
     {
         let below = Spot::root(alloc, &document).below(alloc)?;
         assert_eq!(rt; below.len(), 5);
+    }
+    {
+        let root = TreeNode::at_root(&document);
+        assert!(rt; root.location_in(alloc)?.steps().is_empty());
+    }
+    {
+        let root = TreeNode::at_root(&document);
+        assert!(rt; root.handle().is_object());
+    }
+    {
+        let root = TreeNode::at_root(&document);
+        assert!(rt; root.handle().get("a").is_some());
+    }
+    {
+        let root = TreeNode::at_root(&document);
+        assert!(rt; root.location_in(alloc)?.to_string(alloc)?.as_str() == "$");
     }
     Ok(())
 }

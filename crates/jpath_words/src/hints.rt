@@ -21,7 +21,8 @@ const NO_NOT: &str =
 const NO_MATCH: &str =
     "there are no regular expressions: compare with ==, or filter the lines by grep";
 
-const NO_FUNCTION: &str = "there are no functions in a path; jpath -c counts the matches";
+const NO_FUNCTION: &str =
+    "there are no functions in a path: jpath --lengths '$.a' tells a length, jpath -c counts the matches";
 
 const NO_LIST: &str = "several paths are given by -e: jpath -e '$.a' -e '$.b'";
 
@@ -48,7 +49,8 @@ const NO_BRACKETS: &str = "a name with a blank needs brackets and quotes: $['fir
 
 const PARENTHESES: &str = "a filter's condition is written in parentheses: [?(@.price < 10)]";
 
-// What is written instead of a sign of another language, wherever it stands, and why.
+// What is written instead of a sign of another language, wherever it stands, and why; of a slash only where no text is
+// quoted, since it may be one of the text.
 const SIGNS: [(&str, &str, &str); 4] = [
     ("===", "==", "equal is written =="),
     ("!==", "!=", "not equal is written !="),
@@ -144,7 +146,11 @@ fn hint_to_replace(alloc: Global, before: &str, rest: &str) -> Result<Option<Str
     ensures { IfOk result (λ o. IfSome o (λ hint. EndsWithPath (string_bytes hint))) }
 {
     let mut fixed = format!(in alloc; "{before}{rest}")?;
+    let has_quotes = before.contains("'") || rest.contains("'") || rest.contains("\"");
     for (wrong, right, sentence) in SIGNS {
+        if wrong == "/" && has_quotes {
+            continue;
+        }
         fixed = fixed.as_str().replace(alloc, wrong, right)?;
         if let Some(hint) = hint_if_path(alloc, sentence, fixed.as_str(), "", "")? {
             return Ok(Some(hint));
@@ -337,7 +343,7 @@ fn path_with_parentheses(alloc: Global, path: &str) -> Result<Option<String>, Al
 // up to the error and from there. `None` where it is none of them.
 fn hint_for_unsupported_syntax(path: &str, before: &str, rest: &str) -> Option<&'static str> {
     let has_filter = path.contains("[?");
-    if !has_filter && !rest.starts_with(|c: char| is_of_name(c) || matches!(c, '\'' | '"')) {
+    if !has_filter && !rest.starts_with(|c: char| is_of_name(c) || matches!(c, '(' | '\'' | '"')) {
         if let Some(sentence) = sentence_for_other_tool(rest) {
             return Some(sentence);
         }

@@ -1,4 +1,4 @@
-//! The steps of a path on `Mark`s: references to values, or `Spot`s.
+//! The steps of a path on `Mark`s: references to values, or `TreeNode`s.
 //!
 //! A call on a list returns what the step selects from each node of the list, in the list's order, with duplicates;
 //! some calls take one node. The only error is `NoMemory`, and then `add_named_member` has appended nothing.

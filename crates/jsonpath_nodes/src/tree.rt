@@ -40,7 +40,7 @@ pub trait Tree: Copy + Drop {
     type MembersLeft: Drop;
     /// An associated type, chosen by the implementor: the type of the numbers that comparisons use, such as `Decimal`.
     type Number: Fraction;
-    /// The type of the error that is returned if a comparison gets a value that can't be compared.
+    /// The error of an evaluation: memory ran out, or a comparison got a value that can't be compared.
     type Error: Drop + From<NoMemory> + From<AllocError>;
 
     ghost content: { Self → Document };

@@ -15,7 +15,9 @@ mod tagged;
 mod walk;
 
 pub use answer::document::{document_to_text, read_document};
-pub use answer::select::{select_in_tree, select_nodes_in_tree, select_path, select_path_in_any_order, select_tokens};
+pub use answer::select::{
+    select_in_tree, select_nodes_in_tree, select_path, select_path_in_any_order, select_tokens,
+};
 pub use answer::text::list_to_text;
 pub use answer::try_replace::TryFault;
 pub use answer::typed::list_to_typed;

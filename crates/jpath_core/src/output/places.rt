@@ -58,7 +58,8 @@ fn add_spot_location(alloc: Global, spot: &Spot<'_>, out: &mut Vec<u8>) -> Resul
     }
 }
 
-// Writes a location as a path whose control characters are escaped.
+// Writes a location as a path whose control characters are escaped. A text without them is written as it is
+// (`escapes_hold`).
 fn add_location(alloc: Global, location: &Location, out: &mut Vec<u8>) -> Result<(), AllocError>
     ensures { OnOk result (out.new.items ≡ out.old.items ++ printable (location_text location.now)) }
 {

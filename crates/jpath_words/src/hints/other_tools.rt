@@ -16,6 +16,8 @@ pub(super) fn hint_to_begin_with_root(alloc: Global, path: &str) -> Result<Strin
     let fixed = fixed.as_str();
     let more = if is_file_name(path) {
         " and comes before the FILE: jpath '$.name' file.json"
+    } else if path.starts_with('/') && PathParser::compile(alloc, fixed).is_ok() {
+        return format!(in alloc; "a path begins with $: write {fixed}");
     } else if let Some(sentence) = sentence_for_other_tool(path) {
         return format!(in alloc; "a path begins with $; {sentence}");
     } else if !path.starts_with('{') && PathParser::compile(alloc, fixed).is_ok() {

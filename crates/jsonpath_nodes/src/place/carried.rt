@@ -141,7 +141,7 @@ impl<T: Tree> Carried for T {
     }
 }
 
-/// Implements the trait `Carried` (a node that is passed from step to step) for `Spot`, which has its location.
+/// Implements the trait `Carried` (a node that is passed from step to step) for `TreeNode`, which has its location.
 impl<T: Tree> Carried for TreeNode<T, T::Name> {
     type Number = T::Number;
 

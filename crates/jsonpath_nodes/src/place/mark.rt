@@ -1,5 +1,5 @@
-//! `Mark`, a reference to a selected node: either the value alone, or a `Spot`, which has the location too. It names no
-//! lifetime, so functions that call themselves can be generic over it.
+//! `Mark`, a reference to a selected node: either the value alone, or a `TreeNode`, such as a `Spot`, which has the location
+//! too. It names no lifetime, so functions that call themselves can be generic over it.
 
 ghost use Rattle.std.specs.Prelude.{◌≡◌, [], ◌∷◌, Bool, true, false, IfOk, OnOk};
 ghost use Rattle.jsonpath_nodes.specs.document.Document.{Document};
@@ -20,11 +20,11 @@ use crate::tree::{Tree, order};
 use std::alloc::Global;
 
 /// A trait of selected nodes. It has two kinds of implementors: each `Tree`, such as `&Value`, is a node without its
-/// location, and `Spot` is a node with its location. Evaluation code is generic over both. The only error of the methods
-/// that append nodes to a list is `NoMemory`; some of the nodes may then be appended already.
+/// location, and each `TreeNode`, such as `Spot`, is a node with its location. Evaluation code is generic over both. The
+/// only error of the methods that append nodes to a list is `NoMemory`; some of the nodes may then be appended already.
 ///
 /// In contracts (proved specifications), a list of nodes is at a list of locations if both lists are equally long and
-/// each node has the value at the location with the same index and, if the node is a `Spot`, this location, too.
+/// each node has the value at the location with the same index and, if it is a `TreeNode`, this location, too.
 ///
 /// ```text
 /// let mut found = Vec::new(alloc);
@@ -170,8 +170,8 @@ impl<T: Tree> Mark for T {
     }
 }
 
-/// Implements the trait `Mark` (a node of a document) for `Spot`: such a node has its value and its location. The
-/// `Spot`s of a node's children share the steps of the node's location instead of copying them.
+/// Implements the trait `Mark` (a node of a document) for `TreeNode`: such a node has its value and its location. The
+/// nodes of its children share the steps of its location instead of copying them.
 impl<T: Tree> Mark for TreeNode<T, T::Name> {
     ghost located = { true };
 

@@ -1,4 +1,5 @@
-//! `Spot`, a node: a value of a document with its location. Children of one value share its location.
+//! `TreeNode`, a node: a value of a document with its location; `Spot`, one of a `serde_json` value. Children of one value
+//! share its location.
 
 ghost use Rattle.std.specs.Prelude.{◌≡◌, ◌↔◌, [], ◌∷◌, ◌++◌, ◌^◌, ◌-◌, length, min, pos, true, IsTrue, IfOk, OnOk, IfSome, IfNone, option_to_list};
 ghost use Rattle.serde_json.specs.View.{view};
@@ -54,8 +55,8 @@ pub enum PathStep<'a> {
 /// ```
 pub type Spot<'a> = TreeNode<&'a Value, &'a String>;
 
-/// A node of any `Tree`: a value, by its handle of type `T`, with its location. `N` is the type of the tree's names.
-/// `Spot` is such a node of a `serde_json` value.
+/// A node of a document of any `Tree`: `T`, the handle to its value, with its location. `N` is `T::Name`; with other types
+/// there are no methods. `Spot` is the node of a `serde_json` value.
 ///
 /// ```text
 /// let root = TreeNode::at_root(&document);
@@ -232,7 +233,7 @@ impl<T: Tree> Clone for TreeNode<T, T::Name> {
 }
 
 impl<T: Tree> TreeNode<T, T::Name> {
-    /// The root node of a document, with the whole document as its value.
+    /// The root node of a document, with the whole document as its value. The call takes no memory.
     ///
     /// ```text
     /// let root = TreeNode::at_root(&document);
@@ -248,7 +249,7 @@ impl<T: Tree> TreeNode<T, T::Name> {
         }
     }
 
-    /// The handle to the node's value.
+    /// The node's value, as the tree's handle to it; of a `Spot` what `value` returns.
     ///
     /// ```text
     /// let root = TreeNode::at_root(&document);
@@ -260,7 +261,7 @@ impl<T: Tree> TreeNode<T, T::Name> {
         self.value
     }
 
-    /// The location of the node, copied into a `Location`. The only error is `NoMemory`.
+    /// The location of the node, copied into a `Location`, as `Spot::location` does. The only error is `NoMemory`.
     ///
     /// ```text
     /// let root = TreeNode::at_root(&document);

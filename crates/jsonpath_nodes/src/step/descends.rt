@@ -1,4 +1,4 @@
-//! How the children of a node become nodes of the same kind: a value of a tree keeps no location, a `Spot` all of it.
+//! How the children of a node become nodes of the same kind: a value of a tree keeps no location, a `TreeNode` all of it.
 
 ghost use Rattle.std.specs.Prelude.{◌≡◌, [], ◌∷◌, ◌++◌, Bool, List, false, Some, IfOk, OnOk};
 ghost use Rattle.jsonpath_nodes.specs.document.Document.{Document};

@@ -2,8 +2,7 @@
 
 ghost use Rattle.std.specs.Prelude.{◌≡◌, List, ℕ, string_bytes};
 
-/// A trait: the name of a member of an object, as a document stores it: a small handle that can be copied, such as
-/// `&String`.
+/// A trait of the names of members, as a document stores them: small handles that can be copied, such as `&String`.
 ///
 /// ```text
 /// let name = String::from_str(alloc, "a")?;
@@ -12,7 +11,7 @@ ghost use Rattle.std.specs.Prelude.{◌≡◌, List, ℕ, string_bytes};
 pub trait Name: Copy + Drop {
     ghost bytes: { Self → List ℕ };
 
-    /// A method that implementors provide: returns the name as a text.
+    /// A method that implementors provide: returns the name itself: escapes resolved, no quotes.
     fn as_text(&self) -> &str
         ensures { result.now ≡ bytes self.now };
 }
@@ -27,7 +26,7 @@ impl<'a> Name for &'a String {
     }
 }
 
-/// Implements `Name` (a member's name) for texts.
+/// Implements `Name` (a member's name) for texts, as exact trees have them.
 impl<'a> Name for &'a str {
     ghost bytes = { λ name. name.now };
 

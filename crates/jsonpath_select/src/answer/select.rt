@@ -89,8 +89,8 @@ pub fn select_path_in_any_order<'a>(
 }
 
 /// The values that the path selects in a document of any `Tree`, such as one with its numbers as a text writes them, in
-/// the order in which the path finds them, with duplicates. An error is one of the tree, such as that a number can't be
-/// compared, or that memory ran out.
+/// the order in which the path finds them, with duplicates. The error is the tree's (`Tree::Error`): a number can't be
+/// compared, or memory ran out.
 ///
 /// ```text
 /// let document = read_document(alloc, b"[1, 2, 3]")?;
@@ -108,7 +108,7 @@ pub fn select_in_tree<T: Tree>(
 }
 
 /// The nodes that the path selects in a document of any `Tree`, in the order in which the path finds them, with
-/// duplicates. An error is one of the tree, such as that a number can't be compared, or that memory ran out.
+/// duplicates. The error is the tree's (`Tree::Error`): a number can't be compared, or memory ran out.
 ///
 /// ```text
 /// let document = read_document(alloc, b"[1, 2, 3]")?;

@@ -97,7 +97,11 @@ fn number_that_has_no_place_is_refused(rt: HostRuntime) {
 fn values_where_locations_matter(rt: HostRuntime) {
     let rows = [
         ("[[[{\"a\":1.0}]]]", "$..*[?(@.a)]", "{\"a\":1.0}"),
-        ("[[0.5,0.50],[0.5]]", "$..*[?(@ == 0.5)]", "0.5 0.50 0.5"),
+        (
+            "[[{\"a\":0.5},{\"a\":0.50}]]",
+            "$..*[?(@.a == 0.5)]",
+            "{\"a\":0.5} {\"a\":0.50}",
+        ),
     ];
     for (text, path, want) in rows {
         let found = selected(&rt, text, path);
