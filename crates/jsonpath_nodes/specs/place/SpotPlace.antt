@@ -32,7 +32,7 @@ Key = Bor (String Global)
 abbrev pub key_bytes : Key → List ℕ
 key_bytes key = string_bytes key.now
 
--- ---- of any tree, by a function for the bytes of its names
+-- ---- by what the bytes of a name are
 
 -- the end of a trail, after the location that it goes on from
 abbrev pub one_step_on : {N : Type 0} → (N → List ℕ) → Trail-F N Location → Location
@@ -44,12 +44,11 @@ one_step_on bytes (layer.ItemMember i parent key) = (parent.value ++ index i ∷
 abbrev pub location_at : {N : Type 0} → (N → List ℕ) → Trail N → Location
 location_at {N} bytes = fold-Trail N Location (one_step_on bytes)
 
--- where a held path to an array or object leads
+-- where a held path to an object leads
 abbrev pub held_path_location : {N : Type 0} → (N → List ℕ) → HeldPathToContainer N → Location
 held_path_location bytes (held.Whole t) = location_at bytes t.value
 held_path_location bytes (held.Item t i) = location_at bytes t.value ++ index i ∷ []
 
--- where a path to a value leads
 abbrev pub path_location : {N : Type 0} → (N → List ℕ) → PathTo N → Location
 path_location bytes (path_to.Whole t) = location_at bytes t.now
 path_location bytes (path_to.Item t i) = location_at bytes t.now.value ++ index i ∷ []
