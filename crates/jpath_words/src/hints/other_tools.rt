@@ -16,9 +16,7 @@ pub(super) fn hint_to_begin_with_root(alloc: Global, path: &str) -> Result<Strin
     let fixed = fixed.as_str();
     let more = if is_file_name(path) {
         " and comes before the FILE: jpath '$.name' file.json"
-    } else if path.starts_with('/') && PathParser::compile(alloc, fixed).is_ok() {
-        return format!(in alloc; "a path begins with $: write {fixed}");
-    } else if let Some(sentence) = sentence_for_other_tool(path) {
+    } else if let Some(sentence) = sentence_unless_xpath(alloc, path, fixed) {
         return format!(in alloc; "a path begins with $; {sentence}");
     } else if !path.starts_with('{') && PathParser::compile(alloc, fixed).is_ok() {
         return format!(in alloc; "a path begins with $: write {fixed}");
@@ -28,6 +26,14 @@ pub(super) fn hint_to_begin_with_root(alloc: Global, path: &str) -> Result<Strin
         ", the document: $.name, $[0], $..name"
     };
     format!(in alloc; "a path begins with ${more}")
+}
+
+// The sentence for what jq has; `None` also for an XPath, whatever its names are, if `fixed`, made of it, is a path.
+fn sentence_unless_xpath(alloc: Global, path: &str, fixed: &str) -> Option<&'static str> {
+    if path.starts_with('/') && PathParser::compile(alloc, fixed).is_ok() {
+        return None;
+    }
+    sentence_for_other_tool(path)
 }
 
 // The text with `$` in front, `[*]` for each `[]`, a dot for each slash of an XPath, and no `?` at its end.
