@@ -1,6 +1,7 @@
 -- A text whose control characters are escaped.
 use Rattle.std.specs.Prelude.{◌≡◌, ℕ, ◌/◌, ◌%◌, Bool, false, ◌||◌, ◌&&◌, ◌==◌, nat_le, nat_lt, if◌then◌else◌, List, [], ◌∷◌, flat_map}
 use Rattle.std.specs.Char.{digit_char}
+use Rattle.std.specs.List.{list_any}
 use Rattle.std.specs.Str.{chars, encode_utf8_all, IsUtf8}
 
 -- a control character of Unicode: below the blank, or from DEL to the last of C1
@@ -24,8 +25,7 @@ printable text = encode_utf8_all (printable_chars (chars text))
 
 -- a control character is among these
 abbrev pub has_control : List ℕ → Bool
-has_control [] = false
-has_control (c ∷ cs) = is_control c || has_control cs
+has_control cs = list_any is_control cs
 
 -- no control character of a text is left, and a text without one is as it was
 abbrev pub EscapesHold : Type 0

@@ -2,13 +2,13 @@
 
 ghost use Rattle.std.specs.Prelude.{◌≡◌, ◌%◌, ◌∷◌, ◌++◌, IfOk, OnOk, string_bytes};
 ghost use Rattle.std.specs.Char.{digit_char};
-ghost use Rattle.std.specs.Str.{encode_utf8_all};
+ghost use Rattle.std.specs.Str.{chars, encode_utf8_all};
 ghost use Rattle.json.specs.Tree.{HasNumbers};
 ghost use Rattle.json.specs.Value.{value_view};
 ghost use Rattle.jsonpath_nodes.specs.place.LocationText.{location_text};
 ghost use Rattle.jsonpath_nodes.specs.place.SpotPlace.{location_of};
 ghost use Rattle.jpath_texts.specs.Lines.{on_line, shown};
-ghost use Rattle.jpath_core.specs.Printable.{escape, is_control, printable, printable_char};
+ghost use Rattle.jpath_core.specs.Printable.{escape, has_control, is_control, printable, printable_char};
 
 use crate::laws::escapes_hold;
 use jpath_texts::{Line, add_line_end, add_line_start, add_value_in_look};
@@ -58,19 +58,31 @@ fn add_spot_location(alloc: Global, spot: &Spot<'_>, out: &mut Vec<u8>) -> Resul
     }
 }
 
-// Writes a location as a path whose control characters are escaped. A text without them is written as it is
-// (`escapes_hold`).
+// Writes a location as a path whose control characters are escaped.
 fn add_location(alloc: Global, location: &Location, out: &mut Vec<u8>) -> Result<(), AllocError>
     ensures { OnOk result (out.new.items ≡ out.old.items ++ printable (location_text location.now)) }
 {
-    escapes_hold();
     let text = format!(in alloc; "{location}")?;
-    let text = text.as_str();
-    if text.chars().any(is_control) {
+    add_printable_text(alloc, text.as_str(), out)
+}
+
+// Writes a text whose control characters are escaped. Without them it is written as it is (`escapes_hold`).
+fn add_printable_text(alloc: Global, text: &str, out: &mut Vec<u8>) -> Result<(), AllocError>
+    ensures { OnOk result (out.new.items ≡ out.old.items ++ printable text.now) }
+{
+    escapes_hold();
+    if has_control(text) {
         let printable = printable_text(alloc, text)?;
         return out.extend_from_slice(printable.as_bytes());
     }
     out.extend_from_slice(text.as_bytes())
+}
+
+// Whether a control character stands in the text.
+fn has_control(text: &str) -> bool
+    ensures { result ≡ has_control (chars text.now) }
+{
+    text.chars().any(|c| is_control(c))
 }
 
 // Whether a character is a control character: C0, DEL or C1.
