@@ -304,7 +304,7 @@ for path, caret, hint in [("$.my key", 5, "$['first name']"), ("$[?(@.a > .5)]",
                           ("$[?(@.t == Moby Dick)]", 11, "needs quotes"), ("$[?(@.a == {x})]", 11, "--arg NAME TEXT"), ("$[{x}]", 2, "--arg NAME TEXT")]:
     refused(path, caret, hint)
 for path, caret, hint in [(".. | .price? // empty", 0, "there is no //"), ("$.price? // empty", 7, "there is no //"), ("data/books.json", 0, "comes before the FILE"), ("/tmp/x.json", 0, "comes before the FILE"), ("./x", 0, "comes before the FILE"),
-                          ("/store/book", 0, "write $.store.book\n"), ("//book[0]", 0, "write $..book[0]\n"), ("$/store/book", 0, "separated by dots: $.store.book\n"), (".a,.b", 0, "-e '$.a' -e '$.b'"), ("[0,1]", 0, "write $[0,1]\n"),
+                          ("/store/book", 0, "write $.store.book\n"), ("/store/book[1]/title", 0, "an index counts from 0"), ("//book[0]", 0, "write $..book[0]\n"), ("$/store/book", 0, "separated by dots: $.store.book\n"), (".a,.b", 0, "-e '$.a' -e '$.b'"), ("[0,1]", 0, "write $[0,1]\n"),
                           ("keys[]", 0, "jpath --keys '$'"), ("keys_unsorted", 0, "jpath --keys '$'"), ("keys_unsorted[]", 0, "jpath --keys '$'"), (".a | keys", 0, "jpath --keys '$'"), (".keys", 0, "write $.keys\n"),
                           ("to_entries", 0, "jpath --entries '$'"), (".a | to_entries", 0, "jpath --entries '$'"), ("with_entries(.value.n)", 0, "jpath --entries '$'"), ("paths", 0, "jpath -l '$..*'"), (".a|length", 0, "jpath --lengths '$.a'"),
                           ("map(.x)", 0, "no functions"), ("sort_by(.x)", 0, "no functions"), ("group_by(.x)", 0, "no functions"), (".a | add", 0, "no functions"), ("add", 0, "write $.add\n"),

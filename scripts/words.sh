@@ -55,38 +55,43 @@ are_words_of_run() {
 
 # What is wrong with words of jpath, as far as its options tell: nothing is said of words that it may take.
 fault_of_jpath_words() {
-    has_path='' wants=0 option='' has_rows='' is_table=''
+    has_path='' wants=0 option='' has_rows='' is_table='' has_column='' has_edit='' is_in_place=''
     for word; do
         if [ "$wants" -gt 0 ]; then
             wants=$((wants - 1))
             word=$option=$word option=''
-            case $word in --color=* | --indent=*) ;; *) continue ;; esac
+            case $word in --color=* | --indent=* | --completions=*) ;; *) continue ;; esac
         fi
         case $word in
             --) has_path=yes && break ;;
             --raw | --pretty | --tab | --sort-keys | --array | --locations | --with-locations | --keys | --entries | --lengths | --count | --quiet | --with-filename | --keep-going | --join | --nul | --seq) ;;
             --csv | --tsv | --header) is_table=yes ;;
-            --in-place | --copy | --check) ;;
+            --in-place) is_in_place=yes ;;
+            --copy | --check) ;;
             --help | --version) has_path=yes ;;
-            --completions) has_path=yes wants=1 ;;
-            --completions=*) has_path=yes ;;
+            --completions) has_path=yes wants=1 option=$word ;;
+            --completions=bash | --completions=zsh | --completions=fish) has_path=yes ;;
             --color | --indent) wants=1 option=$word ;;
             --color=auto | --color=always | --color=never | --indent=[1-8]) ;;
-            --color=* | --indent=*) printf "jpath's option has no value '%s'" "$word" && return ;;
+            --color=* | --indent=* | --completions=*) printf "jpath's option has no value '%s'" "$word" && return ;;
             --arg | --argjson) wants=2 ;;
             --arg=* | --argjson=*) wants=1 ;;
             --rows) has_rows=yes has_path=yes wants=1 ;;
             --rows=*) has_rows=yes has_path=yes ;;
-            --path | --null | --remove) has_path=yes wants=1 ;;
-            --path=* | --null=* | --remove=*) has_path=yes ;;
-            --set | --set-text | --add | --add-text | --append | --rename) has_path=yes wants=2 ;;
-            --set=* | --set-text=* | --add=* | --add-text=* | --append=* | --rename=*) has_path=yes wants=1 ;;
+            --path) has_path=yes has_column=yes wants=1 ;;
+            --path=*) has_path=yes has_column=yes ;;
+            --null | --remove) has_path=yes has_edit=yes wants=1 ;;
+            --null=* | --remove=*) has_path=yes has_edit=yes ;;
+            --set | --set-text | --add | --add-text | --append | --rename) has_path=yes has_edit=yes wants=2 ;;
+            --set=* | --set-text=* | --add=* | --add-text=* | --append=* | --rename=*) has_path=yes has_edit=yes wants=1 ;;
             --*) printf "jpath has no option '%s'" "$word" && return ;;
             -C) wants=1 option=--color ;;
-            -e) has_path=yes wants=1 ;;
+            -e) has_path=yes has_column=yes wants=1 ;;
             -C* | -) ;;
-            -e* | -[hV]) has_path=yes ;;
+            -e*) has_path=yes has_column=yes ;;
+            -[hV]) has_path=yes ;;
             -*[!rpSalLcqHkij0]*) printf "jpath has no option '%s'" "$word" && return ;;
+            -*i*) is_in_place=yes ;;
             -*) ;;
             *) has_path=yes ;;
         esac
@@ -97,5 +102,9 @@ fault_of_jpath_words() {
         printf 'the last option of jpath wants more words'
     elif [ -n "$is_table" ] && [ -z "$has_rows" ]; then
         printf 'jpath takes --csv, --tsv and --header with --rows PATH and -e COLUMN'
+    elif [ -n "$has_rows" ] && [ -z "$has_column" ]; then
+        printf 'jpath takes --rows PATH with -e COLUMN'
+    elif [ -n "$is_in_place" ] && [ -z "$has_edit" ]; then
+        printf 'jpath takes -i with an edit, as --set, --add or --remove'
     fi
 }

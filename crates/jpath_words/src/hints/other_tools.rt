@@ -28,9 +28,13 @@ pub(super) fn hint_to_begin_with_root(alloc: Global, path: &str) -> Result<Strin
     format!(in alloc; "a path begins with ${more}")
 }
 
-// The sentence for what jq has; `None` also for an XPath, whatever its names are, if `fixed`, made of it, is a path.
+// The sentence for what jq has. An XPath, whatever its names are, has none if `fixed`, made of it, is a path, but for one
+// with an index, which would be another's: XPath counts from 1.
 fn sentence_unless_xpath(alloc: Global, path: &str, fixed: &str) -> Option<&'static str> {
     if path.starts_with('/') && PathParser::compile(alloc, fixed).is_ok() {
+        if path.contains("[") {
+            return Some("an index counts from 0, and names are separated by dots: $.a[0].b");
+        }
         return None;
     }
     sentence_for_other_tool(path)
