@@ -11,7 +11,7 @@ ghost use Rattle.std.specs.Prelude.{◌≡◌, List, ℕ, string_bytes};
 pub trait Name: Copy + Drop {
     ghost bytes: { Self → List ℕ };
 
-    /// A method that implementors provide: returns the name itself: escapes resolved, no quotes.
+    /// A method that implementors provide: returns the member's name itself, with escapes resolved and without quotes.
     fn as_text(&self) -> &str
         ensures { result.now ≡ bytes self.now };
 }
