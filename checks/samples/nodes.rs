@@ -212,19 +212,19 @@ fn samples_of_spots(rt: HostRuntime) -> Result<(), Fail> {
     }
     {
         let root = TreeNode::at_root(&document);
-        assert!(rt; root.location_in(alloc)?.steps().is_empty());
+        assert!(rt; root.location(alloc)?.steps().is_empty());
     }
     {
         let root = TreeNode::at_root(&document);
-        assert!(rt; root.handle().is_object());
+        assert!(rt; root.value().is_object());
     }
     {
         let root = TreeNode::at_root(&document);
-        assert!(rt; root.handle().get("a").is_some());
+        assert!(rt; root.value().get("a").is_some());
     }
     {
         let root = TreeNode::at_root(&document);
-        assert!(rt; root.location_in(alloc)?.to_string(alloc)?.as_str() == "$");
+        assert!(rt; root.location(alloc)?.to_string(alloc)?.as_str() == "$");
     }
     Ok(())
 }

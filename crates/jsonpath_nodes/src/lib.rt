@@ -27,7 +27,7 @@ pub use step::plain_step::PlainStep;
 pub use step::stride::{Selection, Stride};
 pub use step::value_walker::ValueWalker;
 pub use tree::Tree;
-pub use tree::name::Name;
+pub use tree::name::{Handle, Name};
 pub use update::at_once::set::set_at_once;
 pub use update::at_once::take::take_at_once;
 pub use update::each::{delete_at, replace_at};

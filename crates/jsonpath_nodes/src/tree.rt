@@ -16,7 +16,7 @@ pub(crate) mod order;
 use crate::compare::atom::Atom;
 use crate::compare::fraction::Fraction;
 use crate::memory::NoMemory;
-use crate::tree::name::Name;
+use crate::tree::name::Handle;
 use jsonpath_paths::Decimal;
 use std::alloc::{AllocError, Global};
 
@@ -27,9 +27,7 @@ use std::alloc::{AllocError, Global};
 /// let value = Value::Bool(true);
 /// assert!(rt; matches!(Tree::atom(&&value)?, Atom::Bool(true)));
 /// ```
-pub trait Tree: Copy + Drop {
-    /// An associated type, chosen by the implementor: the name of a member of an object, as the document stores it.
-    type Name: Name;
+pub trait Tree: Handle {
     /// An associated type, chosen by the implementor: a handle to an array of the document, to read its items.
     type Array: Copy;
     /// An associated type, the implementor's choice: a handle to an object of the document, to read its members.

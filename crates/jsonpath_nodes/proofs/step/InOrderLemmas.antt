@@ -3,6 +3,7 @@ use Rattle.std.proofs.Common.{◌≡◌, ℕ, true, List, [], ◌∷◌, ◌++�
 use mathlib.Core.List.{append-nil}
 use Rattle.std.proofs.lemmas.List.{map-append, take-append-drop, take_more}
 use Rattle.std.proofs.Math.Seq.{take-length}
+use Rattle.std.proofs.lemmas.List.Sums.{fold-append}
 use Rattle.std.specs.BTreeSet.{insert_key}
 use Rattle.std.specs.Cmp.{IsTotalOrder}
 use Rattle.std.specs.List.{AllByRecursion}
@@ -76,6 +77,16 @@ once_joined f xs i ls e =
 pub whole_taken : {A : Type 0} (f : A → Location) (xs : List A) (i : ℕ) (ls : List Location) → i ≡ length xs → ls ≡ map f (take i xs) → ls ≡ map f xs
 whole_taken f xs i ls n e = e ∙ (ap (λ i. map f (take i xs)) n ∙ ap (map f) (take-length xs))
 
+-- ---- one location more
+
+pub taken_more : {A : Type 0} (f : A → Location) (xs : List A) (i : ℕ) (x : A) (m : Location) → i < length xs → x ≡ get_or xs i x → m ≡ f x → map f (take (i + 1) xs) ≡ map f (take i xs) ++ m ∷ []
+taken_more f xs i x m within is here =
+    let taken : take (i + 1) xs ≡ take i xs ++ x ∷ [] = take_more xs i x within ∙ ap (λ y. take i xs ++ y ∷ []) (sym is) in
+    ap (map f) taken ∙ (map-append f (take i xs) (x ∷ []) ∙ ap (λ l. map f (take i xs) ++ l ∷ []) (sym here))
+
+pub once_more : (ls : List Location) (m : Location) → insert_key location_cmp (once_in_order ls) m ≡ once_in_order (ls ++ m ∷ [])
+once_more ls m = sym (fold-append (insert_key location_cmp) [] ls (m ∷ []))
+
 -- ---- one location behind the other
 
 -- the list ends with the location, or has none where there is none
@@ -91,8 +102,7 @@ pub next_behind : {A : Type 0} (f : A → Location) (xs : List A) (i : ℕ) (x :
     → comes_behind last m ≡ true → EndsWith last (map f (take i xs)) → IsStrictlySortedBy location_cmp (map f (take i xs))
     → IsStrictlySortedBy location_cmp (map f (take (i + 1) xs)) × EndsWith (Some m) (map f (take (i + 1) xs))
 next_behind f xs i x last m within is here h end s =
-    let taken : take (i + 1) xs ≡ take i xs ++ x ∷ [] = take_more xs i x within ∙ ap (λ y. take i xs ++ y ∷ []) (sym is) in
-    let mapped : map f (take (i + 1) xs) ≡ map f (take i xs) ++ m ∷ [] = ap (map f) taken ∙ (map-append f (take i xs) (x ∷ []) ∙ ap (λ l. map f (take i xs) ++ l ∷ []) (sym here)) in
+    let mapped = taken_more f xs i x m within is here in
     (subst (IsStrictlySortedBy location_cmp) (sym mapped) (behind_last last m (map f (take i xs)) end h s), (map f (take i xs), mapped))
 
 pub sorted_whole : {A : Type 0} (f : A → Location) (xs : List A) (i : ℕ) → i ≡ length xs → IsStrictlySortedBy location_cmp (map f (take i xs)) → IsStrictlySortedBy location_cmp (map f xs)

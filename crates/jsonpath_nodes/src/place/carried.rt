@@ -142,7 +142,7 @@ impl<T: Tree> Carried for T {
 }
 
 /// Implements the trait `Carried` (a node that is passed from step to step) for `TreeNode`, which has its location.
-impl<T: Tree> Carried for TreeNode<T, T::Name> {
+impl<T: Tree> Carried for TreeNode<T> {
     type Number = T::Number;
 
     type Stop = T::Error;
@@ -159,36 +159,36 @@ impl<T: Tree> Carried for TreeNode<T, T::Name> {
 
     fn flattened_once(
         alloc: Global,
-        marks: &[TreeNode<T, T::Name>],
-    ) -> Result<Vec<TreeNode<T, T::Name>>, T::Error> {
+        marks: &[TreeNode<T>],
+    ) -> Result<Vec<TreeNode<T>>, T::Error> {
         Ok(candidates::flattened_once(alloc, marks)?)
     }
 
     fn candidates_below_once(
         alloc: Global,
-        marks: &[TreeNode<T, T::Name>],
-    ) -> Result<Vec<TreeNode<T, T::Name>>, T::Error> {
+        marks: &[TreeNode<T>],
+    ) -> Result<Vec<TreeNode<T>>, T::Error> {
         Ok(candidates::candidates_below_once(alloc, marks)?)
     }
 
     fn marks_in_document_order(
         alloc: Global,
-        marks: &[TreeNode<T, T::Name>],
-    ) -> Result<Vec<TreeNode<T, T::Name>>, T::Error> {
+        marks: &[TreeNode<T>],
+    ) -> Result<Vec<TreeNode<T>>, T::Error> {
         Ok(in_document_order(alloc, marks)?)
     }
 
     fn topmost_marks(
         alloc: Global,
-        marks: &[TreeNode<T, T::Name>],
-    ) -> Result<Vec<TreeNode<T, T::Name>>, T::Error> {
+        marks: &[TreeNode<T>],
+    ) -> Result<Vec<TreeNode<T>>, T::Error> {
         Ok(topmost_spots(alloc, marks)?)
     }
 
     fn indexes_standing_among(
         alloc: Global,
-        marks: &[TreeNode<T, T::Name>],
-        others: &[TreeNode<T, T::Name>],
+        marks: &[TreeNode<T>],
+        others: &[TreeNode<T>],
     ) -> Result<Vec<usize>, T::Error> {
         Ok(indexes_standing_among(alloc, marks, others)?)
     }

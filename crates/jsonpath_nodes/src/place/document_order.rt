@@ -22,7 +22,7 @@ use crate::place::reversed_steps::{
 use crate::place::spot::TreeNode;
 use crate::step::descends::DownStep;
 use crate::tree::Tree;
-use crate::tree::name::Name;
+use crate::tree::name::{Handle, Name};
 use std::alloc::Global;
 use std::cmp::Ordering;
 use std::collections::BTreeSet;
@@ -36,8 +36,8 @@ use std::collections::BTreeSet;
 /// ```
 pub fn in_document_order<T: Tree>(
     alloc: Global,
-    spots: &[TreeNode<T, T::Name>],
-) -> Result<Vec<TreeNode<T, T::Name>>, NoMemory>
+    spots: &[TreeNode<T>],
+) -> Result<Vec<TreeNode<T>>, NoMemory>
     ensures { IfOk result (λ found. MarksLeadBy true (place_location T.Name.bytes) (place_value T.content) (λ _ ls. once_in_order ls) spots.now found.items) }
 {
     if are_ordered_without_repeats(alloc, spots)? {
@@ -52,7 +52,7 @@ pub fn in_document_order<T: Tree>(
 // Whether each spot comes behind the one before it, so that they stand in document order, each once.
 fn are_ordered_without_repeats<T: Tree>(
     alloc: Global,
-    spots: &[TreeNode<T, T::Name>],
+    spots: &[TreeNode<T>],
 ) -> Result<bool, NoMemory>
     ensures { IfOk result (λ ordered. IsTrue ordered → IsStrictlySortedBy location_cmp (map (place_location T.Name.bytes) spots.now)) }
 {
@@ -80,8 +80,8 @@ fn is_after_last_spot<N: Name>(last: &Option<Vec<DownStep<N>>>, up: &[DownStep<N
 // Clones of the spots.
 fn clone_spots<T: Tree>(
     alloc: Global,
-    spots: &[TreeNode<T, T::Name>],
-) -> Result<Vec<TreeNode<T, T::Name>>, NoMemory>
+    spots: &[TreeNode<T>],
+) -> Result<Vec<TreeNode<T>>, NoMemory>
     ensures { IfOk result (λ same. map (place_sight T.Name.bytes T.content) same.items ≡ map (place_sight T.Name.bytes T.content) spots.now) }
 {
     let mut same = Vec::with_capacity(alloc, spots.len())?;
@@ -94,8 +94,8 @@ fn clone_spots<T: Tree>(
 // The ascending indexes, from 0, of the nodes in `spots` whose location a node in `others` has.
 pub(crate) fn indexes_standing_among<T: Tree>(
     alloc: Global,
-    spots: &[TreeNode<T, T::Name>],
-    others: &[TreeNode<T, T::Name>],
+    spots: &[TreeNode<T>],
+    others: &[TreeNode<T>],
 ) -> Result<Vec<usize>, NoMemory>
     ensures { IfOk result (λ numbers. numbers.items ≡ numbers_where (λ l. list_any (is_same l) (once_in_order (map (place_location T.Name.bytes) others.now))) 0 (map (place_location T.Name.bytes) spots.now)) }
 {
@@ -121,8 +121,8 @@ fn push_index_if(passes: bool, number: usize, numbers: &mut Vec<usize>) -> Resul
 // The spots as a set in document order, each location once.
 fn ordered_spots<T: Tree>(
     alloc: Global,
-    spots: &[TreeNode<T, T::Name>],
-) -> Result<BTreeSet<OrderedSpot<T, T::Name>>, NoMemory>
+    spots: &[TreeNode<T>],
+) -> Result<BTreeSet<OrderedSpot<T>>, NoMemory>
     ensures order { IfOk result (λ placed. map (ordered_spot_location T.Name.bytes) placed.keys ≡ once_in_order (map (place_location T.Name.bytes) spots.now)) }
     ensures shown { IfOk result (λ placed. (doc : Document) (ls : List Location) → MarksStandAt true (place_location T.Name.bytes) (place_value T.content) doc ls spots.now → AllByRecursion (IsShownIn T.Name.bytes T.content doc) placed.keys) }
 {
@@ -136,8 +136,8 @@ fn ordered_spots<T: Tree>(
 // The nodes, in order, without each that is at or below the location of the node kept last.
 pub(crate) fn topmost_spots<T: Tree>(
     alloc: Global,
-    spots: &[TreeNode<T, T::Name>],
-) -> Result<Vec<TreeNode<T, T::Name>>, NoMemory>
+    spots: &[TreeNode<T>],
+) -> Result<Vec<TreeNode<T>>, NoMemory>
     ensures { IfOk result (λ found. MarksLeadBy true (place_location T.Name.bytes) (place_value T.content) (λ _ ls. topmost ls) spots.now found.items) }
 {
     let mut kept = Vec::new(alloc);
@@ -151,9 +151,9 @@ pub(crate) fn topmost_spots<T: Tree>(
 // Adds a spot to those kept, unless it stands at or below the last one kept, to which `last` has the steps.
 fn push_if_topmost<T: Tree>(
     alloc: Global,
-    spot: &TreeNode<T, T::Name>,
+    spot: &TreeNode<T>,
     last: &mut Option<Vec<DownStep<T::Name>>>,
-    kept: &mut Vec<TreeNode<T, T::Name>>,
+    kept: &mut Vec<TreeNode<T>>,
 ) -> Result<(), NoMemory>
     ensures last { OnOk result (last_location T.Name.bytes last.new ≡ (if is_at_or_below (last_location T.Name.bytes last.old) (place_location T.Name.bytes spot.now) then last_location T.Name.bytes last.old else Some (place_location T.Name.bytes spot.now))) }
     ensures kept { OnOk result (map (place_sight T.Name.bytes T.content) kept.new.items ≡ map (place_sight T.Name.bytes T.content) kept.old.items ++ (if is_at_or_below (last_location T.Name.bytes last.old) (place_location T.Name.bytes spot.now) then [] else place_sight T.Name.bytes T.content spot.now ∷ [])) }
@@ -178,17 +178,17 @@ fn is_at_or_below_last<N: Name>(last: &Option<Vec<DownStep<N>>>, up: &[DownStep<
 
 // A spot with the steps to it, the last one first, so that spots are ordered by their locations.
 #[derive(Drop)]
-pub struct OrderedSpot<T, N> {
-    pub(crate) up: Vec<DownStep<N>>,
-    pub(crate) spot: TreeNode<T, N>,
+pub struct OrderedSpot<T: Handle> {
+    pub(crate) up: Vec<DownStep<T::Name>>,
+    pub(crate) spot: TreeNode<T>,
 }
 
-impl<T: Tree> OrderedSpot<T, T::Name> {
+impl<T: Tree> OrderedSpot<T> {
     // A clone of the spot beside the steps to it, by which it is ordered.
     pub(crate) fn of_spot(
         alloc: Global,
-        spot: &TreeNode<T, T::Name>,
-    ) -> Result<OrderedSpot<T, T::Name>, NoMemory>
+        spot: &TreeNode<T>,
+    ) -> Result<OrderedSpot<T>, NoMemory>
         ensures location { IfOk result (λ placed. ordered_spot_location T.Name.bytes placed ≡ place_location T.Name.bytes spot.now) }
         ensures sight { IfOk result (λ placed. ordered_spot_sight T.Name.bytes T.content placed ≡ place_sight T.Name.bytes T.content spot.now) }
     {
@@ -200,40 +200,40 @@ impl<T: Tree> OrderedSpot<T, T::Name> {
     }
 }
 
-impl<T: Copy + Drop, N: Name> PartialEq for OrderedSpot<T, N> {
-    ghost eq = { on (ordered_spot_location N.bytes) (eq_by_cmp location_cmp) };
+impl<T: Handle> PartialEq for OrderedSpot<T> {
+    ghost eq = { on (ordered_spot_location T.Name.bytes) (eq_by_cmp location_cmp) };
 
-    ghost laws = { partial_equiv_from_equiv (eq_by_cmp_equiv (on_total (ordered_spot_location N.bytes) location_total)) };
+    ghost laws = { partial_equiv_from_equiv (eq_by_cmp_equiv (on_total (ordered_spot_location T.Name.bytes) location_total)) };
 
-    fn eq(&self, other: &OrderedSpot<T, N>) -> bool {
+    fn eq(&self, other: &OrderedSpot<T>) -> bool {
         compare_reversed_locations(self.up.as_slice(), other.up.as_slice()).is_eq()
     }
 }
 
-impl<T: Copy + Drop, N: Name> Eq for OrderedSpot<T, N> {
-    ghost laws = { eq_by_cmp_equiv (on_total (ordered_spot_location N.bytes) location_total) };
+impl<T: Handle> Eq for OrderedSpot<T> {
+    ghost laws = { eq_by_cmp_equiv (on_total (ordered_spot_location T.Name.bytes) location_total) };
 }
 
-impl<T: Copy + Drop, N: Name> PartialOrd for OrderedSpot<T, N> {
-    ghost partial_cmp = { as_partial_cmp (on (ordered_spot_location N.bytes) location_cmp) };
+impl<T: Handle> PartialOrd for OrderedSpot<T> {
+    ghost partial_cmp = { as_partial_cmp (on (ordered_spot_location T.Name.bytes) location_cmp) };
 
-    ghost laws = { partial_order_from_total (on_total (ordered_spot_location N.bytes) location_total) };
+    ghost laws = { partial_order_from_total (on_total (ordered_spot_location T.Name.bytes) location_total) };
 
-    fn partial_cmp(&self, other: &OrderedSpot<T, N>) -> Option<Ordering> {
+    fn partial_cmp(&self, other: &OrderedSpot<T>) -> Option<Ordering> {
         Some(compare_reversed_locations(self.up.as_slice(), other.up.as_slice()))
     }
 }
 
-impl<T: Copy + Drop, N: Name> Ord for OrderedSpot<T, N> {
-    ghost cmp = { on (ordered_spot_location N.bytes) location_cmp };
+impl<T: Handle> Ord for OrderedSpot<T> {
+    ghost cmp = { on (ordered_spot_location T.Name.bytes) location_cmp };
 
-    ghost total = { on_total (ordered_spot_location N.bytes) location_total };
+    ghost total = { on_total (ordered_spot_location T.Name.bytes) location_total };
 
     ghost matches_partial_cmp = { λ x y. refl };
 
     ghost matches_eq = { λ x y. refl };
 
-    fn cmp(&self, other: &OrderedSpot<T, N>) -> Ordering {
+    fn cmp(&self, other: &OrderedSpot<T>) -> Ordering {
         compare_reversed_locations(self.up.as_slice(), other.up.as_slice())
     }
 }
@@ -241,8 +241,8 @@ impl<T: Copy + Drop, N: Name> Ord for OrderedSpot<T, N> {
 // The spots of an ordered set, in document order, without the steps beside them.
 fn into_spots<T: Tree>(
     alloc: Global,
-    placed: BTreeSet<OrderedSpot<T, T::Name>>,
-) -> Result<Vec<TreeNode<T, T::Name>>, NoMemory>
+    placed: BTreeSet<OrderedSpot<T>>,
+) -> Result<Vec<TreeNode<T>>, NoMemory>
     ensures { IfOk result (λ found. map (place_sight T.Name.bytes T.content) found.items ≡ map (ordered_spot_sight T.Name.bytes T.content) placed.keys) }
 {
     let mut found = Vec::new(alloc);

@@ -172,7 +172,7 @@ impl<T: Tree> Mark for T {
 
 /// Implements the trait `Mark` (a node of a document) for `TreeNode`: such a node has its value and its location. The
 /// nodes of its children share the steps of its location instead of copying them.
-impl<T: Tree> Mark for TreeNode<T, T::Name> {
+impl<T: Tree> Mark for TreeNode<T> {
     ghost located = { true };
 
     ghost stand = { λ place. place_location T.Name.bytes place };
@@ -180,12 +180,12 @@ impl<T: Tree> Mark for TreeNode<T, T::Name> {
     ghost content = { λ place. place_value T.content place };
 
     #[inline(always)]
-    fn as_root(&self, _alloc: Global) -> TreeNode<T, T::Name> {
+    fn as_root(&self, _alloc: Global) -> TreeNode<T> {
         TreeNode::at_root(self.value)
     }
 
     #[inline(always)]
-    fn copy(&self) -> Result<TreeNode<T, T::Name>, NoMemory> {
+    fn copy(&self) -> Result<TreeNode<T>, NoMemory> {
         Ok(self.clone()?)
     }
 
@@ -203,7 +203,7 @@ impl<T: Tree> Mark for TreeNode<T, T::Name> {
         &self,
         alloc: Global,
         plain: &PlainStep<'_>,
-        out: &mut Vec<TreeNode<T, T::Name>>,
+        out: &mut Vec<TreeNode<T>>,
     ) -> Result<(), NoMemory> {
         children::add_selected_children(self, alloc, plain, out)
     }
@@ -213,7 +213,7 @@ impl<T: Tree> Mark for TreeNode<T, T::Name> {
         &self,
         alloc: Global,
         name: &str,
-        out: &mut Vec<TreeNode<T, T::Name>>,
+        out: &mut Vec<TreeNode<T>>,
     ) -> Result<(), NoMemory> {
         children::add_named_member(self, alloc, name, out)
     }
@@ -223,7 +223,7 @@ impl<T: Tree> Mark for TreeNode<T, T::Name> {
         &self,
         alloc: Global,
         plain: &PlainStep<'_>,
-        out: &mut Vec<TreeNode<T, T::Name>>,
+        out: &mut Vec<TreeNode<T>>,
     ) -> Result<(), NoMemory> {
         gather::add_selected_at_or_below(alloc, self, plain, out)
     }
@@ -232,7 +232,7 @@ impl<T: Tree> Mark for TreeNode<T, T::Name> {
     fn add_flattened(
         &self,
         alloc: Global,
-        out: &mut Vec<TreeNode<T, T::Name>>,
+        out: &mut Vec<TreeNode<T>>,
     ) -> Result<(), NoMemory> {
         candidates::add_flattened(alloc, self, out)
     }
@@ -241,7 +241,7 @@ impl<T: Tree> Mark for TreeNode<T, T::Name> {
     fn add_candidates_below(
         &self,
         alloc: Global,
-        out: &mut Vec<TreeNode<T, T::Name>>,
+        out: &mut Vec<TreeNode<T>>,
     ) -> Result<(), NoMemory> {
         candidates::add_candidates_below(alloc, self, out)
     }

@@ -20,7 +20,7 @@ use crate::step::descend::add_node_and_all_below;
 use crate::step::descends::DownStep;
 use crate::step::plain_step::PlainStep;
 use crate::tree::Tree;
-use crate::tree::name::Name;
+use crate::tree::name::{Handle, Name};
 use serde_json::Value;
 use std::alloc::{AllocError, Global};
 
@@ -53,19 +53,19 @@ pub enum PathStep<'a> {
 /// assert_eq!(rt; items.len(), 2);
 /// assert!(rt; items[1].location(alloc)?.to_string(alloc)?.as_str() == "$['a'][1]");
 /// ```
-pub type Spot<'a> = TreeNode<&'a Value, &'a String>;
+pub type Spot<'a> = TreeNode<&'a Value>;
 
-/// A node of a document of any `Tree`: `T`, the handle to its value, with its location. `N` is `T::Name`; with other types
-/// there are no methods. `Spot` is the node of a `serde_json` value.
+/// A node of a document of any `Tree`: `T`, the handle to its value, with its location. `Spot` is the node of a
+/// `serde_json` value.
 ///
 /// ```text
 /// let root = TreeNode::at_root(&document);
-/// assert!(rt; root.location_in(alloc)?.steps().is_empty());
+/// assert!(rt; root.location(alloc)?.steps().is_empty());
 /// ```
 #[derive(Drop)]
-pub struct TreeNode<T, N> {
+pub struct TreeNode<T: Handle> {
     pub(crate) value: T,
-    pub(crate) trail: Trail<N>,
+    pub(crate) trail: Trail<T::Name>,
 }
 
 /// The steps from the root to a node. A `for` loop goes through them from the root down, and `split_last` takes off the
@@ -81,8 +81,8 @@ pub struct Steps<'b, 'a> {
     pub(crate) path_to: PathTo<'b, &'a String>,
 }
 
-// A spot takes four words: a list of spots is copied as it grows.
-const _: () = prove!(size_of::<Spot<'static>>() <= 32);
+// A spot takes four words, three of them for its trail: a list of spots is copied as it grows.
+const _: () = prove!(size_of::<Trail<&'static String>>() <= 24);
 
 impl<'a> Spot<'a> {
     /// The root node of a document, with the whole document as its value. The call allocates no memory.
@@ -98,18 +98,6 @@ impl<'a> Spot<'a> {
         TreeNode::at_root(value)
     }
 
-    /// The value of the node, borrowed from the document.
-    ///
-    /// ```text
-    /// let root = Spot::root(alloc, &document);
-    /// assert!(rt; root.value().get("a").is_some());
-    /// ```
-    pub fn value(&self) -> &'a Value
-        ensures { document_of (view result.now) ≡ value_of self.now }
-    {
-        self.value
-    }
-
     /// The steps from the document's root to this node. The call allocates no memory.
     ///
     /// ```text
@@ -122,23 +110,6 @@ impl<'a> Spot<'a> {
         Steps {
             path_to: PathTo::Whole(&self.trail),
         }
-    }
-
-    /// The location of the node, copied into a `Location`. The only error is `NoMemory`.
-    ///
-    /// ```text
-    /// let document = read_document(alloc, br#"{"store": {"book": [{"price": 1995}]}}"#)?;
-    /// let path = compile_path(alloc, "$..price")?;
-    /// let spots = select_path(alloc, &document, &path)?;
-    /// assert_eq!(rt; spots.len(), 1);
-    /// let location = spots[0].location(alloc)?;
-    /// let text = location.to_string(alloc)?;
-    /// assert!(rt; text.as_str() == "$['store']['book'][0]['price']");
-    /// ```
-    pub fn location(&self, alloc: Global) -> Result<Location, NoMemory>
-        ensures { IfOk result (λ location. location ≡ location_of self.now) }
-    {
-        self.steps().to_location(alloc)
     }
 
     /// The children of this node, as nodes: items by index, members by their names' bytes; none if it is neither an
@@ -221,10 +192,10 @@ impl<'a> Spot<'a> {
 
 /// Clones a node: the clone has the same value and shares the steps of its location. `clone` returns a `Result`; it
 /// fails only if the reference count of these steps would overflow.
-impl<T: Tree> Clone for TreeNode<T, T::Name> {
+impl<T: Tree> Clone for TreeNode<T> {
     ghost is_clone = { λ place copy. place_sight T.Name.bytes T.content copy ≡ place_sight T.Name.bytes T.content place };
 
-    fn clone(&self) -> Result<TreeNode<T, T::Name>, AllocError> {
+    fn clone(&self) -> Result<TreeNode<T>, AllocError> {
         Ok(TreeNode {
             value: self.value,
             trail: clone_trail(&self.trail)?,
@@ -232,14 +203,14 @@ impl<T: Tree> Clone for TreeNode<T, T::Name> {
     }
 }
 
-impl<T: Tree> TreeNode<T, T::Name> {
+impl<T: Tree> TreeNode<T> {
     /// The root node of a document, with the whole document as its value. The call takes no memory.
     ///
     /// ```text
     /// let root = TreeNode::at_root(&document);
-    /// assert!(rt; root.handle().is_object());
+    /// assert!(rt; root.value().is_object());
     /// ```
-    pub fn at_root(value: T) -> TreeNode<T, T::Name>
+    pub fn at_root(value: T) -> TreeNode<T>
         ensures location { place_location T.Name.bytes result ≡ [] }
         ensures value { place_value T.content result ≡ T.content value }
     {
@@ -249,25 +220,30 @@ impl<T: Tree> TreeNode<T, T::Name> {
         }
     }
 
-    /// The node's value, as the tree's handle to it; of a `Spot` what `value` returns.
+    /// The value of the node: of a `Spot` a reference into the document, of a node of another tree its handle.
     ///
     /// ```text
-    /// let root = TreeNode::at_root(&document);
-    /// assert!(rt; root.handle().get("a").is_some());
+    /// let root = Spot::root(alloc, &document);
+    /// assert!(rt; root.value().get("a").is_some());
     /// ```
-    pub fn handle(&self) -> T
+    pub fn value(&self) -> T
         ensures { T.content result ≡ place_value T.content self.now }
     {
         self.value
     }
 
-    /// The location of the node, copied into a `Location`, as `Spot::location` does. The only error is `NoMemory`.
+    /// The location of the node, copied into a `Location`. The only error is `NoMemory`.
     ///
     /// ```text
-    /// let root = TreeNode::at_root(&document);
-    /// assert!(rt; root.location_in(alloc)?.to_string(alloc)?.as_str() == "$");
+    /// let document = read_document(alloc, br#"{"store": {"book": [{"price": 1995}]}}"#)?;
+    /// let path = compile_path(alloc, "$..price")?;
+    /// let spots = select_path(alloc, &document, &path)?;
+    /// assert_eq!(rt; spots.len(), 1);
+    /// let location = spots[0].location(alloc)?;
+    /// let text = location.to_string(alloc)?;
+    /// assert!(rt; text.as_str() == "$['store']['book'][0]['price']");
     /// ```
-    pub fn location_in(&self, alloc: Global) -> Result<Location, NoMemory>
+    pub fn location(&self, alloc: Global) -> Result<Location, NoMemory>
         ensures { IfOk result (λ location. location ≡ place_location T.Name.bytes self.now) }
     {
         location_of_path(alloc, PathTo::Whole(&self.trail))

@@ -17,7 +17,7 @@ use crate::tree::Tree;
 use std::alloc::Global;
 use std::rc::Rc;
 
-impl<T: Tree> Descends for TreeNode<T, T::Name> {
+impl<T: Tree> Descends for TreeNode<T> {
     type Tree = T;
 
     type Items = Rc<Trail<T::Name>>;
@@ -46,7 +46,7 @@ impl<T: Tree> Descends for TreeNode<T, T::Name> {
     }
 
     #[inline]
-    fn copy(&self) -> Result<TreeNode<T, T::Name>, NoMemory> {
+    fn copy(&self) -> Result<TreeNode<T>, NoMemory> {
         Ok(self.clone()?)
     }
 
@@ -66,7 +66,7 @@ impl<T: Tree> Descends for TreeNode<T, T::Name> {
         here: &Rc<Trail<T::Name>>,
         index: usize,
         value: T,
-        out: &mut Vec<TreeNode<T, T::Name>>,
+        out: &mut Vec<TreeNode<T>>,
     ) -> Result<(), NoMemory> {
         out.push(TreeNode {
             value,
@@ -81,7 +81,7 @@ impl<T: Tree> Descends for TreeNode<T, T::Name> {
         here: &HeldPathToContainer<T::Name>,
         name: T::Name,
         value: T,
-        out: &mut Vec<TreeNode<T, T::Name>>,
+        out: &mut Vec<TreeNode<T>>,
     ) -> Result<(), NoMemory> {
         out.push(TreeNode {
             value,
@@ -98,7 +98,7 @@ impl<T: Tree> Descends for TreeNode<T, T::Name> {
         alloc: Global,
         name: T::Name,
         value: T,
-        out: &mut Vec<TreeNode<T, T::Name>>,
+        out: &mut Vec<TreeNode<T>>,
     ) -> Result<(), NoMemory> {
         out.push(TreeNode {
             value,

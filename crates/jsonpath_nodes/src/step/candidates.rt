@@ -143,8 +143,8 @@ fn add_in_objects<M: Descends>(
 // The candidates of a filter with a relative query of at least one segment, found from these nodes, each location once.
 pub(crate) fn flattened_once<T: Tree>(
     alloc: Global,
-    places: &[TreeNode<T, T::Name>],
-) -> Result<Vec<TreeNode<T, T::Name>>, NoMemory>
+    places: &[TreeNode<T>],
+) -> Result<Vec<TreeNode<T>>, NoMemory>
     ensures { IfOk result (λ found. MarksLeadBy true (place_location T.Name.bytes) (place_value T.content) flattened places.now found.items) }
 {
     let found = flattened_from_each(alloc, places)?;
@@ -157,8 +157,8 @@ pub(crate) fn flattened_once<T: Tree>(
 // Those of a filter after `..`, each location once.
 pub(crate) fn candidates_below_once<T: Tree>(
     alloc: Global,
-    places: &[TreeNode<T, T::Name>],
-) -> Result<Vec<TreeNode<T, T::Name>>, NoMemory>
+    places: &[TreeNode<T>],
+) -> Result<Vec<TreeNode<T>>, NoMemory>
     ensures { IfOk result (λ found. MarksLeadBy true (place_location T.Name.bytes) (place_value T.content) (λ doc ls. flattened doc (step doc every (all_below doc ls))) places.now found.items) }
 {
     match places {
@@ -173,7 +173,7 @@ pub(crate) fn candidates_below_once<T: Tree>(
 // Whether the spots ascend in document order, none at or below another: no candidate is then found from two of them.
 fn are_ordered_and_disjoint<T: Tree>(
     alloc: Global,
-    spots: &[TreeNode<T, T::Name>],
+    spots: &[TreeNode<T>],
 ) -> Result<bool, NoMemory>
     ensures { IfOk result (λ apart. IsTrue apart → Ascend (map (place_location T.Name.bytes) spots.now)) }
 {
@@ -182,7 +182,7 @@ fn are_ordered_and_disjoint<T: Tree>(
     }
     let mut last: Option<Location> = None;
     for spot in spots {
-        let here = spot.location_in(alloc)?;
+        let here = spot.location(alloc)?;
         if !is_after_and_disjoint(&last, &here) {
             return Ok(false);
         }
@@ -221,14 +221,14 @@ fn first_difference_ascends(left: &[LocStep], right: &[LocStep]) -> bool
 // The first of the spots at each location, in their order.
 fn first_of_each_location<T: Tree>(
     alloc: Global,
-    spots: Vec<TreeNode<T, T::Name>>,
-) -> Result<Vec<TreeNode<T, T::Name>>, NoMemory>
+    spots: Vec<TreeNode<T>>,
+) -> Result<Vec<TreeNode<T>>, NoMemory>
     ensures { IfOk result (λ kept. MarksLeadBy true (place_location T.Name.bytes) (place_value T.content) (λ _ ls. each_once ls) spots.items kept.items) }
 {
     let mut seen = BTreeSet::new(alloc);
     let mut kept = Vec::new(alloc);
     for spot in spots {
-        let is_new = seen.insert(spot.location_in(alloc)?)?;
+        let is_new = seen.insert(spot.location(alloc)?)?;
         push_if_new(is_new, spot, &mut kept)?;
     }
     Ok(kept)
@@ -237,8 +237,8 @@ fn first_of_each_location<T: Tree>(
 // Adds a spot to those kept, if its location is new among them.
 fn push_if_new<T: Tree>(
     is_new: bool,
-    spot: TreeNode<T, T::Name>,
-    kept: &mut Vec<TreeNode<T, T::Name>>,
+    spot: TreeNode<T>,
+    kept: &mut Vec<TreeNode<T>>,
 ) -> Result<(), NoMemory>
     ensures { OnOk result (map (place_sight T.Name.bytes T.content) kept.new.items ≡ map (place_sight T.Name.bytes T.content) kept.old.items ++ (if is_new then place_sight T.Name.bytes T.content spot ∷ [] else [])) }
 {

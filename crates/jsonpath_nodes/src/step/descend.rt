@@ -13,6 +13,7 @@ use crate::memory::NoMemory;
 use crate::step::child_lookup::is_container;
 use crate::step::descends::{Descends, DownStep};
 use crate::tree::Tree;
+use crate::tree::name::Handle;
 use std::alloc::Global;
 
 // Adds a node and all below it, each value before its children.
@@ -53,7 +54,7 @@ fn add_all_under<M: Descends>(
 #[inline(always)]
 fn add_all_under_child<M: Descends>(
     value: M::Tree,
-    step: DownStep<<M::Tree as Tree>::Name>,
+    step: DownStep<<M::Tree as Handle>::Name>,
     way: &mut M::Way,
     out: &mut Vec<M>,
 ) -> Result<(), NoMemory>

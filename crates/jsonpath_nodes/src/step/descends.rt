@@ -8,6 +8,7 @@ ghost use Rattle.jsonpath_nodes.specs.plan.Way.{down_step, way_stand, AreSame, S
 
 use crate::memory::NoMemory;
 use crate::tree::Tree;
+use crate::tree::name::Handle;
 use std::alloc::Global;
 
 // A step down, to an item of an array or to a member of an object.
@@ -70,7 +71,7 @@ pub trait Descends: Drop + Sized {
     // Adds a member to a list.
     fn push_member(
         here: &Self::Members,
-        name: <Self::Tree as Tree>::Name,
+        name: <Self::Tree as Handle>::Name,
         value: Self::Tree,
         out: &mut Vec<Self>,
     ) -> Result<(), NoMemory>
@@ -80,7 +81,7 @@ pub trait Descends: Drop + Sized {
     fn push_single_member(
         &self,
         alloc: Global,
-        name: <Self::Tree as Tree>::Name,
+        name: <Self::Tree as Handle>::Name,
         value: Self::Tree,
         out: &mut Vec<Self>,
     ) -> Result<(), NoMemory>
@@ -93,7 +94,7 @@ pub trait Descends: Drop + Sized {
     // Goes on by a step.
     fn go_down(
         way: &mut Self::Way,
-        step: DownStep<<Self::Tree as Tree>::Name>,
+        step: DownStep<<Self::Tree as Handle>::Name>,
     ) -> Result<(), NoMemory>
         ensures start { OnOk result (start way.new ≡ start way.old) }
         ensures steps { OnOk result (AreSame located (steps way.new) (steps way.old ++ down_step Self.Tree.Name.bytes step ∷ [])) };

@@ -17,6 +17,7 @@ use crate::step::children::{add_selected_items, add_selected_members};
 use crate::step::descends::{Descends, DownStep};
 use crate::step::plain_step::PlainStep;
 use crate::tree::Tree;
+use crate::tree::name::Handle;
 use std::alloc::Global;
 
 // What a descent adds at each array and object. A type for each kind has the descent compiled for that kind alone.
@@ -166,7 +167,7 @@ pub(crate) fn add_at_or_below<M: Descends, G: Gathers>(
 #[inline(always)]
 fn add_at_or_below_child<M: Descends, G: Gathers>(
     value: M::Tree,
-    step: DownStep<<M::Tree as Tree>::Name>,
+    step: DownStep<<M::Tree as Handle>::Name>,
     way: &mut M::Way,
     what: &G,
     out: &mut Vec<M>,

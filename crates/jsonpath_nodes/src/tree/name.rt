@@ -1,4 +1,4 @@
-//! The names of members, as trees hand them out.
+//! The names of members, as a document stores them, and the handles to its values that have them.
 
 ghost use Rattle.std.specs.Prelude.{◌≡◌, List, ℕ, string_bytes};
 
@@ -34,4 +34,10 @@ impl<'a> Name for &'a str {
     fn as_text(&self) -> &str {
         self
     }
+}
+
+/// A trait: a small handle to a value of a document, which can be copied. What can be read through it, says `Tree`.
+pub trait Handle: Copy + Drop {
+    /// An associated type, chosen by the implementor: the name of a member of an object, as the document stores it.
+    type Name: Name;
 }

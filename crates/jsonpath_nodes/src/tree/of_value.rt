@@ -7,14 +7,17 @@ ghost use Rattle.jsonpath_nodes.specs.document.OfData.{document_of, items_docume
 use crate::compare::atom::Atom;
 use crate::memory::NoMemory;
 use crate::tree::Tree;
+use crate::tree::name::Handle;
 use jsonpath_paths::Decimal;
 use serde_json::{Map, Value};
 use std::alloc::Global;
 use std::collections::btree_map;
 
-impl<'a> Tree for &'a Value {
+impl<'a> Handle for &'a Value {
     type Name = &'a String;
+}
 
+impl<'a> Tree for &'a Value {
     type Array = &'a Vec<Value>;
 
     type Object = &'a Map<String, Value>;

@@ -4,11 +4,12 @@ ghost use Rattle.std.specs.Prelude.{◌≡◌, [], ◌∷◌, ◌++◌, map, IfO
 ghost use Rattle.std.specs.List.Sorted.{IsStrictlySortedBy};
 ghost use Rattle.jsonpath_nodes.specs.place.Location.{location_cmp};
 ghost use Rattle.jsonpath_nodes.specs.place.Order.{once_in_order};
-ghost use Rattle.jsonpath_nodes.specs.place.SpotPlace.{location_of};
+ghost use Rattle.jsonpath_nodes.specs.place.SpotPlace.{place_location};
 
 use crate::memory::NoMemory;
 use crate::place::location::Location;
-use crate::place::spot::Spot;
+use crate::place::spot::TreeNode;
+use crate::tree::Tree;
 use std::alloc::Global;
 use std::collections::BTreeSet;
 
@@ -21,13 +22,16 @@ use std::collections::BTreeSet;
 /// let locations = compute_paths(alloc, spots.as_slice())?;
 /// assert_eq!(rt; locations.len(), 5);
 /// ```
-pub fn compute_paths(alloc: Global, spots: &[Spot<'_>]) -> Result<Vec<Location>, NoMemory>
-    ensures once { IfOk result (λ paths. paths.items ≡ once_in_order (map location_of spots.now)) }
+pub fn compute_paths<T: Tree>(
+    alloc: Global,
+    spots: &[TreeNode<T>],
+) -> Result<Vec<Location>, NoMemory>
+    ensures once { IfOk result (λ paths. paths.items ≡ once_in_order (map (place_location T.Name.bytes) spots.now)) }
     ensures ordered { IfOk result (λ paths. IsStrictlySortedBy location_cmp paths.items) }
 {
     let mut found = Vec::new(alloc);
     for (i, spot) in spots.iter().enumerate() {
-        let location = spot.steps().to_location(alloc)?;
+        let location = spot.location(alloc)?;
         if !is_after_last_location(found.as_slice(), &location) {
             let paths = collect_in_document_order(alloc, found, &spots[i..])?;
             return Ok(paths);
@@ -48,19 +52,19 @@ fn is_after_last_location(found: &[Location], location: &Location) -> bool
 }
 
 // The locations found and those of the spots, each once, in document order.
-fn collect_in_document_order(
+fn collect_in_document_order<T: Tree>(
     alloc: Global,
     found: Vec<Location>,
-    spots: &[Spot<'_>],
+    spots: &[TreeNode<T>],
 ) -> Result<Vec<Location>, NoMemory>
-    ensures { IfOk result (λ paths. paths.items ≡ once_in_order (found.items ++ map location_of spots.now)) }
+    ensures { IfOk result (λ paths. paths.items ≡ once_in_order (found.items ++ map (place_location T.Name.bytes) spots.now)) }
 {
     let mut seen = BTreeSet::new(alloc);
     for location in found {
         seen.insert(location)?;
     }
     for spot in spots {
-        seen.insert(spot.steps().to_location(alloc)?)?;
+        seen.insert(spot.location(alloc)?)?;
     }
     Ok(seen.into_iter().collect(alloc)?)
 }

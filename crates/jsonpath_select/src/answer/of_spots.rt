@@ -27,13 +27,13 @@ pub(crate) fn locations_of_selected_spots(
 // The values at the nodes that a path has selected in a tree, in their order, with their repeats.
 pub(crate) fn values_of_selected_nodes<T: Tree>(
     alloc: Global,
-    nodes: &[TreeNode<T, T::Name>],
+    nodes: &[TreeNode<T>],
 ) -> Result<Vec<T>, NoMemory>
     ensures { IfOk result (λ found. (text : List ℕ) (doc : Document) → SelectsNodes T.Name.bytes T.content text doc nodes.now → Selects text doc (map T.content found.items)) }
 {
     let mut found = Vec::new(alloc);
     for node in nodes {
-        found.push(node.handle())?;
+        found.push(node.value())?;
     }
     Ok(found)
 }

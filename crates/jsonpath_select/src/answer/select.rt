@@ -114,13 +114,13 @@ pub fn select_in_tree<T: Tree>(
 /// let document = read_document(alloc, b"[1, 2, 3]")?;
 /// let path = compile_path(alloc, "$[2]")?;
 /// let nodes = select_nodes_in_tree(alloc, &document, &path)?;
-/// assert!(rt; nodes[0].location_in(alloc)?.to_string(alloc)?.as_str() == "$[2]");
+/// assert!(rt; nodes[0].location(alloc)?.to_string(alloc)?.as_str() == "$[2]");
 /// ```
 pub fn select_nodes_in_tree<T: Tree>(
     alloc: Global,
     root: T,
     path: &PathParser<'_>,
-) -> Result<Vec<TreeNode<T, T::Name>>, T::Error>
+) -> Result<Vec<TreeNode<T>>, T::Error>
     ensures { IfOk result (λ found. SelectsNodes T.Name.bytes T.content path.now (T.content root) found.items) }
 {
     nodes_by_parts(alloc, root, path.parts())
@@ -132,7 +132,7 @@ fn nodes_by_tokens<T: Tree>(
     root: T,
     text: &str,
     tokens: &[ParseToken],
-) -> Result<Vec<TreeNode<T, T::Name>>, T::Error>
+) -> Result<Vec<TreeNode<T>>, T::Error>
     requires { IsSomePath text.now tokens.now }
     ensures { IfOk result (λ found. (p : Path) → IsListOf text.now p tokens.now → MarksStandAt true (place_location T.Name.bytes) (place_value T.content) (T.content root) (sel text.now (T.content root) p) found.items) }
 {
@@ -150,7 +150,7 @@ pub(crate) fn nodes_by_parts<T: Tree>(
     alloc: Global,
     root: T,
     path: PathParts<'_>,
-) -> Result<Vec<TreeNode<T, T::Name>>, T::Error>
+) -> Result<Vec<TreeNode<T>>, T::Error>
     requires { ArePartsOf path.text.now path }
     ensures { IfOk result (λ found. SelectsNodes T.Name.bytes T.content path.entry.text.now (T.content root) found.items) }
 {

@@ -131,7 +131,7 @@ fn nodes_of_a_tree(rt: HostRuntime) {
             if !shown.is_empty() {
                 shown.push(' ').expect(&rt, "memory");
             }
-            let location = node.location_in(alloc).expect(&rt, "a location");
+            let location = node.location(alloc).expect(&rt, "a location");
             let text = location.to_string(alloc).expect(&rt, "a text");
             shown.push_str(text.as_str()).expect(&rt, "memory");
         }

@@ -14,9 +14,9 @@ loop-spot-init g c = record {
 pub loop-spot-preserved : goal.loop-spot-preserved
 loop-spot-preserved g c =
     let s = c.in-Some.spot in
-    let k = c.in_ok-location_in.field-0 in
+    let k = c.in_ok-location.field-0 in
     let kept = c.loop-spot.kept.items in
-    let here : k ≡ place_location g.T.Name.Name.bytes s = c.in_ok-location_in.ensures in
+    let here : k ≡ place_location g.T.Name.Name.bytes s = c.in_ok-location.ensures in
     let test : c.in_ok-is_new.is_new ≡ not (list_any (is_same (place_location g.T.Name.Name.bytes s)) (places g.T.Name.Name.bytes g.T.Tree.content kept)) =
     c.in_ok-is_new.ensures.added ∙ ap not (c.loop-spot.invariant.held k ∙ ap (λ (m : Location). list_any (is_same m) (places g.T.Name.Name.bytes g.T.Tree.content kept)) here) in
     record {

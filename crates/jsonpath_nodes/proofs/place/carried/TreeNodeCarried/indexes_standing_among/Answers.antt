@@ -4,7 +4,7 @@ use Rattle.jsonpath_nodes.specs.place.Location.{Location, is_same}
 use Rattle.jsonpath_nodes.specs.place.NumbersWhere.{numbers_where}
 use Rattle.jsonpath_nodes.specs.place.Order.{once_in_order}
 use Rattle.jsonpath_nodes.proofs.place.OrderedSpotLemmas.{locations-StandAt}
-use Rattle.jsonpath_nodes.proofs.place.carried.TreeNodeNameCarried.indexes_standing_among.Goals as goal
+use Rattle.jsonpath_nodes.proofs.place.carried.TreeNodeCarried.indexes_standing_among.Goals as goal
 
 pub returns : goal.returns
 returns g c = λ doc ls ms here others.

@@ -2,7 +2,7 @@ use Rattle.std.proofs.Common.{◌≡◌, ◌-◌, List, map, length, take, vec_l
 use Rattle.std.proofs.lemmas.List.{length-map, take-map}
 use Rattle.jsonpath_nodes.specs.place.Location.{Location, Step}
 use Rattle.jsonpath_nodes.specs.plan.Way.{down_step, without_last}
-use Rattle.jsonpath_nodes.proofs.place.spot_nodes.TreeNodeNameDescends.go_back.Goals as goal
+use Rattle.jsonpath_nodes.proofs.place.spot_nodes.TreeNodeDescends.go_back.Goals as goal
 
 pub returns-clause-steps : goal.returns-clause-steps
 returns-clause-steps g c =
