@@ -17,7 +17,6 @@ use Rattle.jsonpath_nodes.specs.document.OfData.{document_of, items_of, members_
 use Rattle.jsonpath_nodes.specs.place.Location.{Step, name, index, Location, child}
 use Rattle.jsonpath_nodes.specs.place.Location as location
 use Rattle.jpath_edits.specs.ExactAt.{exact_child, exact_at}
-use Rattle.jpath_core.specs.Images.{ImageStandsAt}
 
 abbrev pub pick : {A : Type 0} → A → Option A → A
 pick d None = d
@@ -166,6 +165,10 @@ through l (Some j) None e further = absurd (cc)
 through l (Some j) (Some d) e further =
     let read = mapped_some document_of (of_json j) d (ap (pick (Some d)) e) in
     further j read.0 read.1 ∙ ap (λ c. option_map Some (location.at c l)) (sym read.2)
+
+-- where something stands in the tree, its image stands in the other, and nothing where nothing stands
+abbrev pub ImageStandsAt : Json → Data → Location → Type 0
+ImageStandsAt j d l = option_map document_read (exact_at j l) ≡ option_map Some (location.at (document_of d) l)
 
 pub location_carries : (l : Location) (j : Json) (d : Data) → of_json j ≡ Some d → ImageStandsAt j d l
 location_carries [] j d e = ap (λ o. Some (option_map document_of o)) e

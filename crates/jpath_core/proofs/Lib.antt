@@ -1,8 +1,8 @@
 pub mod CarryLemmas
+pub mod DocumentLemmas
 pub mod EditLemmas
 pub mod LineLemmas
 mod RowLemmas
 mod TurnLemmas
-pub mod RenumberedLemmas
 pub mod ExactTreeLemmas
 pub mod WalkLemmas

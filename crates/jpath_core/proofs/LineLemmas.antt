@@ -1,13 +1,13 @@
 -- Where what is selected stands, and that it can be written.
-use Rattle.std.proofs.Common.{◌≡◌, List, [], ◌∷◌, map, Option, Some, None, option_and_then, sym, refl, ap, subst, ◌∙◌}
+use Rattle.std.proofs.Common.{◌≡◌, List, [], ◌∷◌, true, map, Option, Some, None, option_and_then, sym, refl, ap, subst, ◌∙◌}
 use Rattle.json.specs.Json.{Json}
 use Rattle.json.specs.Tree.{HasNumbers}
 use Rattle.json.proofs.Numbered.{HasNumbers-at, HasNumbers-get}
 use Rattle.jsonpath_nodes.specs.document.Document.{Document}
 use Rattle.jsonpath_nodes.specs.place.Location.{Step, name, index, Location}
-use Rattle.jsonpath_nodes.specs.place.SpotPlace.{look, sight_of, location_of, StandAt}
-use Rattle.jsonpath_nodes.specs.place.SpotPlace.{Spot}
+use Rattle.jsonpath_nodes.specs.place.Mark.{look_kept, shown, MarksStandAt}
 use Rattle.jpath_edits.specs.ExactAt.{exact_child, exact_at}
+use Rattle.jpath_core.specs.Nodes.{Node, location_of, value_of}
 
 -- ---- what is selected can be written
 
@@ -28,15 +28,15 @@ has_numbers_at [] j part h e = subst HasNumbers (ap (some_or j) (sym e)) h
     some_or d (Some k) = k
 has_numbers_at (s ∷ l) j part h e = numbers_through (exact_child s j) l part (λ k. child_has_numbers s j k h) (λ k. has_numbers_at l k part) e
 
--- ---- where spots stand
+-- ---- where nodes stand
 
-spots_first : (spots : List Spot) → map (λ p. p.0) (map sight_of spots) ≡ map location_of spots
-spots_first [] = refl
-spots_first (s ∷ spots) = ap (λ ls. location_of s ∷ ls) (spots_first spots)
+nodes_first : (nodes : List Node) → map (λ p. p.0) (map (shown location_of value_of) nodes) ≡ map location_of nodes
+nodes_first [] = refl
+nodes_first (n ∷ nodes) = ap (λ ls. location_of n ∷ ls) (nodes_first nodes)
 
-looked_first : (doc : Document) (ls : List Location) → map (λ p. p.0) (map (look doc) ls) ≡ ls
+looked_first : (doc : Document) (ls : List Location) → map (λ p. p.0) (map (look_kept true doc) ls) ≡ ls
 looked_first doc [] = refl
 looked_first doc (l ∷ ls) = ap (λ ms. l ∷ ms) (looked_first doc ls)
 
-pub locations_of : (doc : Document) (ls : List Location) (spots : List Spot) → StandAt doc ls spots → map location_of spots ≡ ls
-locations_of doc ls spots e = sym (spots_first spots) ∙ ap (map (λ p. p.0)) e ∙ looked_first doc ls
+pub locations_of : (doc : Document) (ls : List Location) (nodes : List Node) → MarksStandAt true location_of value_of doc ls nodes → map location_of nodes ≡ ls
+locations_of doc ls nodes e = sym (nodes_first nodes) ∙ ap (map (λ p. p.0)) e ∙ looked_first doc ls

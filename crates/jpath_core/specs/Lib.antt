@@ -1,7 +1,7 @@
 pub mod AlongExactTree
 pub mod Edited
-pub mod Images
+pub mod Documents
 pub mod Matches
+pub mod Nodes
 pub mod Printable
-pub mod Renumbered
 pub mod Rows

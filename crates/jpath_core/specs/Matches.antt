@@ -1,11 +1,7 @@
 -- What is written for the matches of a path in one document.
 use Rattle.std.specs.Prelude.{◌≡◌, ℕ, ◌-◌, ◌^◌, min, Bool, true, false, if◌then◌else◌, List, [], ◌∷◌, ◌++◌, flat_map, filter_map, length, Option, Some, None}
 use Rattle.json.specs.Json.{Json}
-use Rattle.json.specs.Value.{value_view}
-use Rattle.serde_json.specs.Data.{Data}
-use Rattle.serde_json.specs.View.{view}
 use Rattle.jsonpath_paths.specs.tree.Tree.{Path}
-use Rattle.jsonpath_nodes.specs.document.OfData.{document_of}
 use Rattle.jsonpath_nodes.specs.place.Location.{Location}
 use Rattle.jsonpath_nodes.specs.place.LocationText.{location_text}
 use Rattle.jsonpath_select.specs.Meaning.{sel, SelectsAt}
@@ -14,8 +10,7 @@ use Rattle.jpath_core.specs.Printable.{printable}
 use Rattle.jpath_texts.specs.AtDepth.{arranged, array_item, array_end, comma_and_indent, is_compact}
 use Rattle.jpath_texts.specs.Entries.{entry_lines, length_of, length_value}
 use Rattle.jpath_texts.specs.Lines.{compact, on_line, shown, with_members_kept}
-use Rattle.jpath_texts.specs.NumberPlaces.{is_as_read}
-use Rattle.jpath_texts.specs.declared.document.Document.{Document}
+use Rattle.jpath_texts.specs.ExactDocument.{exact_document}
 use Rattle.jpath_texts.specs.declared.output.match_line.Line.{Line}
 use Rattle.jpath_texts.specs.declared.output.match_line.Shown.{Shown}
 use Rattle.jpath_texts.specs.declared.output.match_line.Shown.TheVariants.{Values, Places, PlacesAndValues, Keys, Entries, Lengths}
@@ -44,29 +39,29 @@ abbrev pub lines_text : Line → Json → List Location → List ℕ
 lines_text line j ls = flat_map (λ l. match_text_if line l (exact_at j l)) ls
 
 -- the lines of what the path selects went behind what was there
-pub record AddsMatches (spelled : List ℕ) (line : Line) (exact : Json) (image : Data) (before after : List ℕ) (count : ℕ) (p : Path) : Type 0 where
-  pub written : after ≡ before ++ lines_text line exact (sel spelled (document_of image) p)
-  pub counted : count ≡ length (sel spelled (document_of image) p)
+pub record AddsMatches (spelled : List ℕ) (line : Line) (exact : Json) (before after : List ℕ) (count : ℕ) (p : Path) : Type 0 where
+  pub written : after ≡ before ++ lines_text line exact (sel spelled (exact_document exact) p)
+  pub counted : count ≡ length (sel spelled (exact_document exact) p)
 
 -- ---- several paths
 
 -- what several paths select: the locations of the first path, then those of the second, and so on, with repeats
-pub data SelectInTurn (image : Data) : List Query → List Location → Type 0 where
-  nothing : SelectInTurn image [] []
-  path_first : {query : Query} {queries : List Query} {first others : List Location} → SelectsAt query.path (document_of image) first → SelectInTurn image queries others
-      → SelectInTurn image (query ∷ queries) (first ++ others)
+pub data SelectInTurn (exact : Json) : List Query → List Location → Type 0 where
+  nothing : SelectInTurn exact [] []
+  path_first : {query : Query} {queries : List Query} {first others : List Location} → SelectsAt query.path (exact_document exact) first → SelectInTurn exact queries others
+      → SelectInTurn exact (query ∷ queries) (first ++ others)
 
 -- the number of locations that the paths select, or the greatest `usize`
-pub record IsCountOf (queries : List Query) (image : Data) (count : ℕ) : Type 0 where
+pub record IsCountOf (queries : List Query) (exact : Json) (count : ℕ) : Type 0 where
   pub locations : List Location
-  pub in_turn : SelectInTurn image queries locations
+  pub in_turn : SelectInTurn exact queries locations
   pub counted : count ≡ min (length locations) (2 ^ 64 - 1)
 
--- The values stand in the document at locations that were selected. Where numbers are compared as they are read, the paths select these.
-pub record AreSelected (queries : List Query) (document : Document) (values : List Json) : Type 0 where
+-- the values stand in the tree at the locations that the paths select
+pub record AreSelected (queries : List Query) (exact : Json) (values : List Json) : Type 0 where
   pub locations : List Location
-  pub in_turn : is_as_read document.numbers ≡ true → SelectInTurn (view document.image) queries locations
-  pub there : values ≡ filter_map (exact_at (value_view document.exact)) locations
+  pub in_turn : SelectInTurn exact queries locations
+  pub there : values ≡ filter_map (exact_at exact) locations
 
 -- an item of an array as a look has it, behind a comma or not; compact where the look is
 abbrev pub item_text : Bool → Look → Json → List ℕ
@@ -78,8 +73,8 @@ items_text has_items look [] = array_end has_items look
 items_text has_items look (j ∷ js) = item_text has_items look j ++ items_text true look js
 
 -- a line with one array of what the paths select went behind what was there
-pub record AddsArray (queries : List Query) (line : Line) (document : Document) (before after : List ℕ) (count : ℕ) : Type 0 where
+pub record AddsArray (queries : List Query) (line : Line) (exact : Json) (before after : List ℕ) (count : ℕ) : Type 0 where
   pub values : List Json
-  pub selected : AreSelected queries document values
+  pub selected : AreSelected queries exact values
   pub written : after ≡ before ++ on_line line (91 ∷ items_text false line.look values)
   pub counted : count ≡ length values

@@ -1,17 +1,13 @@
 -- What is written for the rows of a table.
 use Rattle.std.specs.Prelude.{◌≡◌, ℕ, true, false, List, [], ◌∷◌, ◌++◌, length, Option, Some, None}
 use Rattle.json.specs.Json.{Json}
-use Rattle.json.specs.Value.{value_view}
-use Rattle.serde_json.specs.View.{view}
 use Rattle.jsonpath_paths.specs.OfPath.{OfPath}
-use Rattle.jsonpath_nodes.specs.document.Document.{Document as Image}
-use Rattle.jsonpath_nodes.specs.document.OfData.{document_of}
-use Rattle.jsonpath_nodes.specs.place.Location.{Location, at}
+use Rattle.jsonpath_nodes.specs.place.Location.{Location}
 use Rattle.jsonpath_select.specs.Meaning.{sel, SelectsAt}
 use Rattle.jpath_edits.specs.ExactAt.{exact_at}
+use Rattle.jpath_texts.specs.ExactDocument.{exact_document}
 use Rattle.jpath_texts.specs.Lines.{shown}
 use Rattle.jpath_texts.specs.Rows.{row_line}
-use Rattle.jpath_texts.specs.declared.document.Document.{Document}
 use Rattle.jpath_texts.specs.declared.output.csv_and_tsv.Separated.{Separated}
 use Rattle.jpath_texts.specs.declared.output.look.Layout.TheVariants.{OneLine}
 use Rattle.jpath_texts.specs.declared.output.look.Look.{Look}
@@ -31,36 +27,34 @@ first_field exact [] = []
 first_field exact (l ∷ ls) = field_if (exact_at exact l)
 
 -- the field of a column: of the first value that the column's path selects with the row's value as root, or nothing
-abbrev pub IsField : Json → Image → Query → List ℕ → Type 0
-IsField exact image column field = OfPath column.path (λ path. field ≡ first_field exact (sel column.path image path))
+abbrev pub IsField : Json → Query → List ℕ → Type 0
+IsField exact column field = OfPath column.path (λ path. field ≡ first_field exact (sel column.path (exact_document exact) path))
 
 -- a field for each column
-pub data AreFields (exact : Json) (image : Image) : List Query → List (List ℕ) → Type 0 where
-  no_fields : AreFields exact image [] []
-  field_first : {column : Query} {columns : List Query} {field : List ℕ} {fields : List (List ℕ)} → IsField exact image column field → AreFields exact image columns fields
-      → AreFields exact image (column ∷ columns) (field ∷ fields)
+pub data AreFields (exact : Json) : List Query → List (List ℕ) → Type 0 where
+  no_fields : AreFields exact [] []
+  field_first : {column : Query} {columns : List Query} {field : List ℕ} {fields : List (List ℕ)} → IsField exact column field → AreFields exact columns fields → AreFields exact (column ∷ columns) (field ∷ fields)
 
 -- the row of the value at a location, if one is there
-pub data IsRowAt (exact : Json) (columns : List Query) (separated : Separated) (l : Location) (image : Image) : List ℕ → Type 0 where
-  row : {value : Json} {fields : List (List ℕ)} → exact_at exact l ≡ Some value → AreFields value image columns fields → IsRowAt exact columns separated l image (row_line separated fields)
-  no_row : exact_at exact l ≡ None → IsRowAt exact columns separated l image []
+pub data IsRowAt (exact : Json) (columns : List Query) (separated : Separated) (l : Location) : List ℕ → Type 0 where
+  row : {value : Json} {fields : List (List ℕ)} → exact_at exact l ≡ Some value → AreFields value columns fields → IsRowAt exact columns separated l (row_line separated fields)
+  no_row : exact_at exact l ≡ None → IsRowAt exact columns separated l []
 
-pub record AddsRow (exact : Json) (columns : List Query) (separated : Separated) (l : Location) (image : Image) (before after : List ℕ) : Type 0 where
+pub record AddsRow (exact : Json) (columns : List Query) (separated : Separated) (l : Location) (before after : List ℕ) : Type 0 where
   pub text : List ℕ
-  pub is_row : IsRowAt exact columns separated l image text
+  pub is_row : IsRowAt exact columns separated l text
   pub written : after ≡ before ++ text
 
 -- the rows of the values at these locations, in their order
-pub data AreRowsAt (document : Document) (columns : List Query) (separated : Separated) : List Location → List ℕ → Type 0 where
-  no_rows : AreRowsAt document columns separated [] []
-  row_first : {l : Location} {ls : List Location} {image : Image} {text more : List ℕ} → at (document_of (view document.image)) l ≡ Some image
-      → IsRowAt (value_view document.exact) columns separated l image text → AreRowsAt document columns separated ls more → AreRowsAt document columns separated (l ∷ ls) (text ++ more)
+pub data AreRowsAt (exact : Json) (columns : List Query) (separated : Separated) : List Location → List ℕ → Type 0 where
+  no_rows : AreRowsAt exact columns separated [] []
+  row_first : {l : Location} {ls : List Location} {text more : List ℕ} → IsRowAt exact columns separated l text → AreRowsAt exact columns separated ls more → AreRowsAt exact columns separated (l ∷ ls) (text ++ more)
 
 -- the rows of what the path selects went behind what was there
-pub record AddsRows (path : List ℕ) (columns : List Query) (separated : Separated) (document : Document) (before after : List ℕ) (count : ℕ) : Type 0 where
+pub record AddsRows (path : List ℕ) (columns : List Query) (separated : Separated) (exact : Json) (before after : List ℕ) (count : ℕ) : Type 0 where
   pub locations : List Location
-  pub selected : SelectsAt path (document_of (view document.image)) locations
+  pub selected : SelectsAt path (exact_document exact) locations
   pub text : List ℕ
-  pub rows : AreRowsAt document columns separated locations text
+  pub rows : AreRowsAt exact columns separated locations text
   pub written : after ≡ before ++ text
   pub counted : count ≡ length locations

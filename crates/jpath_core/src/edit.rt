@@ -2,22 +2,16 @@
 
 ghost use Rattle.std.specs.Prelude.{◌≡◌, true, Some, IfOk};
 ghost use Rattle.std.specs.List.Sorted.{IsStrictlySortedBy};
-ghost use Rattle.serde_json.specs.Data.{Data};
-ghost use Rattle.serde_json.specs.Read.{read};
-ghost use Rattle.serde_json.specs.View.{view};
-ghost use Rattle.jsonpath_nodes.specs.document.OfData.{document_of};
+ghost use Rattle.json.specs.Value.{value_view};
 ghost use Rattle.jsonpath_nodes.specs.place.Location.{location_cmp};
 ghost use Rattle.jsonpath_select.specs.Targets.{AreTargets};
-ghost use Rattle.jpath_texts.specs.NumberPlaces.{is_as_read};
+ghost use Rattle.jpath_texts.specs.ExactDocument.{exact_document};
 ghost use Rattle.jpath_edits.specs.Changed.{put_by, IsSpliced};
-ghost use Rattle.jpath_core.specs.Edited.{IsEdited, IsEditedAt, HasImage};
+ghost use Rattle.jpath_core.specs.Edited.{IsEditedAt};
 
 use crate::selection::select_in_document;
-use jpath_edits::{
-    Change, are_bytes_of_changed_document, changed_text, locations_below_root, serde_value_of_text,
-};
+use jpath_edits::{Change, are_bytes_of_changed_document, changed_text, locations_below_root};
 use jpath_texts::{Document, DocumentRefusal, Query};
-use jsonpath_nodes::laws::spots_show_their_locations;
 use jsonpath_nodes::{Location, compute_paths};
 use std::alloc::Global;
 
@@ -48,24 +42,17 @@ pub struct Edited {
 pub fn edit_text(
     alloc: Global,
     text: &str,
-    document: Document<'_>,
+    document: &Document<'_>,
     query: &Query<'_>,
     change: Change<'_>,
 ) -> Result<Edited, DocumentRefusal>
     ensures bytes { IfOk result (λ edited. IsSpliced (put_by change.entry) text.now edited.text.items) }
-    ensures reads { HasImage text.now document.entry → IfOk result (λ edited. (before : Data) → read text.now ≡ Some before
-        → IsEdited query.now.path change.entry (is_as_read document.entry.numbers) before edited.text.items) }
-    ensures targets { IfOk result (λ edited. IsEditedAt query.now.path change.entry document.entry text.now edited.text.items) }
+    ensures targets { IfOk result (λ edited. IsEditedAt query.now.path change.entry (value_view document.now.exact) text.now edited.text.items) }
 {
-    let places = select_locations_in_document_order(alloc, &document, query)?;
+    let places = select_locations_in_document_order(alloc, document, query)?;
     let all = places.as_slice();
-    let written = changed_text(alloc, text, &document.exact, all, change)?;
-    let image = if document.numbers.is_as_read() {
-        Some(document.image)
-    } else {
-        serde_value_of_text(alloc, text)?
-    };
-    if !are_bytes_of_changed_document(alloc, text, image, all, change, written.as_slice())? {
+    let written = changed_text(alloc, text, document.exact(), all, change)?;
+    if !are_bytes_of_changed_document(alloc, text, all, change, written.as_slice())? {
         return Err(DocumentRefusal::EditDiffers);
     }
     let targets = locations_below_root(all).len();
@@ -82,13 +69,9 @@ pub(crate) fn select_locations_in_document_order(
     document: &Document<'_>,
     query: &Query<'_>,
 ) -> Result<Vec<Location>, DocumentRefusal>
-    ensures targets { is_as_read document.now.numbers ≡ true → IfOk result (λ places. AreTargets query.now.path (document_of (view document.now.image)) places.items) }
+    ensures targets { IfOk result (λ places. AreTargets query.now.path (exact_document (value_view document.now.exact)) places.items) }
     ensures ordered { IfOk result (λ places. IsStrictlySortedBy location_cmp places.items) }
 {
-    spots_show_their_locations();
-    let spots = select_in_document(alloc, document, query)?;
-    match compute_paths(alloc, spots.as_slice()) {
-        Ok(places) => Ok(places),
-        Err(_) => Err(DocumentRefusal::OutOfMemory),
-    }
+    let nodes = select_in_document(alloc, document, query)?;
+    Ok(compute_paths(alloc, nodes.as_slice())?)
 }

@@ -36,16 +36,16 @@ pub struct NewMember<'m> {
 pub fn add_member_text(
     alloc: Global,
     text: &str,
-    document: Document<'_>,
+    document: &Document<'_>,
     query: &Query<'_>,
     member: &NewMember<'_>,
 ) -> Result<Edited, DocumentRefusal>
-    ensures { IfOk result (λ edited. IsMemberPut query.now.path member.now document.entry text.now edited.text.items) }
+    ensures { IfOk result (λ edited. IsMemberPut query.now.path member.now (value_view document.now.exact) text.now edited.text.items) }
 {
-    if count_matches_of_path(alloc, &document, query)? > 0 {
+    if count_matches_of_path(alloc, document, query)? > 0 {
         return edit_text(alloc, text, document, query, Change::Put(member.value));
     }
-    make_member_text(alloc, text, &document, member)
+    make_member_text(alloc, text, document, member)
 }
 
 // The text of a document in which a growth is made at these places, or `None` where it can't be made.
@@ -59,7 +59,7 @@ fn text_with_growth(
     requires { CanBeWritten growth.now }
     ensures { IfOk result (λ found. IfSome found (λ edited. IsGrownAt growth.now (value_view document.now.exact) places.now text.now edited.text.items)) }
 {
-    match grown_text(alloc, text, &document.exact, places, growth)? {
+    match grown_text(alloc, text, document.exact(), places, growth)? {
         Some(grown) => Ok(Some(Edited {
             text: grown.text,
             targets: grown.count,
@@ -102,7 +102,7 @@ pub fn append_text(
     query: &Query<'_>,
     value: &str,
 ) -> Result<Edited, DocumentRefusal>
-    ensures { IfOk result (λ edited. IsAppended query.now.path value.now document.now text.now edited.text.items) }
+    ensures { IfOk result (λ edited. IsAppended query.now.path value.now (value_view document.now.exact) text.now edited.text.items) }
 {
     let places = select_locations_in_document_order(alloc, document, query)?;
     let mut scratch = Scratch::new(alloc);
@@ -128,7 +128,7 @@ pub fn rename_text(
     old: &str,
     new: &str,
 ) -> Result<Option<Edited>, DocumentRefusal>
-    ensures { IfOk result (λ found. IfSome found (λ edited. IsGrownByPath query.now.path (Name old.entry new.entry) document.now text.now edited.text.items)) }
+    ensures { IfOk result (λ found. IfSome found (λ edited. IsGrownByPath query.now.path (Name old.entry new.entry) (value_view document.now.exact) text.now edited.text.items)) }
 {
     let places = select_locations_in_document_order(alloc, document, query)?;
     let growth = Growth::Name(old, new);

@@ -3,6 +3,7 @@
 ghost use Rattle.std.specs.Prelude.{◌≡◌, IfOk, IsTrue, option_map, Some};
 ghost use Rattle.std.specs.List.Sorted.{IsStrictlySortedBy};
 ghost use Rattle.serde_json.specs.Data.{Data};
+ghost use Rattle.serde_json.specs.Read.{read};
 ghost use Rattle.serde_json.specs.View.{view};
 ghost use Rattle.jsonpath_nodes.specs.document.OfData.{document_of};
 ghost use Rattle.jsonpath_nodes.specs.place.Location.{location_cmp};
@@ -10,10 +11,10 @@ ghost use Rattle.jsonpath_nodes.specs.update.Topmost.{with_answer_at_topmost};
 ghost use Rattle.jpath_edits.specs.Changed.{ReadsChanged};
 
 use crate::change::Change;
+use crate::numbers_alike::read_with_numbers_alike;
 use crate::same_document::is_same_value;
 use crate::serde_value::serde_value_of_text;
-use jpath_texts::{DocumentRefusal, Numbers, copy_with_numbers, read_exact_tree};
-use json::Scratch;
+use jpath_texts::DocumentRefusal;
 use jsonpath_nodes::{Location, set_at_once, take_at_once};
 use serde_json::Value;
 use std::alloc::Global;
@@ -46,41 +47,38 @@ fn document_with_change(
 /// document. `places` has each location once, in document order: parents first, names by bytes, indexes by number.
 /// Returns false if `written` is not UTF-8.
 ///
-/// `image` is the original document as `serde_json` reads it, `None` if `serde_json` rejects a number there. If it
-/// rejects a number of the document or of the new value, all numbers count as equal. Errors: `EditNests` if the edited
-/// text or the new value can't be read, or `OutOfMemory`.
+/// If `serde_json` rejects a number of the document or of the new value, all numbers count as equal. Errors: `EditNests`
+/// if the edited text or the new value can't be read, or `OutOfMemory`.
 pub fn are_bytes_of_changed_document(
     alloc: Global,
     text: &str,
-    image: Option<Value>,
     places: &[Location],
     change: Change<'_>,
     written: &[u8],
 ) -> Result<bool, DocumentRefusal>
     requires { IsStrictlySortedBy location_cmp places.now }
-    ensures { IfOk result (λ same. IsTrue same → (before : Data) → option_map view image ≡ Some before → ReadsChanged change.entry places.now before written.now) }
+    ensures { IfOk result (λ same. IsTrue same → (before : Data) → read text.now ≡ Some before → ReadsChanged change.entry places.now before written.now) }
 {
     match str::from_utf8(written) {
-        Ok(written) => is_text_of_changed_document(alloc, text, image, places, change, written),
+        Ok(written) => is_text_of_changed_document(alloc, text, places, change, written),
         Err(_) => Ok(false),
     }
 }
 
 // Whether an edited text, read again, is the document of `text` with the change made at the topmost of the places.
-// `image` is that document as `serde_json` reads it; without one, and where `serde_json` refuses a number of what is
-// put, all numbers are taken for alike. Refused as `EditNests` where the edited text can't be read.
+// Where `serde_json` refuses a number of the document or of what is put, all numbers are taken for alike. Refused as
+// `EditNests` where the edited text can't be read.
 fn is_text_of_changed_document(
     alloc: Global,
     text: &str,
-    image: Option<Value>,
     places: &[Location],
     change: Change<'_>,
     edited: &str,
 ) -> Result<bool, DocumentRefusal>
     requires { IsStrictlySortedBy location_cmp places.now }
-    ensures { IfOk result (λ same. IsTrue same → (before : Data) → option_map view image ≡ Some before → ReadsChanged change.entry places.now before edited.now) }
+    ensures { IfOk result (λ same. IsTrue same → (before : Data) → read text.now ≡ Some before → ReadsChanged change.entry places.now before edited.now) }
 {
-    let Some(before) = image else {
+    let Some(before) = serde_value_of_text(alloc, text)? else {
         return is_changed_document_with_numbers_alike(alloc, text, places, change, edited);
     };
     let wanted = match change {
@@ -118,15 +116,4 @@ fn is_changed_document_with_numbers_alike(
         Change::Take => document_with_change(alloc, before, places, None)?,
     };
     Ok(is_same_value(&read_with_numbers_alike(alloc, edited)?, &wanted))
-}
-
-// The value of a JSON text with one and the same number in place of each. Refused as `EditNests` where it can't be
-// read.
-fn read_with_numbers_alike(alloc: Global, text: &str) -> Result<Value, DocumentRefusal> {
-    let mut scratch = Scratch::new(alloc);
-    match read_exact_tree(alloc, text, &mut scratch) {
-        Ok(exact) => copy_with_numbers(alloc, &exact, &Numbers::Alike),
-        Err(DocumentRefusal::OutOfMemory) => Err(DocumentRefusal::OutOfMemory),
-        Err(_) => Err(DocumentRefusal::EditNests),
-    }
 }

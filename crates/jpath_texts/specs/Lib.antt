@@ -1,11 +1,10 @@
 pub mod AtDepth
 pub mod Entries
 pub mod Exact
+pub mod ExactDocument
 pub mod Lines
 pub mod NamesOnce
 pub mod NumberKey
-pub mod NumberPlaces
 pub mod OrderedTree
 pub mod Rows
 pub mod Stream
-pub mod Unplaced

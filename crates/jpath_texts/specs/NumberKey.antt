@@ -1,11 +1,13 @@
 -- What orders a number: its digits without zeros at their ends, and the power of ten that 0.DIGITS is multiplied by.
-use Rattle.std.specs.Prelude.{◌≡◌, ◌≢◌, ℕ, ◌+◌, ◌-◌, ◌*◌, ◌^◌, ◌<◌, ◌==◌, ◌⊎◌, ℤ, pos, negsuc, ◌-ℤ◌, ◌+ℤ◌, neg_ℤ, Bool, true, false, List, [], ◌∷◌, ◌++◌, map, length, get_or, drop, replicate, slice_index, if◌then◌else◌}
+use Rattle.std.specs.Prelude.{codes, ◌≡◌, ◌≢◌, ℕ, ◌+◌, ◌-◌, ◌*◌, ◌^◌, ◌<◌, ◌==◌, ◌⊎◌, ℤ, pos, negsuc, ◌-ℤ◌, ◌+ℤ◌, neg_ℤ, Bool, true, false, List, [], ◌∷◌, ◌++◌, map, length, get_or, drop, replicate, slice_index, if◌then◌else◌}
 use Rattle.std.specs.Cmp.Lexicographic.{slice_cmp}
-use Rattle.std.specs.List.Sorted.{IsStrictlySortedBy}
+use Rattle.std.specs.Fmt.{signed_decimal}
 use Rattle.std.specs.Ordering.{nat_cmp, int_cmp, ordering_then}
 use Rattle.std.specs.declared.cmp.Ordering.{Ordering}
 use Rattle.std.specs.Str.Parse.{signed_digits_value}
 use Rattle.fast_float.specs.Text.{minus, Parts, scan, digits_of, tens_up, tens_down, with_sign, IsWellFormed}
+use Rattle.jsonpath_paths.specs.Numbers.{decimal_units}
+use Rattle.jsonpath_paths.specs.declared.decimal.Decimal.{Decimal}
 use Rattle.jpath_texts.specs.declared.numbers.number_key.NumberKey.{NumberKey}
 
 -- the power of ten that is written, with its sign
@@ -58,10 +60,6 @@ IsKeyOf text key = IsKeyAs (slice_index text 0 == minus) text key
 abbrev pub key_cmp : NumberKey → NumberKey → Ordering
 key_cmp k l = ordering_then (int_cmp k.side l.side) (ordering_then (int_cmp k.exponent l.exponent) (slice_cmp nat_cmp k.digits.items l.digits.items))
 
--- each key is below those behind it
-abbrev pub AreRising : List NumberKey → Type 0
-AreRising keys = IsStrictlySortedBy key_cmp keys
-
 -- whether a text writes a number below zero, or zero with a minus
 abbrev pub is_negative : List ℕ → Bool
 is_negative text = slice_index text 0 == minus
@@ -88,3 +86,7 @@ IsSameKey k l = (k.side ≡ l.side) × (k.exponent ≡ l.exponent) × (k.digits.
 -- one number has one key, whatever zeros, point and exponent it is written with
 abbrev pub OneKey : Type 0
 OneKey = (negative : Bool) (p q : Parts) (k l : NumberKey) → IsWellFormed p → IsWellFormed q → IsSameNumber p q → IsKey negative p k → IsKey negative q l → IsSameKey k l
+
+-- a literal of a path, as a text writes it
+abbrev pub literal_text : Decimal → List ℕ
+literal_text d = signed_decimal (decimal_units d) ++ codes "e-18"

@@ -1,101 +1,75 @@
-//! A document: its exact tree, as its text has it, and its image, on which paths are run.
+//! A document: its exact tree, as its text has it, and the order in which paths go through it.
 
-ghost use Rattle.std.specs.Prelude.{◌≡◌, true, false, Some, IfOk, IfErr};
-ghost use Rattle.std.specs.List.{All};
+ghost use Rattle.std.specs.Prelude.{◌≡◌, true, Some, unwrap_or, IfOk, IfErr};
 ghost use Rattle.json.specs.Tree.{HasNumbers};
 ghost use Rattle.json.specs.Value.{value_view};
-ghost use Rattle.serde_json.specs.View.{view};
-ghost use Rattle.jpath_texts.specs.Exact.{exact_of, IsImageOf};
-ghost use Rattle.jpath_texts.specs.NumberPlaces.{IsCopy, HasPlace, is_as_read, is_alike};
-ghost use Rattle.jpath_texts.specs.Unplaced.{IsUnplaced, IsUnreadable};
+ghost use Rattle.jpath_texts.specs.Exact.{exact_of};
+ghost use Rattle.jpath_texts.specs.Lines.{IsWhyRefused};
+ghost use Rattle.jpath_texts.specs.ExactDocument.{document_at, exact_document};
+ghost use Rattle.jpath_texts.specs.OrderedTree.{in_order, is_ordered};
 
-use crate::document_copy::choose_numbers_and_copy;
 use crate::exact_tree::read_exact_tree;
-use crate::numbers::numbers_in_copy::Numbers;
-use crate::numbers::unread_numbers::has_unread_number;
-use crate::query::Compared;
+use crate::ordered_tree::handle::OrderedValue;
+use crate::ordered_tree::in_order::{copy_in_order, is_tree_ordered};
 use crate::refusal::DocumentRefusal;
 use json::{Scratch, Value as Exact};
-use serde_json::Value;
-use std::alloc::Global;
+use std::alloc::{AllocError, Global};
 
-/// A JSON document as `jpath` reads it: its exact tree, which keeps digits and the order of members, and its image, the
-/// `serde_json` value on which paths are run.
+/// A JSON document as `jpath` reads it: its exact tree, which keeps digits and the order of members. Paths are run on its
+/// `root`, under which the members of each object are in the order of their names.
 #[derive(Drop)]
 pub struct Document<'a> {
-    /// The exact tree of the document: numbers as written, members in the order of the text. It borrows the text.
-    pub exact: Exact<'a>,
-    /// The image of the document, which is the copy of it on which paths are run: the same values, with the numbers
-    /// represented as the field `numbers` says. Each name of an object is there once, with its last value, in the order
-    /// of the names' bytes.
-    pub image: Value,
-    /// How the image, the copy of the document on which paths are run, represents its numbers.
-    pub numbers: Numbers,
+    exact: Exact<'a>,
+    // The tree in the order of names, where its text has another.
+    in_order: Option<Exact<'a>>,
+    ghost ordered: { is_ordered (value_view (unwrap_or in_order exact)) ≡ true },
+    ghost same: { value_view (unwrap_or in_order exact) ≡ in_order (value_view exact) },
 }
 
 impl<'a> Document<'a> {
-    /// Reads from a JSON text a `Document`: its exact tree, with numbers as written, and a copy on which paths can be
-    /// run. `compared` says whether the filters of these paths compare numbers, and with which number literals. The
-    /// exact tree borrows the text and `scratch`, which stores texts with their escapes resolved. Errors:
-    /// `NotADocument` if the text is no JSON document or nests deeper than 127 levels, `HugeExponent` if numbers are
-    /// compared and an exponent doesn't fit in 128 bits, or `OutOfMemory`.
+    /// Reads a `Document` from a JSON text. It borrows the text and `scratch`, which stores texts with their escapes
+    /// resolved. Errors: `NotADocument` if the text is no JSON document or nests deeper than 127 levels, or
+    /// `OutOfMemory`.
     pub fn read(
         alloc: Global,
         text: &'a str,
         scratch: &'a mut Scratch,
-        compared: &Compared,
     ) -> Result<Document<'a>, DocumentRefusal>
         ensures exact { IfOk result (λ document. exact_of text.now ≡ Some (value_view document.exact)) }
-        ensures image { IfOk result (λ document. is_as_read document.numbers ≡ true → IsImageOf (value_view document.exact) (view document.image)) }
-        ensures copy { IfOk result (λ document. is_as_read document.numbers ≡ false → IsCopy document.numbers (value_view document.exact) (view document.image)) }
-        ensures compared { IfOk result (λ document. compared.now.is_any ≡ true → is_alike document.numbers ≡ false) }
-        ensures literals { IfOk result (λ document. compared.now.is_any ≡ true → is_as_read document.numbers ≡ false → All (HasPlace document.numbers) compared.now.literals.items) }
         ensures writable { IfOk result (λ document. HasNumbers (value_view document.exact)) }
-        ensures refused { IfErr result (IsUnreadable text.now) }
+        ensures refused { IfErr result (IsWhyRefused text.now) }
     {
         let exact = read_exact_tree(alloc, text, scratch)?;
-        Document::of_exact_tree(alloc, text, exact, compared)
+        Ok(Document::of_exact_tree(alloc, exact)?)
     }
 
-    /// Makes a document from `exact`, its tree with each number as it is written. Precondition: `exact` was read from
-    /// `text`. `compared` says whether the filters of the paths that will be run on the document compare numbers, and
-    /// with which number literals. Errors: `HugeExponent` if they compare numbers and an exponent doesn't fit in 128
-    /// bits; or `OutOfMemory`.
-    pub fn of_exact_tree(
-        alloc: Global,
-        text: &str,
-        exact: Exact<'a>,
-        compared: &Compared,
-    ) -> Result<Document<'a>, DocumentRefusal>
-        requires { exact_of text.now ≡ Some (value_view exact) }
-        ensures exact { IfOk result (λ document. value_view document.exact ≡ value_view exact.entry) }
-        ensures image { IfOk result (λ document. is_as_read document.numbers ≡ true → IsImageOf (value_view document.exact) (view document.image)) }
-        ensures copy { IfOk result (λ document. is_as_read document.numbers ≡ false → IsCopy document.numbers (value_view document.exact) (view document.image)) }
-        ensures compared { IfOk result (λ document. compared.now.is_any ≡ true → is_alike document.numbers ≡ false) }
-        ensures literals { IfOk result (λ document. compared.now.is_any ≡ true → is_as_read document.numbers ≡ false → All (HasPlace document.numbers) compared.now.literals.items) }
-        ensures refused { IfErr result IsUnplaced }
+    /// Makes a document from `exact`, its tree with each number as it is written. The only error is out of memory.
+    pub fn of_exact_tree(alloc: Global, exact: Exact<'a>) -> Result<Document<'a>, AllocError>
+        ensures { IfOk result (λ document. value_view document.exact ≡ value_view exact.entry) }
     {
-        if !compared.is_any || !has_unread_number(&exact) {
-            match Value::from_str(alloc, text) {
-                Ok(image) => {
-                    return Ok(Document {
-                        exact,
-                        image,
-                        numbers: Numbers::AsRead,
-                    });
-                }
-                Err(error) => {
-                    if error.is_memory() {
-                        return Err(DocumentRefusal::OutOfMemory);
-                    }
-                }
-            }
+        let in_order = if is_tree_ordered(&exact) {
+            None
+        } else {
+            Some(copy_in_order(alloc, &exact)?)
+        };
+        Ok(Document { exact, in_order })
+    }
+
+    /// The exact tree of the document: numbers as written, members in the order of the text.
+    pub fn exact(&self) -> &Exact<'a>
+        ensures { result.now ≡ self.now.exact }
+    {
+        &self.exact
+    }
+
+    /// The root of the document, on which paths are run: the members of each object are in the order of their names'
+    /// bytes, each name once, with its last value. Comparisons of its numbers take memory from `alloc`.
+    pub fn root(&self, alloc: Global) -> OrderedValue<'_, 'a>
+        ensures { document_at result ≡ exact_document (value_view self.now.exact) }
+    {
+        match &self.in_order {
+            Some(tree) => OrderedValue::of_ordered(alloc, tree),
+            None => OrderedValue::of_ordered(alloc, &self.exact),
         }
-        let (numbers, image) = choose_numbers_and_copy(alloc, &exact, compared)?;
-        Ok(Document {
-            exact,
-            image,
-            numbers,
-        })
     }
 }

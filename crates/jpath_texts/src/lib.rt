@@ -1,9 +1,8 @@
-//! JSON texts with all their detail: the documents of a stream, the exact tree of a text, its numbers in exact order and
-//! the copies on which paths compare them, and how values are written.
+//! JSON texts with all their detail: the documents of a stream, the exact tree of a text, on which paths compare numbers
+//! as they are written, and how values are written.
 #![tactic(auto)]
 
 mod document;
-mod document_copy;
 mod exact_tree;
 pub mod laws;
 mod numbers;
@@ -14,11 +13,9 @@ mod refusal;
 mod stream;
 
 pub use document::Document;
-pub use document_copy::copy_with_numbers;
 pub use exact_tree::read_exact_tree;
 pub use json_recognizer::{Kind, LineColumn, MARK, ReadFailure};
 pub use numbers::number_key::NumberKey;
-pub use numbers::numbers_in_copy::Numbers;
 pub use numbers::written_number::has_minus;
 pub use ordered_tree::handle::OrderedValue;
 pub use ordered_tree::in_order::put_in_order;
@@ -30,7 +27,7 @@ pub use output::match_line::{
     Line, LineEnd, Shown, add_file_name, add_line_end, add_line_start, add_record_start,
 };
 pub use output::value_text::{add_compact_value, add_value_in_look};
-pub use query::{Compared, Query};
+pub use query::Query;
 pub use refusal::DocumentRefusal;
 pub use stream::piece::Piece;
 pub use stream::visit_documents::{Ended, How, Taken, Visitor, visit_documents};

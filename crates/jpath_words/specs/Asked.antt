@@ -18,9 +18,7 @@ use Rattle.jpath_texts.specs.declared.output.match_line.LineEnd.{LineEnd}
 use Rattle.jpath_texts.specs.declared.output.match_line.LineEnd.TheVariants.{LineFeed, Nul, Nothing}
 use Rattle.jpath_texts.specs.declared.output.match_line.Shown.{Shown}
 use Rattle.jpath_texts.specs.declared.output.match_line.Shown.TheVariants.{Values, Places, PlacesAndValues, Keys, Entries, Lengths}
-use Rattle.jpath_texts.specs.NumberPlaces.{HasSides}
 use Rattle.jpath_texts.specs.declared.query.Query.{Query}
-use Rattle.jpath_texts.specs.declared.query.Compared.{Compared}
 use Rattle.jpath_words.specs.declared.task.Task.{Task}
 use Rattle.jpath_words.specs.declared.task.Task.TheVariants.{Lines, Array, Count, Quiet, Table, Edits}
 use Rattle.jpath_words.specs.declared.task.Edit.{Edit}
@@ -86,26 +84,10 @@ IsValueText (Rename path new) text = text ≡ compact (string new.now)
 IsValueText (Null path) text = text ≡ compact null
 IsValueText (Remove path) text = text ≡ compact null
 
--- ---- comparisons
-
--- what the filters of the query compare is among what is compared
-abbrev pub Covers : Compared → Query → Type 0
-Covers compared query = (query.compares ≡ true → compared.is_any ≡ true) × HasSides compared.literals.items query.tokens.items (length query.tokens.items)
-
--- the queries of a task whose filters are decided on one copy of a document: of edits none, since each has a copy of its own
-abbrev pub queries_of : Task → List Query
-queries_of (Lines queries shown) = queries.items
-queries_of (Array queries) = queries.items
-queries_of (Count queries) = queries.items
-queries_of (Quiet queries) = queries.items
-queries_of (Table table) = table.rows ∷ table.columns.items
-queries_of (Edits edits) = []
-
 -- an edit as its words say it
 pub record IsEditOf (words : EditWords) (edit : Edit) : Type 0 where
   pub words_kept : edit.words ≡ words
   pub path : edit.query.path ≡ path_of words
-  pub compared : Covers edit.compared edit.query
   pub value : IsValueText words edit.value.items
 
 abbrev pub AreEditsOf : List EditWords → List Edit → Type 0

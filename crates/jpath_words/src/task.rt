@@ -1,14 +1,14 @@
 //! The task that the command line asks for: paths compiled, edits and tables read, contradictory options rejected,
 //! and the layout of lines.
 
-ghost use Rattle.std.specs.Prelude.{◌≡◌, ◌<◌, ◌&&◌, not, false, true, [], length, All, None, Some, IfOk, OnOk};
+ghost use Rattle.std.specs.Prelude.{◌≡◌, ◌<◌, ◌&&◌, not, false, true, [], length, None, Some, IfOk, OnOk};
 ghost use Rattle.json.specs.Json.{Json};
 ghost use Rattle.json.specs.Tree.{HasNumbers};
 ghost use Rattle.json.specs.Value.{value_view};
 ghost use Rattle.jpath_texts.specs.AtDepth.{is_over_lines};
 ghost use Rattle.jpath_texts.specs.Exact.{exact_of};
 ghost use Rattle.jpath_texts.specs.Lines.{compact};
-ghost use Rattle.jpath_words.specs.Asked.{is_edit, colored_by, end_by, layout_by, look_by, paths_of, files_of, shown_by, queries_of, AreOf, AreEditsOf, Covers, IsAsked, IsEditOf, IsOfMatches, IsValueText};
+ghost use Rattle.jpath_words.specs.Asked.{is_edit, colored_by, end_by, layout_by, look_by, paths_of, files_of, shown_by, AreOf, AreEditsOf, IsAsked, IsEditOf, IsOfMatches, IsValueText};
 
 use crate::command_line::{Color, EditWords, Flags, Words};
 use crate::hints::warn_of_mixed_connectives;
@@ -16,12 +16,11 @@ use crate::plain_path::{NamedMember, last_name_of_path, member_of_plain_path};
 use crate::refused_path::tell_refused_path;
 use crate::word_faults::words_fault;
 use jpath_texts::{
-    Compared, DocumentRefusal, Layout, LineEnd, Look, Query, Separated, Shown, add_compact_value,
+    DocumentRefusal, Layout, LineEnd, Look, Query, Separated, Shown, add_compact_value,
     read_exact_tree,
 };
 use json::{Scratch, Value as Exact};
 use std::alloc::{AllocError, AllocFailed, Global};
-use std::slice;
 
 /// What `jpath` writes for each document: lines, an array, a count, a table, or the edited text.
 #[derive(Drop)]
@@ -59,12 +58,11 @@ pub struct Table<'a> {
     pub has_header: bool,
 }
 
-/// An edit by `jpath`: its compiled path; whether the path's filters compare numbers, and with which number literals;
-/// and the edit option, which says what is done with the values that the path selects.
+/// An edit by `jpath`: its compiled path, and the edit option, which says what is done with the values that the path
+/// selects.
 #[derive(Drop)]
 pub struct Edit<'a> {
     pub query: Query<'a>,
-    pub compared: Compared,
     pub words: EditWords<'a>,
     /// A field of an edit: the JSON text of the new value. This value replaces each selected value, or is the added
     /// item or the value of the added member. For a renaming the text is the new name, in quotes; for a removal it is
@@ -81,10 +79,6 @@ pub struct Edit<'a> {
 #[derive(Drop)]
 pub struct Wanted<'a> {
     pub task: Task<'a>,
-    /// A field: what the filters of all paths of the command line compare, that is, whether they compare numbers, and
-    /// with which number literals. If the task is to edit, the field says that nothing is compared: each `Edit` stores
-    /// this for its own path.
-    pub compared: Compared,
     pub look: Look,
     pub files: Vec<&'a str>,
     pub has_names: bool,
@@ -166,7 +160,6 @@ pub fn wanted_of_words<'a>(
     ensures unchecked { OnOk result (words.now.flags.check ≡ false) }
     ensures files { IfOk result (λ wanted. wanted.files.items ≡ files_of words.now) }
     ensures task { IfOk result (λ wanted. IsAsked words.now wanted.task) }
-    ensures compared { IfOk result (λ wanted. All (Covers wanted.compared) (queries_of wanted.task)) }
 {
     let alloc = rt.alloc();
     if let Some(sentence) = words_fault(words) {
@@ -181,8 +174,7 @@ pub fn wanted_of_words<'a>(
     wanted_with_task(alloc, &flags, task, files, is_colored)
 }
 
-// Puts together all that the words ask for: the task, what its paths' filters compare, the look of lines, the files and
-// the flags about them.
+// Puts together all that the words ask for: the task, the look of lines, the files and the flags about them.
 fn wanted_with_task<'a>(
     alloc: Global,
     flags: &Flags,
@@ -198,14 +190,11 @@ fn wanted_with_task<'a>(
     ensures in_place { IfOk result (λ wanted. wanted.is_in_place ≡ flags.now.in_place) }
     ensures files { IfOk result (λ wanted. wanted.files.items ≡ files.now) }
     ensures task { IfOk result (λ wanted. wanted.task ≡ task.entry) }
-    ensures compared { IfOk result (λ wanted. All (Covers wanted.compared) (queries_of wanted.task)) }
     ensures copied { IfOk result (λ wanted. wanted.is_copied ≡ flags.now.copy) }
 {
-    let compared = compared_by_task(alloc, &task)?;
     let files = Vec::from_slice(alloc, files)?;
     Ok(Wanted {
         task,
-        compared,
         look: look_by_flags(flags, is_colored),
         files,
         has_names: flags.with_filename,
@@ -357,7 +346,7 @@ fn read_edits<'a>(
     Ok(edits)
 }
 
-// The edit of these words, with its path compiled, what the path's filters compare, and the text that it puts.
+// The edit of these words, with its path compiled, and the text that it puts.
 fn read_edit<'a>(
     rt: &(impl Eprint + Alloc<A = Global>),
     words: EditWords<'a>,
@@ -365,12 +354,10 @@ fn read_edit<'a>(
     ensures { IfOk result (IsEditOf words.entry) }
 {
     let query = compile_or_tell(rt, words.path())?;
-    let compared = compared_by_queries(rt.alloc(), slice::from_ref(&query))?;
     let value = text_of_edit_value(rt, words)?;
     let member = member_of_edit(rt, words, &query)?;
     Ok(Edit {
         query,
-        compared,
         words,
         value,
         member,
@@ -546,36 +533,5 @@ fn compile_or_tell<'a>(
             tell_refused_path(rt, path, &error);
             Err(Refused::Told)
         }
-    }
-}
-
-// What the filters of a task's paths compare: whether numbers, and which are written as sides. Nothing for edits: each
-// edit has its own.
-fn compared_by_task(alloc: Global, task: &Task<'_>) -> Result<Compared, Refused>
-    ensures { IfOk result (λ compared. All (Covers compared) (queries_of task.now)) }
-{
-    match task {
-        Task::Lines(queries, _)
-        | Task::Array(queries)
-        | Task::Count(queries)
-        | Task::Quiet(queries) => compared_by_queries(alloc, queries.as_slice()),
-        Task::Table(table) => {
-            let mut compared = compared_by_queries(alloc, table.columns.as_slice())?;
-            match compared.add_query(&table.rows) {
-                Ok(()) => Ok(compared),
-                Err(_) => Err(Refused::OutOfMemory),
-            }
-        }
-        Task::Edits(_) => compared_by_queries(alloc, &[]),
-    }
-}
-
-// What the filters of these paths compare: whether numbers, and which are written as sides.
-fn compared_by_queries(alloc: Global, queries: &[Query<'_>]) -> Result<Compared, Refused>
-    ensures { IfOk result (λ compared. All (Covers compared) queries.now) }
-{
-    match Compared::of_queries(alloc, queries) {
-        Ok(compared) => Ok(compared),
-        Err(_) => Err(Refused::OutOfMemory),
     }
 }

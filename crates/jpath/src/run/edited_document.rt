@@ -123,8 +123,8 @@ fn apply_edit(
         return Err(DocumentRefusal::NotADocument);
     };
     let path = edit.words.path();
-    let document = Document::read(alloc, text, scratch, &edit.compared)?;
-    let Some(done) = edited_text(alloc, text, document, edit)? else {
+    let document = Document::read(alloc, text, scratch)?;
+    let Some(done) = edited_text(alloc, text, &document, edit)? else {
         let _ = eprintln!(rt;
             "jpath: {path}: not renamed: a member of the new name is there already"
         );
@@ -142,7 +142,7 @@ fn apply_edit(
 fn edited_text(
     alloc: Global,
     text: &str,
-    document: Document<'_>,
+    document: &Document<'_>,
     edit: &Edit<'_>,
 ) -> Result<Option<Edited>, DocumentRefusal> {
     let Ok(value) = str::from_utf8(edit.value.as_slice()) else {
@@ -151,10 +151,10 @@ fn edited_text(
     let query = &edit.query;
     match (edit.words, &edit.member) {
         (EditWords::Rename(_, new), Some(member)) => {
-            rename_text(alloc, text, &document, query, member.name.as_str(), new)
+            rename_text(alloc, text, document, query, member.name.as_str(), new)
         }
         (EditWords::Append(_, _), _) => Ok(Some(append_text(
-            alloc, text, &document, query, value,
+            alloc, text, document, query, value,
         )?)),
         (EditWords::Remove(_), _) => Ok(Some(edit_text(
             alloc,

@@ -42,8 +42,8 @@ pub fn add_output_for_document(
     if let Some(found) = add_output_by_exact_tree(alloc, &exact, &wanted.task, &line, out)? {
         return Ok(found);
     }
-    let document = Document::of_exact_tree(alloc, text, exact, &wanted.compared)?;
-    add_output_by_image(alloc, &document, &wanted.task, &line, out)
+    let document = Document::of_exact_tree(alloc, exact)?;
+    add_output_for_task(alloc, &document, &wanted.task, &line, out)
 }
 
 // How the line of a match is written: its look, what it shows, and the file's name where names are asked for.
@@ -60,9 +60,8 @@ fn line_form_for_wanted<'n>(wanted: &Wanted<'_>, name: &'n str) -> Line<'n> {
     }
 }
 
-// Writes what the task asks of a document, answered by its image (the copy of the document on which paths compare its
-// numbers), and answers how many matches it has. Edits are not made here: 0.
-fn add_output_by_image(
+// Writes what the task asks of a document, and answers how many matches it has. Edits are not made here: 0.
+fn add_output_for_task(
     alloc: Global,
     document: &Document<'_>,
     task: &Task<'_>,
@@ -72,7 +71,7 @@ fn add_output_by_image(
     requires { HasNumbers (value_view document.now.exact) }
 {
     match task {
-        Task::Lines(queries, _) => add_matches_by_image(
+        Task::Lines(queries, _) => add_matches(
             alloc,
             document,
             queries.as_slice(),
@@ -95,9 +94,9 @@ fn add_output_by_image(
     }
 }
 
-// Writes a line for each value that the paths select in a document's image, path after path, and answers how many there
-// are. A refusal may leave a part of them.
-fn add_matches_by_image(
+// Writes a line for each value that the paths select in a document, path after path, and answers how many there are. A
+// refusal may leave a part of them.
+fn add_matches(
     alloc: Global,
     document: &Document<'_>,
     queries: &[Query<'_>],
@@ -114,7 +113,7 @@ fn add_matches_by_image(
 }
 
 // Writes what the task asks of a document by its exact tree alone, and answers how many matches it has. `None`, and
-// nothing is written, where the task or a path needs the document's image: a copy on which paths compare numbers.
+// nothing is written, where the task or a path needs the members in the order of their names.
 fn add_output_by_exact_tree(
     alloc: Global,
     exact: &Exact<'_>,
@@ -136,8 +135,8 @@ fn add_output_by_exact_tree(
 }
 
 // Writes a line for each value that the paths select along the exact tree, path after path, and answers how many there
-// are; without a line form they are only counted. `None`, and nothing is written, where a path needs the document's
-// image. A refusal may leave a part of the lines.
+// are; without a line form they are only counted. `None`, and nothing is written, where a path needs the members in the
+// order of their names. A refusal may leave a part of the lines.
 fn add_matches_by_exact_tree(
     alloc: Global,
     exact: &Exact<'_>,

@@ -1,35 +1,33 @@
 //! What is written for the matches of one document, and how many there are.
 
-ghost use Rattle.std.specs.Prelude.{◌≡◌, ◌++◌, true, false, length, map, filter_map, All, OnOk, IfOk, Some};
+ghost use Rattle.std.specs.Prelude.{◌≡◌, ◌++◌, false, length, map, filter_map, All, OnOk, IfOk, Some};
 ghost use Rattle.json.specs.Tree.{HasNumbers};
 ghost use Rattle.json.specs.Value.{value_view};
-ghost use Rattle.serde_json.specs.View.{view};
 ghost use Rattle.jsonpath_paths.specs.tree.Tree.{Path};
 ghost use Rattle.jsonpath_paths.specs.Spelling.{Spells};
-ghost use Rattle.jsonpath_nodes.specs.document.OfData.{document_of};
-ghost use Rattle.jsonpath_nodes.specs.place.SpotPlace.{location_of};
 ghost use Rattle.jsonpath_select.specs.Meaning.{sel};
 ghost use Rattle.jpath_edits.specs.ExactAt.{exact_at};
-ghost use Rattle.jpath_texts.specs.NumberPlaces.{is_as_read};
+ghost use Rattle.jpath_texts.specs.ExactDocument.{exact_document};
 ghost use Rattle.jpath_core.specs.Matches.{lines_text, match_text, items_text, item_text, AddsMatches, AddsArray, AreSelected, IsCountOf};
+ghost use Rattle.jpath_core.specs.Nodes.{location_of};
 ghost use Rattle.jpath_core.specs.AlongExactTree.{value_line};
 
-use crate::exact_at_steps::printable_value_at_steps;
+use crate::exact_at_location::printable_value_at_location;
 use crate::output::places::{add_place_and_value_line, add_place_line};
 use crate::selection::select_in_document;
 use jpath_texts::{
-    Document, DocumentRefusal, Line, Look, Query, Shown, add_array_end, add_array_item,
+    Document, DocumentRefusal, Line, Look, OrderedValue, Query, Shown, add_array_end, add_array_item,
     add_entry_lines, add_length_line, add_line_end, add_line_start, add_value_in_look,
 };
 use json::Value as Exact;
-use jsonpath_nodes::Spot;
+use jsonpath_nodes::{Location, TreeNode};
 use jsonpath_paths::laws::one_tree_per_text;
 use std::alloc::{AllocError, Global};
 
 /// Appends to `out` the lines for each value that a path selects in a document. `line` says what these lines show of
 /// the value (the value itself, its location, its members or its length) and how. The values come in the order in which
 /// the path's steps find them (`*` finds members in the order of their names' bytes), with duplicates. Returns the
-/// number of these values. The only error is `OutOfMemory`; `out` may then end with a part of the lines.
+/// number of these values. Errors: those of `select_in_document`; `out` may then end with a part of the lines.
 pub fn add_lines_for_path(
     alloc: Global,
     document: &Document<'_>,
@@ -38,23 +36,22 @@ pub fn add_lines_for_path(
     out: &mut Vec<u8>,
 ) -> Result<usize, DocumentRefusal>
     requires { HasNumbers (value_view document.now.exact) }
-    ensures { is_as_read document.now.numbers ≡ true → IfOk result (λ count. (p : Path) → Spells query.now.path p
-        → AddsMatches query.now.path line.now (value_view document.now.exact) (view document.now.image) out.old.items out.new.items count p) }
+    ensures { IfOk result (λ count. (p : Path) → Spells query.now.path p → AddsMatches query.now.path line.now (value_view document.now.exact) out.old.items out.new.items count p) }
 {
     one_tree_per_text();
-    let spots = select_in_document(alloc, document, query)?;
-    add_lines_of_spots(alloc, &document.exact, spots.as_slice(), line, out)?;
-    Ok(spots.len())
+    let nodes = select_in_document(alloc, document, query)?;
+    add_lines_of_nodes(alloc, document.exact(), nodes.as_slice(), line, out)?;
+    Ok(nodes.len())
 }
 
-/// How many values several paths select in a document in total, with duplicates, or `usize::MAX` if there are more. The
-/// only error is `OutOfMemory`.
+/// How many values several paths select in a document in total, with duplicates, or `usize::MAX` if there are more.
+/// Errors: those of `select_in_document`.
 pub fn count_matches(
     alloc: Global,
     document: &Document<'_>,
     queries: &[Query<'_>],
 ) -> Result<usize, DocumentRefusal>
-    ensures { is_as_read document.now.numbers ≡ true → IfOk result (λ count. IsCountOf queries.now (view document.now.image) count) }
+    ensures { IfOk result (λ count. IsCountOf queries.now (value_view document.now.exact) count) }
 {
     let mut count = 0usize;
     for query in queries {
@@ -69,7 +66,7 @@ pub(crate) fn count_matches_of_path(
     document: &Document<'_>,
     query: &Query<'_>,
 ) -> Result<usize, DocumentRefusal>
-    ensures { is_as_read document.now.numbers ≡ true → IfOk result (λ count. (p : Path) → Spells query.now.path p → count ≡ length (sel query.now.path (document_of (view document.now.image)) p)) }
+    ensures { IfOk result (λ count. (p : Path) → Spells query.now.path p → count ≡ length (sel query.now.path (exact_document (value_view document.now.exact)) p)) }
 {
     one_tree_per_text();
     Ok(select_in_document(alloc, document, query)?.len())
@@ -78,8 +75,8 @@ pub(crate) fn count_matches_of_path(
 /// Appends to `out` one JSON array of the values that the paths select: path by path, and for each path in the order in
 /// which its steps find them, with duplicates. Before the array comes the byte 30 if `line.is_record`, then the file's
 /// name and a colon if `line.name` has one. After the array comes what `line.end` says: a line feed, the byte 0 or
-/// nothing. Returns how many values there are. The only error is `OutOfMemory`; `out` may then end with a part of this
-/// output.
+/// nothing. Returns how many values there are. Errors: those of `select_in_document`; `out` may then end with a part of
+/// this output.
 pub fn add_array(
     alloc: Global,
     document: &Document<'_>,
@@ -88,7 +85,7 @@ pub fn add_array(
     out: &mut Vec<u8>,
 ) -> Result<usize, DocumentRefusal>
     requires { HasNumbers (value_view document.now.exact) }
-    ensures { IfOk result (λ count. AddsArray queries.now line.now document.now out.old.items out.new.items count) }
+    ensures { IfOk result (λ count. AddsArray queries.now line.now (value_view document.now.exact) out.old.items out.new.items count) }
 {
     let values = selected_values(alloc, document, queries)?;
     add_line_start(out, line)?;
@@ -111,30 +108,32 @@ fn selected_values<'v, 'a>(
     queries: &[Query<'_>],
 ) -> Result<Vec<Selected<'v, 'a>>, DocumentRefusal>
     requires { HasNumbers (value_view document.now.exact) }
-    ensures selected { IfOk result (λ values. AreSelected queries.now document.now (map (λ v. value_view v.value.now) values.items)) }
+    ensures selected { IfOk result (λ values. AreSelected queries.now (value_view document.now.exact) (map (λ v. value_view v.value.now) values.items)) }
     ensures writable { IfOk result (λ values. All (λ v. HasNumbers (value_view v.value.now)) values.items) }
 {
     let mut values = Vec::new(alloc);
     for query in queries {
-        let spots = select_in_document(alloc, document, query)?;
-        add_values_at_spots(&document.exact, spots.as_slice(), &mut values)?;
+        let nodes = select_in_document(alloc, document, query)?;
+        add_values_at_nodes(alloc, document.exact(), nodes.as_slice(), &mut values)?;
     }
     Ok(values)
 }
 
-// Adds the values at the spots.
-fn add_values_at_spots<'v, 'a>(
+// Adds the values at the nodes.
+fn add_values_at_nodes<'v, 'a>(
+    alloc: Global,
     exact: &'v Exact<'a>,
-    spots: &[Spot<'_>],
+    nodes: &[TreeNode<OrderedValue<'_, '_>>],
     values: &mut Vec<Selected<'v, 'a>>,
-) -> Result<(), AllocError>
+) -> Result<(), DocumentRefusal>
     requires { HasNumbers (value_view exact.now) }
     ensures added { OnOk result (map (λ v. value_view v.value.now) values.new.items
-        ≡ map (λ v. value_view v.value.now) values.old.items ++ filter_map (exact_at (value_view exact.now)) (map location_of spots.now)) }
+        ≡ map (λ v. value_view v.value.now) values.old.items ++ filter_map (exact_at (value_view exact.now)) (map location_of nodes.now)) }
     ensures writable { All (λ v. HasNumbers (value_view v.value.now)) values.old.items → All (λ v. HasNumbers (value_view v.value.now)) values.new.items }
 {
-    for spot in spots {
-        if let Some(value) = printable_value_at_steps(exact, spot.steps()) {
+    for node in nodes {
+        let location = node.location(alloc)?;
+        if let Some(value) = printable_value_at_location(exact, &location) {
             values.push(Selected { value })?;
         }
     }
@@ -187,20 +186,21 @@ fn add_item(
     )
 }
 
-// Adds the lines of each spot to what is written: its place, its value or both, or what is in the value, as is asked for.
-fn add_lines_of_spots(
+// Adds the lines of each node to what is written: its place, its value or both, or what is in the value, as is asked for.
+fn add_lines_of_nodes(
     alloc: Global,
     exact: &Exact<'_>,
-    spots: &[Spot<'_>],
+    nodes: &[TreeNode<OrderedValue<'_, '_>>],
     line: &Line<'_>,
     out: &mut Vec<u8>,
-) -> Result<(), AllocError>
+) -> Result<(), DocumentRefusal>
     requires { HasNumbers (value_view exact.now) }
-    ensures { OnOk result (out.new.items ≡ out.old.items ++ lines_text line.now (value_view exact.now) (map location_of spots.now)) }
+    ensures { OnOk result (out.new.items ≡ out.old.items ++ lines_text line.now (value_view exact.now) (map location_of nodes.now)) }
 {
-    for spot in spots {
-        if let Some(value) = printable_value_at_steps(exact, spot.steps()) {
-            add_lines_of_match(alloc, spot, value, line, out)?;
+    for node in nodes {
+        let location = node.location(alloc)?;
+        if let Some(value) = printable_value_at_location(exact, &location) {
+            add_lines_of_match(alloc, &location, value, line, out)?;
         }
     }
     Ok(())
@@ -209,18 +209,18 @@ fn add_lines_of_spots(
 // Writes the lines of one match: one with its place, its value or both, or its length; or one for each of its members.
 fn add_lines_of_match(
     alloc: Global,
-    spot: &Spot<'_>,
+    location: &Location,
     value: &Exact<'_>,
     line: &Line<'_>,
     out: &mut Vec<u8>,
 ) -> Result<(), AllocError>
     requires { HasNumbers (value_view value.now) }
-    ensures { OnOk result (out.new.items ≡ out.old.items ++ match_text line.now (location_of spot.now) (value_view value.now)) }
+    ensures { OnOk result (out.new.items ≡ out.old.items ++ match_text line.now location.now (value_view value.now)) }
 {
     match line.shown {
         Shown::Values => add_value_line(alloc, value, line, out),
-        Shown::Places => add_place_line(alloc, spot, line, out),
-        Shown::PlacesAndValues => add_place_and_value_line(alloc, spot, value, line, out),
+        Shown::Places => add_place_line(alloc, location, line, out),
+        Shown::PlacesAndValues => add_place_and_value_line(alloc, location, value, line, out),
         Shown::Keys => add_entry_lines(alloc, value, false, line, out),
         Shown::Entries => add_entry_lines(alloc, value, true, line, out),
         Shown::Lengths => add_length_line(alloc, value, line, out),

@@ -6,56 +6,45 @@ ghost use Rattle.std.specs.Str.{chars, encode_utf8_all};
 ghost use Rattle.json.specs.Tree.{HasNumbers};
 ghost use Rattle.json.specs.Value.{value_view};
 ghost use Rattle.jsonpath_nodes.specs.place.LocationText.{location_text};
-ghost use Rattle.jsonpath_nodes.specs.place.SpotPlace.{location_of};
 ghost use Rattle.jpath_texts.specs.Lines.{on_line, shown};
 ghost use Rattle.jpath_core.specs.Printable.{escape, has_control, is_control, printable, printable_char};
 
 use crate::laws::escapes_hold;
 use jpath_texts::{Line, add_line_end, add_line_start, add_value_in_look};
 use json::Value as Exact;
-use jsonpath_nodes::{Location, Spot};
+use jsonpath_nodes::Location;
 use std::alloc::{AllocError, Global};
 
 // Writes the place of a match on a line, as the path that selects just that; a control character of a name is escaped.
 pub(crate) fn add_place_line(
     alloc: Global,
-    spot: &Spot<'_>,
+    location: &Location,
     line: &Line<'_>,
     out: &mut Vec<u8>,
 ) -> Result<(), AllocError>
-    ensures { OnOk result (out.new.items ≡ out.old.items ++ on_line line.now (printable (location_text (location_of spot.now)))) }
+    ensures { OnOk result (out.new.items ≡ out.old.items ++ on_line line.now (printable (location_text location.now))) }
 {
     add_line_start(out, line)?;
-    add_spot_location(alloc, spot, out)?;
+    add_location(alloc, location, out)?;
     add_line_end(out, line.end)
 }
 
 // Writes the place of a match, a tab and its value on a line. No tab or line end of a name breaks the two columns.
 pub(crate) fn add_place_and_value_line(
     alloc: Global,
-    spot: &Spot<'_>,
+    location: &Location,
     value: &Exact<'_>,
     line: &Line<'_>,
     out: &mut Vec<u8>,
 ) -> Result<(), AllocError>
     requires { HasNumbers (value_view value.now) }
-    ensures { OnOk result (out.new.items ≡ out.old.items ++ on_line line.now (printable (location_text (location_of spot.now)) ++ 9 ∷ shown line.now.look (value_view value.now))) }
+    ensures { OnOk result (out.new.items ≡ out.old.items ++ on_line line.now (printable (location_text location.now) ++ 9 ∷ shown line.now.look (value_view value.now))) }
 {
     add_line_start(out, line)?;
-    add_spot_location(alloc, spot, out)?;
+    add_location(alloc, location, out)?;
     out.push(b'\t')?;
     add_value_in_look(alloc, out, value, line.look)?;
     add_line_end(out, line.end)
-}
-
-// Writes where a spot stands, as a path whose control characters are escaped.
-fn add_spot_location(alloc: Global, spot: &Spot<'_>, out: &mut Vec<u8>) -> Result<(), AllocError>
-    ensures { OnOk result (out.new.items ≡ out.old.items ++ printable (location_text (location_of spot.now))) }
-{
-    match spot.steps().to_location(alloc) {
-        Ok(location) => add_location(alloc, &location, out),
-        Err(_) => Err(AllocError),
-    }
 }
 
 // Writes a location as a path whose control characters are escaped.

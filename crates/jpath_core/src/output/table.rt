@@ -1,28 +1,29 @@
 //! Rows of a table: a line for each value that one path selects, a field for each column.
 
-ghost use Rattle.std.specs.Prelude.{◌≡◌, true, map, IfOk, OnOk};
+ghost use Rattle.std.specs.Prelude.{◌≡◌, map, Some, IfOk, OnOk};
 ghost use Rattle.json.specs.Tree.{HasNumbers};
 ghost use Rattle.json.specs.Value.{value_view};
-ghost use Rattle.serde_json.specs.View.{view};
-ghost use Rattle.jsonpath_nodes.specs.document.OfData.{document_of};
-ghost use Rattle.jsonpath_nodes.specs.place.SpotPlace.{location_of, value_of};
-ghost use Rattle.jpath_texts.specs.NumberPlaces.{is_as_read};
+ghost use Rattle.jsonpath_nodes.specs.place.Location.{at};
+ghost use Rattle.jpath_texts.specs.ExactDocument.{document_at, exact_document};
+ghost use Rattle.jpath_core.specs.Nodes.{location_of, value_of};
 ghost use Rattle.jpath_core.specs.Rows.{first_field, AddsRow, AddsRows, AreFields, IsField};
 
-use crate::exact_at_steps::printable_value_at_steps;
-use crate::selection::{select_in_document, select_in_image};
+use crate::exact_at_location::printable_value_at_location;
+use crate::selection::select_in_document;
 use jpath_texts::{
-    Document, DocumentRefusal, Layout, Look, Query, Separated, add_row, add_value_in_look,
+    Document, DocumentRefusal, Layout, Look, OrderedValue, Query, Separated, add_row,
+    add_value_in_look,
 };
 use json::Value as Exact;
-use jsonpath_nodes::Spot;
-use serde_json::Value;
-use std::alloc::{AllocError, Global};
+use jsonpath_nodes::TreeNode;
+use jsonpath_select::select_nodes_in_tree;
+use std::alloc::Global;
 
 /// Appends to `out` a row of a table for each value that the path `rows` selects in a document, in the order in which
 /// the path's steps find them, and returns the number of rows. Each column is a path, which is applied to the row's
 /// value as its root. The column's field, in the order of `columns`, is the first value that this path selects: a text
-/// without quotes, any other value as compact JSON, or an empty field if it selects nothing. Error: `OutOfMemory`;
+/// without quotes, any other value as compact JSON, or an empty field if it selects nothing. Errors: those of
+/// `select_in_document`;
 /// `out` may then end with a part of the rows, or have lost all its content.
 pub fn add_rows(
     alloc: Global,
@@ -33,84 +34,84 @@ pub fn add_rows(
     out: &mut Vec<u8>,
 ) -> Result<usize, DocumentRefusal>
     requires { HasNumbers (value_view document.now.exact) }
-    ensures { is_as_read document.now.numbers ≡ true → IfOk result (λ count. AddsRows rows.now.path columns.now separated document.now out.old.items out.new.items count) }
+    ensures { IfOk result (λ count. AddsRows rows.now.path columns.now separated (value_view document.now.exact) out.old.items out.new.items count) }
 {
-    let spots = select_in_document(alloc, document, rows)?;
-    for spot in spots.as_slice() {
-        add_row_of_spot(alloc, document, spot, columns, separated, out)?;
+    let nodes = select_in_document(alloc, document, rows)?;
+    for node in nodes.as_slice() {
+        add_row_of_node(alloc, document.exact(), node, columns, separated, out)?;
     }
-    Ok(spots.len())
+    Ok(nodes.len())
 }
 
 // Writes the row of one value.
-fn add_row_of_spot(
+fn add_row_of_node(
     alloc: Global,
-    document: &Document<'_>,
-    spot: &Spot<'_>,
+    root: &Exact<'_>,
+    node: &TreeNode<OrderedValue<'_, '_>>,
     columns: &[Query<'_>],
     separated: Separated,
     out: &mut Vec<u8>,
 ) -> Result<(), DocumentRefusal>
-    requires { HasNumbers (value_view document.now.exact) }
-    ensures { is_as_read document.now.numbers ≡ true → OnOk result (AddsRow (value_view document.now.exact) columns.now separated (location_of spot.now) (value_of spot.now) out.old.items out.new.items) }
+    requires { HasNumbers (value_view root.now) }
+    ensures { at (exact_document (value_view root.now)) (location_of node.now) ≡ Some (value_of node.now) → OnOk result (AddsRow (value_view root.now) columns.now separated (location_of node.now) out.old.items out.new.items) }
 {
-    let Some(exact) = printable_value_at_steps(&document.exact, spot.steps()) else {
+    let location = node.location(alloc)?;
+    let Some(exact) = printable_value_at_location(root, &location) else {
         return Ok(());
     };
-    let fields = row_fields(alloc, document, exact, spot.value(), columns)?;
+    let fields = row_fields(alloc, exact, node.value(), columns)?;
     add_row(alloc, fields.as_slice(), separated, out)?;
     Ok(())
 }
 
-// The fields of the row of one value, one for each column. The value is handed in twice, as in `field_of_column`.
+// The fields of the row of one value, one for each column. The value is handed in as it is written, and as paths are run
+// on it.
 fn row_fields(
     alloc: Global,
-    document: &Document<'_>,
     exact: &Exact<'_>,
-    image: &Value,
+    value: OrderedValue<'_, '_>,
     columns: &[Query<'_>],
 ) -> Result<Vec<Vec<u8>>, DocumentRefusal>
     requires { HasNumbers (value_view exact.now) }
-    ensures { is_as_read document.now.numbers ≡ true → IfOk result (λ fields. AreFields (value_view exact.now) (document_of (view image.now)) columns.now (map (λ f. f.items) fields.items)) }
+    ensures { document_at value ≡ exact_document (value_view exact.now) → IfOk result (λ fields. AreFields (value_view exact.now) columns.now (map (λ f. f.items) fields.items)) }
 {
     let mut fields = Vec::new(alloc);
     for column in columns {
-        fields.push(field_of_column(alloc, document, exact, image, column)?)?;
+        fields.push(field_of_column(alloc, exact, value, column)?)?;
     }
     Ok(fields)
 }
 
 // The field of a column in the row of one value: the column's first match there, a text raw and all else compact, or
-// nothing where there is none. The value is handed in as `exact`, with its numbers as they are written, and as `image`,
-// the copy on which paths are run.
+// nothing where there is none. The value is handed in twice, as to `row_fields`.
 fn field_of_column(
     alloc: Global,
-    document: &Document<'_>,
     exact: &Exact<'_>,
-    image: &Value,
+    value: OrderedValue<'_, '_>,
     column: &Query<'_>,
 ) -> Result<Vec<u8>, DocumentRefusal>
     requires { HasNumbers (value_view exact.now) }
-    ensures { is_as_read document.now.numbers ≡ true → IfOk result (λ field. IsField (value_view exact.now) (document_of (view image.now)) column.now field.items) }
+    ensures { document_at value ≡ exact_document (value_view exact.now) → IfOk result (λ field. IsField (value_view exact.now) column.now field.items) }
 {
-    let spots = select_in_image(alloc, image, &document.numbers, column)?;
-    Ok(field_of_first(alloc, exact, spots.as_slice())?)
+    let nodes = select_nodes_in_tree(alloc, value, column.path())?;
+    field_of_first(alloc, exact, nodes.as_slice())
 }
 
-// The field of the value at the first of the spots, or nothing.
+// The field of the value at the first of the nodes, or nothing.
 fn field_of_first(
     alloc: Global,
     exact: &Exact<'_>,
-    spots: &[Spot<'_>],
-) -> Result<Vec<u8>, AllocError>
+    nodes: &[TreeNode<OrderedValue<'_, '_>>],
+) -> Result<Vec<u8>, DocumentRefusal>
     requires { HasNumbers (value_view exact.now) }
-    ensures { IfOk result (λ field. field.items ≡ first_field (value_view exact.now) (map location_of spots.now)) }
+    ensures { IfOk result (λ field. field.items ≡ first_field (value_view exact.now) (map location_of nodes.now)) }
 {
     let mut field = Vec::new(alloc);
-    let Some(spot) = spots.first() else {
+    let Some(node) = nodes.first() else {
         return Ok(field);
     };
-    let Some(value) = printable_value_at_steps(exact, spot.steps()) else {
+    let location = node.location(alloc)?;
+    let Some(value) = printable_value_at_location(exact, &location) else {
         return Ok(field);
     };
     let look = Look {

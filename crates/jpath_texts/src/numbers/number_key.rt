@@ -1,11 +1,9 @@
 //! Keys that order numbers exactly, however many digits they have.
 
-ghost use Rattle.std.specs.Prelude.{◌≡◌, ◌≢◌, ℕ, List, ◌<◌, ◌≤◌, ◌-ℤ◌, ◌+ℤ◌, length, get_or, take, pos, IfOk, IfSome, IfErr, FitsSigned, string_bytes};
+ghost use Rattle.std.specs.Prelude.{◌≡◌, ◌≢◌, ℕ, List, ◌<◌, ◌≤◌, ◌-ℤ◌, ◌+ℤ◌, length, get_or, take, pos, IfOk, IfSome, FitsSigned, string_bytes};
 ghost use Rattle.std.specs.Int.{w128};
 ghost use Rattle.jsonpath_paths.specs.Numbers.{decimal_units};
-ghost use Rattle.jpath_texts.specs.NumberKey.{zeros, power, turned, IsKey, IsKeyOf, IsPlaced, IsTrailed, text_cmp};
-ghost use Rattle.jpath_texts.specs.NumberPlaces.{literal_text};
-ghost use Rattle.jpath_texts.specs.Unplaced.{IsUnplaced};
+ghost use Rattle.jpath_texts.specs.NumberKey.{zeros, power, turned, IsKey, IsKeyOf, IsPlaced, IsTrailed, literal_text, text_cmp};
 
 use crate::numbers::written_number::{has_minus, written_exponent};
 use crate::refusal::DocumentRefusal;
@@ -152,22 +150,12 @@ fn nines_complement(alloc: Global, digits: &[u8]) -> Result<Vec<u8>, AllocError>
 // The key of a number's text. Refused with `HugeExponent` where 128 bits don't hold its exponent, and with
 // `OutOfMemory`.
 pub(crate) fn read_key_or_refuse(alloc: Global, text: &str) -> Result<NumberKey, DocumentRefusal>
-    ensures key { IfOk result (IsKeyOf text.now) }
-    ensures refused { IfErr result IsUnplaced }
+    ensures { IfOk result (IsKeyOf text.now) }
 {
     match NumberKey::read(alloc, text)? {
         Some(key) => Ok(key),
         None => Err(DocumentRefusal::HugeExponent),
     }
-}
-
-// The key of a number that a path is written with, by which it is ordered among the numbers of a document.
-pub(crate) fn literal_key(alloc: Global, literal: Decimal) -> Result<NumberKey, DocumentRefusal>
-    ensures key { IfOk result (IsKeyOf (literal_text literal)) }
-    ensures refused { IfErr result IsUnplaced }
-{
-    let text = literal_text(alloc, literal)?;
-    read_key_or_refuse(alloc, text.as_str())
 }
 
 // A number that a path is written with, as the text of a document writes it.

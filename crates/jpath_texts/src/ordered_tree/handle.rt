@@ -3,13 +3,14 @@
 ghost use Rattle.std.specs.Prelude.{◌≡◌, true, is_some, IfSome};
 ghost use Rattle.std.specs.Slice.Iter.{iter_rest};
 ghost use Rattle.json.specs.Value.{value_view, items_view, members_view};
-ghost use Rattle.jpath_texts.specs.OrderedTree.{is_ordered, are_items_ordered, are_members_ordered, document_of_tree, items_of_tree, members_of_tree};
+ghost use Rattle.jpath_texts.specs.ExactDocument.{document_at, name_bytes};
+ghost use Rattle.jpath_texts.specs.OrderedTree.{is_ordered, are_items_ordered, are_members_ordered, items_of_tree, members_of_tree};
 
 use crate::numbers::exact_number::ExactNumber;
 use crate::ordered_tree::in_order::is_tree_ordered;
 use crate::refusal::DocumentRefusal;
 use json::Value as Exact;
-use jsonpath_nodes::{Atom, Tree};
+use jsonpath_nodes::{Atom, Handle, Tree};
 use jsonpath_paths::Decimal;
 use std::alloc::Global;
 use std::borrow::CowStr;
@@ -73,6 +74,14 @@ impl<'t, 'a> OrderedValue<'t, 'a> {
         }
     }
 
+    // A handle to a value in which the names of each object are in order.
+    pub(crate) fn of_ordered(alloc: Global, value: &'t Exact<'a>) -> OrderedValue<'t, 'a>
+        requires { is_ordered (value_view value.now) ≡ true }
+        ensures { result.value.now ≡ value.now }
+    {
+        OrderedValue { value, alloc }
+    }
+
     /// Returns the value, in the tree of a JSON text, to which this `OrderedValue` is a handle.
     pub fn value(&self) -> &'t Exact<'a>
         ensures { result.now ≡ self.now.value.now }
@@ -81,9 +90,11 @@ impl<'t, 'a> OrderedValue<'t, 'a> {
     }
 }
 
-impl<'t, 'a> Tree for OrderedValue<'t, 'a> {
+impl<'t, 'a> Handle for OrderedValue<'t, 'a> {
     type Name = &'a str;
+}
 
+impl<'t, 'a> Tree for OrderedValue<'t, 'a> {
     type Array = OrderedItems<'t, 'a>;
 
     type Object = OrderedMembers<'t, 'a>;
@@ -96,7 +107,7 @@ impl<'t, 'a> Tree for OrderedValue<'t, 'a> {
 
     type Error = DocumentRefusal;
 
-    ghost content = { λ v. document_of_tree (value_view v.value.now) };
+    ghost content = { document_at };
 
     ghost items = { λ a. items_of_tree (items_view a.items.now.items) };
 

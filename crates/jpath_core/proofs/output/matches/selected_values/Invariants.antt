@@ -6,6 +6,6 @@ use Rattle.jpath_core.proofs.output.matches.selected_values.Given as goal
 
 abbrev pub invariant-loop-query : goal.invariant-loop-query
 invariant-loop-query l = record {
-  selected : AreSelected (take l.query-index l.queries) l.document (map (λ v. value_view v.value.now) l.values.items);
+  selected : AreSelected (take l.query-index l.queries) (value_view l.document.exact) (map (λ v. value_view v.value.now) l.values.items);
   writable : All (λ v. HasNumbers (value_view v.value.now)) l.values.items;
 }

@@ -1,9 +1,8 @@
-use Rattle.std.proofs.Common.{◌≡◌, ◌++◌, true, List, ℕ, map, take}
-use Rattle.jsonpath_nodes.specs.place.SpotPlace.{location_of}
-use Rattle.jpath_texts.specs.NumberPlaces.{is_as_read}
+use Rattle.std.proofs.Common.{◌≡◌, ◌++◌, List, ℕ, map, take}
+use Rattle.json.specs.Value.{value_view}
+use Rattle.jpath_core.specs.Nodes.{location_of}
 use Rattle.jpath_core.specs.Rows.{AreRowsAt}
 use Rattle.jpath_core.proofs.output.table.add_rows.Given as goal
 
-abbrev pub invariant-loop-spot : goal.invariant-loop-spot
-invariant-loop-spot l = is_as_read l.document.numbers ≡ true → (text : List ℕ)
-    × AreRowsAt l.document l.columns l.separated (map location_of (take l.spot-index l.spot-items)) text × (l.out.items ≡ l.initial.out.items ++ text)
+abbrev pub invariant-loop-node : goal.invariant-loop-node
+invariant-loop-node l = (text : List ℕ) × AreRowsAt (value_view l.document.exact) l.columns l.separated (map location_of (take l.node-index l.node-items)) text × (l.out.items ≡ l.initial.out.items ++ text)
