@@ -8,3 +8,4 @@ pub mod NumberKey
 pub mod OrderedTree
 pub mod Rows
 pub mod Stream
+pub mod TreeCode

@@ -1,12 +1,14 @@
 //! A document: its exact tree, as its text has it, and the order in which paths go through it.
 
 ghost use Rattle.std.specs.Prelude.{◌≡◌, true, Some, unwrap_or, IfOk, IfErr};
+ghost use Rattle.std.specs.Coded.{Coded-set};
 ghost use Rattle.json.specs.Tree.{HasNumbers};
 ghost use Rattle.json.specs.Value.{value_view};
 ghost use Rattle.jpath_texts.specs.Exact.{exact_of};
 ghost use Rattle.jpath_texts.specs.Lines.{IsWhyRefused};
 ghost use Rattle.jpath_texts.specs.ExactDocument.{document_at, exact_document};
 ghost use Rattle.jpath_texts.specs.OrderedTree.{in_order, is_ordered};
+ghost use Rattle.jpath_texts.specs.TreeCode.{tree_code};
 
 use crate::exact_tree::read_exact_tree;
 use crate::ordered_tree::handle::OrderedValue;
@@ -21,9 +23,9 @@ use std::alloc::{AllocError, Global};
 pub struct Document<'a> {
     exact: Exact<'a>,
     // The tree in the order of names, where its text has another.
-    in_order: Option<Exact<'a>>,
-    ghost ordered: { is_ordered (value_view (unwrap_or in_order exact)) ≡ true },
-    ghost same: { value_view (unwrap_or in_order exact) ≡ in_order (value_view exact) },
+    by_name: Option<Exact<'a>>,
+    ghost ordered: { is_ordered (value_view (unwrap_or by_name exact)) ≡ true },
+    ghost same: { value_view (unwrap_or by_name exact) ≡ in_order (value_view exact) } by { Coded-set tree_code _ _ },
 }
 
 impl<'a> Document<'a> {
@@ -47,12 +49,12 @@ impl<'a> Document<'a> {
     pub fn of_exact_tree(alloc: Global, exact: Exact<'a>) -> Result<Document<'a>, AllocError>
         ensures { IfOk result (λ document. value_view document.exact ≡ value_view exact.entry) }
     {
-        let in_order = if is_tree_ordered(&exact) {
+        let by_name = if is_tree_ordered(&exact) {
             None
         } else {
             Some(copy_in_order(alloc, &exact)?)
         };
-        Ok(Document { exact, in_order })
+        Ok(Document { exact, by_name })
     }
 
     /// The exact tree of the document: numbers as written, members in the order of the text.
@@ -67,7 +69,7 @@ impl<'a> Document<'a> {
     pub fn root(&self, alloc: Global) -> OrderedValue<'_, 'a>
         ensures { document_at result ≡ exact_document (value_view self.now.exact) }
     {
-        match &self.in_order {
+        match &self.by_name {
             Some(tree) => OrderedValue::of_ordered(alloc, tree),
             None => OrderedValue::of_ordered(alloc, &self.exact),
         }

@@ -9,7 +9,7 @@ use std::alloc::{AllocError, AllocFailed};
 pub enum DocumentRefusal {
     /// An error: a text is no JSON document, or it nests deeper than 127 levels.
     NotADocument,
-    /// An error: a filter compares numbers, and the document has a number whose exponent doesn't fit in 128 bits.
+    /// An error: a filter compares a number whose exponent doesn't fit in 128 bits.
     HugeExponent,
     /// An error of an edit: the text of the edited document could not be read again, mostly because it would nest too
     /// deep.

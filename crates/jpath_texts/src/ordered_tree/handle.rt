@@ -3,8 +3,7 @@
 ghost use Rattle.std.specs.Prelude.{◌≡◌, true, is_some, IfSome};
 ghost use Rattle.std.specs.Slice.Iter.{iter_rest};
 ghost use Rattle.json.specs.Value.{value_view, items_view, members_view};
-ghost use Rattle.jpath_texts.specs.ExactDocument.{document_at, name_bytes};
-ghost use Rattle.jpath_texts.specs.OrderedTree.{is_ordered, are_items_ordered, are_members_ordered, items_of_tree, members_of_tree};
+ghost use Rattle.jpath_texts.specs.OrderedTree.{is_ordered, are_items_ordered, are_members_ordered, document_of_tree, items_of_tree, members_of_tree};
 
 use crate::numbers::exact_number::ExactNumber;
 use crate::ordered_tree::in_order::is_tree_ordered;
@@ -107,7 +106,7 @@ impl<'t, 'a> Tree for OrderedValue<'t, 'a> {
 
     type Error = DocumentRefusal;
 
-    ghost content = { document_at };
+    ghost content = { λ v. document_of_tree (value_view v.value.now) };
 
     ghost items = { λ a. items_of_tree (items_view a.items.now.items) };
 
