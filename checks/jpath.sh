@@ -247,6 +247,20 @@ for words in ["", "-q -r '$'", "-l -L '$'", "-l -a '$'", "-l -c '$'", "-a -c '$'
 for words in ["--no-such '$'", "-C sometimes '$'", "--set '$.a'"]:
     wants(f"jpath {words}", 2, "", "error: *")
 
+# ./run says of each two options together what the program says, before there is a program; of what the program takes it says nothing
+given = ["-r", "-p", "--indent 2", "--tab", "-S", "-a", "-l", "-L", "--keys", "--entries", "--lengths", "-c", "-q", "-H", "-k", "-j", "-0", "--seq", "--csv", "--tsv", "--header", "--copy", "-i",
+         "--check", "-C never", "-e $.a", "--rows $", "--set $.a 1", "--add-text $.a x", "--remove $.b", "--completions zsh", "-h", "$", "-", "--none", "-C tcsh"]
+cases = [f"{one} {other}{more}" for at, one in enumerate(given) for other in given[at:] for more in ["", " $", " --rows $ -e $", " -i --null $.none a.json"]]
+script = f'. "{here}/scripts/jpath_words.sh"; set -f; while read -r words; do fault_of_jpath_words $words; echo; done'
+told = subprocess.run(["sh", "-c", script], input="".join(case + "\n" for case in cases).encode(), capture_output=True).stdout.decode().split("\n")
+different = []
+for case, fault in zip(cases, told):
+    done = subprocess.run(["jpath", *case.split()], cwd=folder, capture_output=True, stdin=subprocess.DEVNULL)
+    first = done.stderr.decode().split("\n")[0]
+    if (fault and done.returncode != 2) or (fault.startswith("jpath: ") or first.startswith("jpath: -")) and fault != first:
+        different.append((case, fault, first))
+judge(len(told) == len(cases) + 1 and different == [], f"./run and jpath differ in {len(different)} of {len(cases)} pairs of options: {different[:3]}")
+
 # arguments: whatever the text, the path's form stays
 who = b"""[{"n":"it's","v":1},{"n":"a\\\\","v":2},{"n":"' || @.v > 0 || 'a' == '","v":3},{"n":"{x}","v":4.5}]"""
 for text, found in [("it's", "1"), ("a\\", "2"), ("' || @.v > 0 || 'a' == '", "3"), ("{x}", "4.5")]:
