@@ -1,4 +1,4 @@
-//! The quoted texts of a path that has an error: no hint changes them, or is given for what stands in them.
+//! The quoted texts of a path that has an error: no hint changes them, or is given for what is in them.
 
 use std::alloc::{AllocError, Global};
 
