@@ -249,7 +249,7 @@ for words in ["--no-such '$'", "-C sometimes '$'", "--set '$.a'"]:
 
 # ./run says of each two options together what the program says, before there is a program; of what the program takes it says nothing
 given = ["-r", "-p", "--indent 2", "--tab", "-S", "-a", "-l", "-L", "--keys", "--entries", "--lengths", "-c", "-q", "-H", "-k", "-j", "-0", "--seq", "--csv", "--tsv", "--header", "--copy", "-i",
-         "--check", "-C never", "-e $.a", "--rows $", "--set $.a 1", "--add-text $.a x", "--remove $.b", "--completions zsh", "-h", "$", "-", "--none", "-C tcsh"]
+         "--check", "-C never", "-e $.a", "--rows $", "--set $.a 1", "--add-text $.a x", "--remove $.b", "--completions zsh", "-h", "$", "-", "--none", "-C tcsh", "$['a|b'][1:2]", "-- -c"]
 cases = [f"{one} {other}{more}" for at, one in enumerate(given) for other in given[at:] for more in ["", " $", " --rows $ -e $", " -i --null $.a none.json"]]
 script = f'. "{here}/scripts/jpath_words.sh"; set -f; while read -r words; do fault_of_jpath_words $words; echo; done'
 told = subprocess.run(["sh", "-c", script], input="".join(case + "\n" for case in cases).encode(), capture_output=True).stdout.decode().split("\n")

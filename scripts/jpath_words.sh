@@ -48,30 +48,37 @@ take_option() {
 
 # What is wrong with words of jpath, as far as its options tell: nothing is said of words that it may take.
 fault_of_jpath_words() {
-    given='' wants='' is_end=''
+    given='' wants=''
     while [ "$#" -gt 0 ]; do
         word=$1
         shift
-        case $is_end$wants:$word in
-            *'|'*:*)
-                case "|${wants% }|" in *"|$word|"*) wants='' && continue ;; esac
-                printf "jpath wants %s behind %s, not '%s'" "${wants% }" "$option" "$word" && return
+        if [ -n "$wants" ]; then
+            case $wants in
+                *'|'*)
+                    case "|${wants% }|" in *"|$word|"*) ;; *) printf "jpath wants %s behind %s, not '%s'" "${wants% }" "$option" "$word" && return ;; esac
+                    ;;
+            esac
+            wants=${wants#* }
+            continue
+        fi
+        case $word in
+            --)
+                for word; do case $word in -) given="$given FILE -" ;; *) given="$given FILE" ;; esac done
+                break
                 ;;
-            *' ':*) wants=${wants#* } ;;
-            :--) is_end=yes ;;
-            :--*=*)
+            --*=*)
                 take_option "${word%%=*}" || return
                 [ -n "$wants" ] || { printf "jpath has no option '%s'" "$word" && return; }
                 set -- "${word#*=}" "$@"
                 ;;
-            :--*) take_option "$word" || return ;;
-            :-?*)
+            --*) take_option "$word" || return ;;
+            -?*)
                 rest=${word#-?}
                 take_option "${word%"$rest"}" || return
                 [ -n "$wants" ] || rest=${rest:+-$rest}
                 [ -z "$rest" ] || set -- "${rest#=}" "$@"
                 ;;
-            *:-) given="$given FILE -" ;;
+            -) given="$given FILE -" ;;
             *) given="$given FILE" ;;
         esac
         ! has '-h -V' || return
