@@ -257,7 +257,7 @@ different = []
 for case, fault in zip(cases, told):
     done = subprocess.run(["jpath", *case.split()], cwd=folder, capture_output=True, stdin=subprocess.DEVNULL)
     first = done.stderr.decode().split("\n")[0]
-    if (fault and done.returncode != 2) or (fault.startswith("jpath: ") or first.startswith("jpath: -")) and fault != first:
+    if (fault and done.returncode != 2) or (fault.startswith("jpath: ") or done.returncode == 2 and first.startswith("jpath: -")) and fault != first:
         different.append((case, fault, first))
 judge(len(told) == len(cases) + 1 and different == [], f"./run and jpath differ in {len(different)} of {len(cases)} pairs of options: {different[:3]}")
 
