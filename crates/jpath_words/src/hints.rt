@@ -248,8 +248,7 @@ fn hint_to_quote_text(
         return Ok(None);
     };
     let text = compared.text;
-    let is_null = text.is_empty() || NULLS.iter().any(|null| text == *null);
-    if is_null || rest.starts_with('{') || is_number_of_json(text) {
+    if is_no_text(text) || rest.starts_with('{') || is_number_of_json(text) {
         return Ok(None);
     }
     let quoted = format!(in alloc; "'{text}'")?;
@@ -288,6 +287,11 @@ fn compared_text<'p>(path: &'p str, before: &'p str) -> Option<ComparedText<'p>>
 fn ends_with_comparison(text: &str) -> bool {
     text.trim_end()
         .ends_with(|c: char| c == '=' || c == '<' || c == '>')
+}
+
+// Whether the text is empty, or what other languages have where nothing is.
+fn is_no_text(text: &str) -> bool {
+    text.is_empty() || NULLS.iter().any(|null| text == *null)
 }
 
 // Whether the text is a number that JSON or people have, and a path has not: `.5`, `5.`, `1e2`, `8,95`.

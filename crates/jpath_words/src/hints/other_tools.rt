@@ -16,11 +16,7 @@ pub(super) fn hint_to_begin_with_root(alloc: Global, path: &str) -> Result<Strin
     ensures { IfOk result (λ hint. BeginsWithRoot (string_bytes hint)) }
 {
     let path = path.trim().trim_start_matches('$');
-    let rooted = path_from_root(alloc, path)?;
-    let fixed = match path_with_parentheses(alloc, rooted.as_str())? {
-        Some(fixed) => fixed,
-        None => rooted,
-    };
+    let fixed = path_from_root(alloc, path)?;
     let fixed = fixed.as_str();
     let more = if is_file_name(path) {
         " and comes before the FILE: jpath '$.name' file.json"
@@ -50,9 +46,18 @@ fn sentence_unless_xpath(alloc: Global, path: &str, fixed: &str) -> Option<&'sta
     sentence_for_other_tool(path)
 }
 
+// The text as a path from `$`, with parentheses about the condition of its first filter, if that makes it one.
+fn path_from_root(alloc: Global, path: &str) -> Result<String, AllocError> {
+    let names = names_from_root(alloc, path)?;
+    match path_with_parentheses(alloc, names.as_str())? {
+        Some(fixed) => Ok(fixed),
+        None => Ok(names),
+    }
+}
+
 // The text with `$` in front, `[*]` for each `[]`, a dot for each slash of an XPath, or two where it begins with two, and
 // no `?` at its end.
-fn path_from_root(alloc: Global, path: &str) -> Result<String, AllocError> {
+fn names_from_root(alloc: Global, path: &str) -> Result<String, AllocError> {
     let slash = match (path.starts_with("//"), path.starts_with('/')) {
         (true, _) => "..",
         (_, true) => ".",

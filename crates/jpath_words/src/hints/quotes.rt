@@ -44,10 +44,11 @@ pub(super) fn replace_unquoted(
         return String::from_str(alloc, path);
     };
     for (number, piece) in path.split(quote).enumerate() {
-        let pairs = if number % 2 == 0 { pairs } else { &[] };
         let mut piece = String::from_str(alloc, piece)?;
         for (wrong, right) in pairs {
-            piece = piece.as_str().replace(alloc, *wrong, *right)?;
+            if number % 2 == 0 {
+                piece = piece.as_str().replace(alloc, *wrong, *right)?;
+            }
         }
         replaced.push_str(if number == 0 { "" } else { quote })?;
         replaced.push_str(piece.as_str())?;
