@@ -247,6 +247,20 @@ for words in ["", "-q -r '$'", "-l -L '$'", "-l -a '$'", "-l -c '$'", "-a -c '$'
 for words in ["--no-such '$'", "-C sometimes '$'", "--set '$.a'"]:
     wants(f"jpath {words}", 2, "", "error: *")
 
+# ./run says of each two options together what the program says, before there is a program; of what the program takes it says nothing
+given = ["-r", "-p", "--indent 2", "--tab", "-S", "-a", "-l", "-L", "--keys", "--entries", "--lengths", "-c", "-q", "-H", "-k", "-j", "-0", "--seq", "--csv", "--tsv", "--header", "--copy", "-i",
+         "--check", "-C never", "-e $.a", "--rows $", "--set $.a 1", "--add-text $.a x", "--remove $.b", "--completions zsh", "-h", "$", "-", "--none", "-C tcsh", "$['a|b'][1:2]", "-- -c"]
+cases = [f"{one} {other}{more}" for at, one in enumerate(given) for other in given[at:] for more in ["", " $", " --rows $ -e $", " -i --null $.a none.json"]]
+script = f'. "{here}/scripts/jpath_words.sh"; set -f; while read -r words; do fault_of_jpath_words $words; echo; done'
+told = subprocess.run(["sh", "-c", script], input="".join(case + "\n" for case in cases).encode(), capture_output=True).stdout.decode().split("\n")
+different = []
+for case, fault in zip(cases, told):
+    done = subprocess.run(["jpath", *case.split()], cwd=folder, capture_output=True, stdin=subprocess.DEVNULL)
+    first = done.stderr.decode().split("\n")[0]
+    if (fault and done.returncode != 2) or (fault.startswith("jpath: ") or done.returncode == 2 and first.startswith("jpath: -")) and fault != first:
+        different.append((case, fault, first))
+judge(len(told) == len(cases) + 1 and different == [], f"./run and jpath differ in {len(different)} of {len(cases)} pairs of options: {different[:3]}")
+
 # arguments: whatever the text, the path's form stays
 who = b"""[{"n":"it's","v":1},{"n":"a\\\\","v":2},{"n":"' || @.v > 0 || 'a' == '","v":3},{"n":"{x}","v":4.5}]"""
 for text, found in [("it's", "1"), ("a\\", "2"), ("' || @.v > 0 || 'a' == '", "3"), ("{x}", "4.5")]:
@@ -304,13 +318,30 @@ for path, caret, hint in [("$.my key", 5, "$['first name']"), ("$[?(@.a > .5)]",
                           ("$[?(@.t == Moby Dick)]", 11, "needs quotes"), ("$[?(@.a == {x})]", 11, "--arg NAME TEXT"), ("$[{x}]", 2, "--arg NAME TEXT")]:
     refused(path, caret, hint)
 for path, caret, hint in [(".. | .price? // empty", 0, "there is no //"), ("$.price? // empty", 7, "there is no //"), ("data/books.json", 0, "comes before the FILE"), ("/tmp/x.json", 0, "comes before the FILE"), ("./x", 0, "comes before the FILE"),
-                          ("/store/book", 0, "write $.store.book\n"), ("/store/book[1]/title", 0, "an index counts from 0"), ("//book[0]", 0, "an index counts from 0"), ("//book", 0, "write $..book\n"), ("$/store/book", 0, "separated by dots: $.store.book\n"), (".a,.b", 0, "-e '$.a' -e '$.b'"), ("[0,1]", 0, "write $[0,1]\n"),
+                          ("/store/book", 0, "write $.store.book;"), ("/store/book[1]/title", 0, "an index counts from 0"), ("//book[0]", 0, "an index counts from 0"), ("//book", 0, "write $..book\n"), ("$/store/book", 0, "separated by dots: $.store.book\n"), (".a,.b", 0, "-e '$.a' -e '$.b'"), ("[0,1]", 0, "write $[0,1]\n"),
                           ("keys[]", 0, "jpath --keys '$'"), ("keys_unsorted", 0, "jpath --keys '$'"), ("keys_unsorted[]", 0, "jpath --keys '$'"), (".a | keys", 0, "jpath --keys '$'"), (".keys", 0, "write $.keys\n"),
                           ("to_entries", 0, "jpath --entries '$'"), (".a | to_entries", 0, "jpath --entries '$'"), ("with_entries(.value.n)", 0, "jpath --entries '$'"), ("paths", 0, "jpath -l '$..*'"), (".a|length", 0, "jpath --lengths '$.a'"),
                           ("map(.x)", 0, "no functions"), ("sort_by(.x)", 0, "no functions"), ("group_by(.x)", 0, "no functions"), (".a | add", 0, "no functions"), ("add", 0, "write $.add\n"),
                           (".rate = 0.5", 0, "jpath --set '$.rate' 0.5"), ("$.rate=0.5", 6, "jpath --set '$.rate' 0.5"), (".a |= 3", 0, "jpath --set"), (".a += 1", 0, "--set '$.a' 2"), ('.list += ["x"]', 0, "jpath --append '$.list' '\"x\"'"), ("del(.x)", 0, "jpath --remove '$.x'"),
                           ("$[?(@.a === 1)]", 10, "written ==: $[?(@.a == 1)]\n"), ("$[?(@.a !== 1)]", 10, "written !=: $[?(@.a != 1)]\n"), ("$[?(@.a <> 1)]", 9, "written !=: $[?(@.a != 1)]\n"), (".store.book[] | select(.price < 10)", 0, "$[?(@.price < 10)]")]:
     refused(path, caret, hint)
+# what SQL, XPath, JavaScript and word processors have; a quoted text with such signs in it stays
+for path, caret, hint in [("//book/title", 0, "write $..book..title; [*] behind a name"), ("/store/book/title", 0, "write $.store.book.title; [*] behind a name"), ("/a//b", 0, "write $.a..b;"),
+                          ("//book[@.price<10]", 0, "write $..book[?(@.price<10)]\n"), ("$[@.price<10]", 2, "$[?(@.price<10)]\n"), ("[@.price<10]", 0, "write $[?(@.price<10)]\n"), ("[?@.price<10].t", 0, "write $[?(@.price<10)].t\n"),
+                          ("$.a[@.b < 10].c[0]", 4, "$.a[?(@.b < 10)].c[0]\n"), ("$[@.a == 'x' && @.b]", 2, "$[?(@.a == 'x' && @.b)]\n"), ("$.a[@.b == 'x]y']", 4, "$.a[?(@.b == 'x]y')]\n"),
+                          ("$.a[last()].b", 4, "$.a[-1].b\n"), (" $.a", 0, "begins with $: write $.a\n"), ("  $[0].b", 0, "begins with $: write $[0].b\n"), (" users", 0, "write $.users\n"),
+                          ("$[?(@.a > 1 AND @.b < 2)]", 12, "&&: $[?(@.a > 1 && @.b < 2)]\n"), ("$[?(@.a == 'x AND y' AND @.b)]", 21, "&&: $[?(@.a == 'x AND y' && @.b)]\n"), ("$[?(@.a and @.b and @.c)]", 8, "&&: $[?(@.a && @.b && @.c)]\n"),
+                          ("$[?(@.a OR @.b)]", 8, "||: $[?(@.a || @.b)]\n"), ("$[?(@.a > 1 AND @.b LIKE 'x')]", 12, "joined by && and ||: [?(@.a && @.b)]\n"), ("$[?(@.a == \"it's\" AND @.b)]", 18, "joined by && and ||: [?(@.a && @.b)]\n"), ("$[?(@.a IN ('x','y'))]", 8, "no `in`"), ("$[?(@.a NOT IN ('x'))]", 8, "no `!`"),
+                          ("$[?(@.a LIKE 'x%')]", 8, "regular"), ("$[?(@.a is null)]", 8, "can't ask for null"), ("$[?(@.a IS NOT NULL)]", 8, "can't ask for null"), ("$[?(@.a BETWEEN 1 AND 2)]", 8, "@.a >= 1 && @.a <= 9"),
+                          ("$[?(@.a == undefined)]", 11, "can't ask for null"), ("$[?(@.a == NULL)]", 11, "can't ask for null"), ("$[?(@.a == undefinedly)]", 11, "quotes: $[?(@.a == 'undefinedly')]\n"),
+                          ("$[?(@.a < 8,95)]", 11, "no comma"), ("$[?(@.a == 1,000 && @.b)]", 12, "no comma"), ("$[?(@.my key > 1)]", 9, "$['first name']"),
+                          ("$[?(@.a.includes('x'))]", 16, "no functions in a filter"), ("$[?(@.a.contains('x'))]", 16, "no functions in a filter"), ("$[?(@.a contains 'x')]", 8, "no functions in a filter"), ("$.a.includes('x')", 12, "no functions in a path"),
+                          ("$[?(@.a === 'x === y')]", 10, "written ==: $[?(@.a == 'x === y')]\n"), ("$/a['b/c']/d", 0, "dots: $.a['b/c'].d\n"), ("$['=~'].b c", 10, "$['first name']"), ("$[?(@.a = 'it ‘is’ AND')]", 8, "signs: $[?(@.a == 'it ‘is’ AND')]\n"),
+                          ("$[?(@.a == ‘x’)]", 11, "sides: $[?(@.a == 'x')]\n"), ("$[?(@.a == “x y”)]", 11, 'sides: $[?(@.a == "x y")]\n'), ("$[`a`]", 2, "sides: $['a']\n"), ("$[?(@.a == ‘b AND c’ AND @.d)]", 11, "&&: $[?(@.a == 'b AND c' && @.d)]\n")]:
+    refused(path, caret, hint)
+for path in ["$[?(@.a == “it's”)]", "$[‘it's’]"]:
+    done = subprocess.run(["jpath", path, "a.json"], cwd=folder, capture_output=True, stdin=subprocess.DEVNULL)
+    judge(done.returncode == 2 and "hint" not in done.stderr.decode(), f"path {path} has a hint: {done.stderr.decode()}")
 for path, shown, error in [('$[?(@.a == {x} && @.b == "c)]', '$[?(@.a == \'v\' && @.b == "c)]', "isn't closed"), ("$[?(@.a = {x})]", "$[?(@.a = 'v')]", "signs: $[?(@.a == 'v')]\n"),
                            ("$[?(@.a == {x} & {x} > @.b)]", "$[?(@.a == 'v' & 'v' > @.b)]", "&&: $[?(@.a == 'v' && 'v' > @.b)]\n")]:
     done = subprocess.run(["jpath", "--arg", "x", "v", path, "a.json"], cwd=folder, capture_output=True, stdin=subprocess.DEVNULL)

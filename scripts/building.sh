@@ -45,8 +45,8 @@ needs_rt() {
 
 no_room() { refuse 73 "no folder for temporary files can be made"; }
 
-# On a terminal one line is written over each second: what is done, and since when. Elsewhere what is no count
-# of functions (`tell` with a second word) has a line of its own.
+# On a terminal one line is written over each second: what is done, as far as it fits, and since when. Elsewhere what is
+# no count of functions (`tell` with a second word) has a line of its own.
 under_way='' ticker='' room='' site=''
 tell() {
     if [ -t 2 ]; then
@@ -59,7 +59,10 @@ tell() {
 tick() {
     seconds=0
     while read -r doing < "$room/doing"; do
-        printf '\r\033[K%s, %d:%02d' "run: $doing" $((seconds / 60)) $((seconds % 60)) >&3
+        since=$(printf ', %d:%02d' $((seconds / 60)) $((seconds % 60)))
+        width=$(stty size <&3)
+        [ "${width#* }" -gt 20 ] || width=500
+        printf "\r\033[K%.$((${width#* } - 1 - ${#since}))s%s" "run: $doing" "$since" >&3
         sleep 1
         seconds=$((seconds + 1))
     done

@@ -34,14 +34,6 @@ TEXT
 }
 
 usage_of_run='usage: ./run [--unproved] select|delete|remove|check PATH | mask PATH.. | ./run --unproved jpath WORDS.. | ./run --help'
-usage_of_jpath='usage: ./run --unproved jpath [OPTIONS] PATH [FILE..] | [OPTIONS] -e PATH.. [FILE..] | [OPTIONS] EDIT.. [FILE..] | --help'
-
-# Before jpath is built: how it is used, and where its options are.
-print_help_of_jpath() {
-    printf '%s\n' "$usage_of_jpath" \
-        "docs/JPATH.md has the options, docs/jpath.1 the manual: man -l docs/jpath.1. Once jpath is built, --help has them."
-    exit 0
-}
 
 are_words_of_run() {
     case ${1-} in
@@ -51,60 +43,4 @@ are_words_of_run() {
             ;;
         *) return 1 ;;
     esac
-}
-
-# What is wrong with words of jpath, as far as its options tell: nothing is said of words that it may take.
-fault_of_jpath_words() {
-    has_path='' wants=0 option='' has_rows='' is_table='' has_column='' has_edit='' is_in_place=''
-    for word; do
-        if [ "$wants" -gt 0 ]; then
-            wants=$((wants - 1))
-            word=$option=$word option=''
-            case $word in --color=* | --indent=* | --completions=*) ;; *) continue ;; esac
-        fi
-        case $word in
-            --) has_path=yes && break ;;
-            --raw | --pretty | --tab | --sort-keys | --array | --locations | --with-locations | --keys | --entries | --lengths | --count | --quiet | --with-filename | --keep-going | --join | --nul | --seq) ;;
-            --csv | --tsv | --header) is_table=yes ;;
-            --in-place) is_in_place=yes ;;
-            --copy | --check) ;;
-            --help | --version) has_path=yes ;;
-            --completions) has_path=yes wants=1 option=$word ;;
-            --completions=bash | --completions=zsh | --completions=fish) has_path=yes ;;
-            --color | --indent) wants=1 option=$word ;;
-            --color=auto | --color=always | --color=never | --indent=[1-8]) ;;
-            --color=* | --indent=* | --completions=*) printf "jpath's option has no value '%s'" "$word" && return ;;
-            --arg | --argjson) wants=2 ;;
-            --arg=* | --argjson=*) wants=1 ;;
-            --rows) has_rows=yes has_path=yes wants=1 ;;
-            --rows=*) has_rows=yes has_path=yes ;;
-            --path) has_path=yes has_column=yes wants=1 ;;
-            --path=*) has_path=yes has_column=yes ;;
-            --null | --remove) has_path=yes has_edit=yes wants=1 ;;
-            --null=* | --remove=*) has_path=yes has_edit=yes ;;
-            --set | --set-text | --add | --add-text | --append | --rename) has_path=yes has_edit=yes wants=2 ;;
-            --set=* | --set-text=* | --add=* | --add-text=* | --append=* | --rename=*) has_path=yes has_edit=yes wants=1 ;;
-            --*) printf "jpath has no option '%s'" "$word" && return ;;
-            -C) wants=1 option=--color ;;
-            -e) has_path=yes has_column=yes wants=1 ;;
-            -C* | -) ;;
-            -e*) has_path=yes has_column=yes ;;
-            -[hV]) has_path=yes ;;
-            -*[!rpSalLcqHkij0]*) printf "jpath has no option '%s'" "$word" && return ;;
-            -*i*) is_in_place=yes ;;
-            -*) ;;
-            *) has_path=yes ;;
-        esac
-    done
-    if [ -z "$has_path" ]; then
-        printf 'jpath wants a path'
-    elif [ "$wants" -gt 0 ]; then
-        printf 'the last option of jpath wants more words'
-    elif [ -n "$is_table" ] && [ -z "$has_rows" ]; then
-        printf 'jpath takes --csv, --tsv and --header with --rows PATH and -e COLUMN'
-    elif [ -n "$has_rows" ] && [ -z "$has_column" ]; then
-        printf 'jpath takes --rows PATH with -e COLUMN'
-    elif [ -n "$is_in_place" ] && [ -z "$has_edit" ]; then
-        printf 'jpath takes -i with an edit, as --set, --add or --remove'
-    fi
 }

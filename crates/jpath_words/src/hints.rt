@@ -5,8 +5,10 @@ ghost use Rattle.jpath_words.specs.Refusals.{BeginsWithRoot, EndsWithPath};
 ghost use Rattle.jsonpath_paths.specs.Spelling.{IsInGrammar};
 
 mod other_tools;
+mod quotes;
 
 use crate::hints::other_tools::{hint_to_begin_with_root, sentence_for_other_tool};
+use crate::hints::quotes::{STRAIGHT_QUOTES, has_unquoted, is_quote, replace_unquoted};
 use jsonpath_paths::{PathParser, Token, Tokenizer};
 use std::alloc::{AllocError, Global};
 
@@ -28,6 +30,13 @@ const NO_LIST: &str = "several paths are given by -e: jpath -e '$.a' -e '$.b'";
 
 const NO_IN: &str = "there is no `in`: write == for each text, joined by ||";
 
+const NO_CALL: &str =
+    "there are no functions in a filter: compare with == or <, or filter the lines by grep";
+
+const NO_BETWEEN: &str = "a range is two comparisons: @.a >= 1 && @.a <= 9";
+
+const NO_AND: &str = "conditions are joined by && and ||: [?(@.a && @.b)]";
+
 const NO_SUM: &str = "a path computes nothing: write the number itself";
 
 const NO_BACKWARDS: &str = "a range has no negative step: it never runs backwards";
@@ -41,7 +50,8 @@ const NOT_CLOSED: &str = "the quoted text isn't closed";
 const NO_ARGUMENT: &str =
     "--arg NAME TEXT puts a text in place of {NAME}, --argjson NAME NUMBER a number";
 
-const NO_NUMBER: &str = "a number has digits on both sides of its point, and no exponent: 0.5, 100";
+const NO_NUMBER: &str =
+    "a number has digits on both sides of its point, no comma and no exponent: 0.5, 1000";
 
 const NO_QUOTES: &str = "a text in a filter needs quotes: @.name == 'Moby Dick'";
 
@@ -49,22 +59,51 @@ const NO_BRACKETS: &str = "a name with a blank needs brackets and quotes: $['fir
 
 const PARENTHESES: &str = "a filter's condition is written in parentheses: [?(@.price < 10)]";
 
-// What is written instead of a sign of another language, wherever it stands, and why; of a slash only where no text is
-// quoted, since it may be one of the text.
-const SIGNS: [(&str, &str, &str); 4] = [
-    ("===", "==", "equal is written =="),
-    ("!==", "!=", "not equal is written !="),
-    ("<>", "!=", "not equal is written !="),
-    ("/", ".", "names are separated by dots"),
+const AND: [(&str, &str); 2] = [(" and ", " && "), (" AND ", " && ")];
+
+const OR: [(&str, &str); 2] = [(" or ", " || "), (" OR ", " || ")];
+
+// What is written instead of signs of another language, wherever they stand outside of quoted texts, and why.
+const SIGNS: [(&[(&str, &str)], &str); 6] = [
+    (&STRAIGHT_QUOTES, "a quoted text has ' or \" on both sides"),
+    (&[("===", "==")], "equal is written =="),
+    (&[("!==", "!="), ("<>", "!=")], "not equal is written !="),
+    (&AND, "conditions are joined by &&"),
+    (&OR, "conditions are joined by ||"),
+    (&[("/", ".")], "names are separated by dots"),
+];
+
+// What other languages have where nothing is.
+const NULLS: [&str; 4] = ["null", "NULL", "None", "undefined"];
+
+// What is said of a path that has this outside of quoted texts.
+const PARTS: [(&str, &str); 5] = [
+    ("=~", NO_MATCH),
+    ("~=", NO_MATCH),
+    ("match(", NO_MATCH),
+    ("search(", NO_MATCH),
+    ("length(", NO_FUNCTION),
+];
+
+// What is said of a filter with an error where these words begin, in capitals or not.
+const WORDS: [(&str, &str); 10] = [
+    ("in ", NO_IN),
+    ("not ", NO_NOT),
+    ("like ", NO_MATCH),
+    ("is null", NO_NULL),
+    ("is not null", NO_NULL),
+    ("contains ", NO_CALL),
+    ("includes ", NO_CALL),
+    ("between ", NO_BETWEEN),
+    ("and ", NO_AND),
+    ("or ", NO_AND),
 ];
 
 // What is written instead of a wrong text at the error, and why.
-const REPLACEMENTS: [(&str, &str, &str); 15] = [
+const REPLACEMENTS: [(&str, &str, &str); 14] = [
     ("=>", ">=", "greater or equal is >="),
     ("=<", "<=", "less or equal is <="),
     ("=", "==", "a comparison has two equals signs"),
-    ("and ", "&& ", "conditions are joined by &&"),
-    ("or ", "|| ", "conditions are joined by ||"),
     ("&", "&&", "conditions are joined by &&"),
     ("|", "||", "conditions are joined by ||"),
     ("]", "*]", "all children are [*]"),
@@ -78,6 +117,7 @@ const REPLACEMENTS: [(&str, &str, &str); 15] = [
         "-1",
         "an index below zero counts from the end",
     ),
+    ("last()", "-1", "an index below zero counts from the end"),
     ("(", "?(", "a filter has ? before its parentheses"),
     (" ", "", "no blank is allowed here"),
     ("$", "$.", "a dot comes between $ and a name"),
@@ -146,12 +186,8 @@ fn hint_to_replace(alloc: Global, before: &str, rest: &str) -> Result<Option<Str
     ensures { IfOk result (λ o. IfSome o (λ hint. EndsWithPath (string_bytes hint))) }
 {
     let mut fixed = format!(in alloc; "{before}{rest}")?;
-    let has_quotes = before.contains("'") || rest.contains("'") || rest.contains("\"");
-    for (wrong, right, sentence) in SIGNS {
-        if wrong == "/" && has_quotes {
-            continue;
-        }
-        fixed = fixed.as_str().replace(alloc, wrong, right)?;
+    for (signs, sentence) in SIGNS {
+        fixed = replace_unquoted(alloc, fixed.as_str(), signs)?;
         if let Some(hint) = hint_if_path(alloc, sentence, fixed.as_str(), "", "")? {
             return Ok(Some(hint));
         }
@@ -212,7 +248,7 @@ fn hint_to_quote_text(
         return Ok(None);
     };
     let text = compared.text;
-    if matches!(text, "" | "null") || rest.starts_with('{') || is_number_of_json(text) {
+    if is_no_text(text) || rest.starts_with('{') || is_number_of_json(text) {
         return Ok(None);
     }
     let quoted = format!(in alloc; "'{text}'")?;
@@ -253,15 +289,20 @@ fn ends_with_comparison(text: &str) -> bool {
         .ends_with(|c: char| c == '=' || c == '<' || c == '>')
 }
 
-// Whether the text is a number that JSON or other languages have, and a path has not: `.5`, `5.`, `1e2`.
+// Whether the text is empty, or what other languages have where nothing is.
+fn is_no_text(text: &str) -> bool {
+    text.is_empty() || NULLS.iter().any(|null| text == *null)
+}
+
+// Whether the text is a number that JSON or people have, and a path has not: `.5`, `5.`, `1e2`, `8,95`.
 fn is_number_of_json(text: &str) -> bool {
-    let has_exponent = text.contains("e") || text.contains("E");
     let is_open = text.starts_with('.') || text.ends_with('.');
-    (has_exponent || is_open)
+    (is_open || text.contains(|c: char| matches!(c, 'e' | 'E' | ',')))
         && text.find(".") == text.rfind(".")
         && text.contains(|c: char| c.is_ascii_digit())
         && text.starts_with(|c: char| c.is_ascii_digit() || c == '.')
-        && text.chars().all(|c| c.is_ascii_digit() || matches!(c, '.' | 'e' | 'E' | '+' | '-'))
+        && text.chars().all(|c| c.is_ascii_digit()
+            || matches!(c, '.' | ',' | 'e' | 'E' | '+' | '-'))
 }
 
 // Whether a word ends before blanks at the end of `before`, and another begins `rest`.
@@ -278,18 +319,15 @@ fn is_of_name(c: char) -> bool {
 
 // Whether a text without quotes that is compared ends before this character, or begins behind it.
 fn is_end_of_text(c: char) -> bool {
-    c.is_whitespace() || matches!(c, '=' | '<' | '>' | '&' | '|' | '(' | ')' | '\'' | '"')
+    c.is_whitespace() || is_quote(c) || matches!(c, '=' | '<' | '>' | '&' | '|' | '(' | ')')
 }
 
 // Whether a text in brackets can be bare names: it has a letter, and no sign of another form.
 fn is_bare(names: &str) -> bool {
-    names.chars().any(|c| c.is_alphabetic() || c == '_')
-        && !names.contains("'")
-        && !names.contains("\"")
-        && !names.contains("(")
-        && !names.contains("$")
-        && !names.contains("{")
-        && !names.contains("@")
+    names.contains(|c: char| c.is_alphabetic() || c == '_')
+        && !names.contains(|c: char| {
+            is_quote(c) || matches!(c, '(' | '$' | '{' | '@' | '=' | '<' | '>')
+        })
 }
 
 // The sentence and the path that these three texts make, if they make one.
@@ -313,28 +351,26 @@ fn hint_if_path(
     }
 }
 
-// The path text with parentheses about the condition of its first filter, as `[?(..)]`. `None` where it has no filter,
-// where they stand there, or where it is no path with them.
+// The path text with parentheses about the condition of its first filter, as `[?(..)]`, also for `[@..]`. `None` where it
+// has no filter, where they stand there, or where it is no path with them.
 fn path_with_parentheses(alloc: Global, path: &str) -> Result<Option<String>, AllocError>
     ensures { IfOk result (λ o. IfSome o (λ fixed. IsInGrammar (string_bytes fixed))) }
 {
-    let Some(open) = path.find("[?") else {
+    let path = replace_unquoted(alloc, path, &[("[@", "[?@")])?;
+    let Some((front, rest)) = path.as_str().split_once("[?") else {
         return Ok(None);
     };
-    let begins = open.saturating_add(2);
-    let rest = path.get(begins..).unwrap_or("");
     if rest.starts_with('(') {
         return Ok(None);
     }
-    let Some(close) = rest.rfind("]") else {
-        return Ok(None);
-    };
-    let front = path.get(..begins).unwrap_or("");
-    let condition = rest.get(..close).unwrap_or("");
-    let tail = rest.get(close..).unwrap_or("");
-    let fixed = format!(in alloc; "{front}({condition}){tail}")?;
-    if PathParser::compile(alloc, fixed.as_str()).is_ok() {
-        return Ok(Some(fixed));
+    for close in [rest.find("]"), rest.rfind("]")] {
+        let close = close.unwrap_or(0);
+        let condition = rest.get(..close).unwrap_or("");
+        let tail = rest.get(close..).unwrap_or("");
+        let fixed = format!(in alloc; "{front}[?({condition}){tail}")?;
+        if PathParser::compile(alloc, fixed.as_str()).is_ok() {
+            return Ok(Some(fixed));
+        }
     }
     Ok(None)
 }
@@ -348,39 +384,37 @@ fn hint_for_unsupported_syntax(path: &str, before: &str, rest: &str) -> Option<&
             return Some(sentence);
         }
     }
-    if rest
-        .trim_start_matches('=')
-        .trim_start()
-        .starts_with("null")
-    {
+    let compared = rest.trim_start_matches('=').trim_start();
+    if NULLS.iter().any(|null| compared.starts_with(*null)) {
         return Some(NO_NULL);
     }
     if rest.starts_with('{') {
         return Some(NO_ARGUMENT);
     }
-    if path.contains("=~")
-        || path.contains("~=")
-        || path.contains("match(")
-        || path.contains("search(")
-    {
-        return Some(NO_MATCH);
+    for (part, sentence) in PARTS {
+        if has_unquoted(path, part) {
+            return Some(sentence);
+        }
     }
-    if path.contains("length(")
-        || rest.starts_with("()")
-        || (rest.starts_with('(') && !has_filter)
-    {
+    if rest.starts_with('(') && has_filter && before.ends_with(|c: char| is_of_name(c)) {
+        return Some(NO_CALL);
+    }
+    if rest.starts_with("()") || (rest.starts_with('(') && !has_filter) {
         return Some(NO_FUNCTION);
     }
-    if rest.starts_with("in ") {
-        return Some(NO_IN);
+    for (words, sentence) in WORDS {
+        let begin = rest.get(..words.len()).unwrap_or("");
+        if has_filter && begin.eq_ignore_ascii_case(words) {
+            return Some(sentence);
+        }
     }
     if !has_filter && rest.starts_with(',') && !before.ends_with(|c: char| c.is_ascii_digit()) {
         return Some(NO_LIST);
     }
-    if rest.starts_with('!') || rest.starts_with("not ") {
+    if rest.starts_with('!') {
         return Some(NO_NOT);
     }
-    if rest.starts_with('-') && path.contains(':') {
+    if rest.starts_with('-') && has_unquoted(path, ":") {
         return Some(NO_BACKWARDS);
     }
     if has_filter && (rest.starts_with('-') || rest.starts_with('+') || rest.starts_with('*')) {
@@ -423,11 +457,7 @@ fn sentence_for_compared(text: &str, rest: &str) -> Option<&'static str> {
 // The sentence where a quoted text is refused: it isn't closed, or stands in a list of indexes.
 fn sentence_at_quote(before: &str, rest: &str) -> Option<&'static str> {
     let quoted = rest.get(1..).unwrap_or("");
-    let is_closed = if rest.starts_with('"') {
-        quoted.contains("\"")
-    } else {
-        quoted.contains("'")
-    };
+    let is_closed = rest.get(..1).is_some_and(|quote| quoted.contains(quote));
     if !is_closed {
         return Some(NOT_CLOSED);
     }

@@ -3,15 +3,19 @@
 ghost use Rattle.std.specs.Prelude.{IfOk, string_bytes};
 ghost use Rattle.jpath_words.specs.Refusals.{BeginsWithRoot};
 
-use crate::hints::is_of_name;
+use crate::hints::{is_of_name, path_with_parentheses};
 use jsonpath_paths::PathParser;
 use std::alloc::{AllocError, Global};
+
+// What is said of an XPath of several names, which goes into lists by itself.
+const ON_LISTS: &str = "; [*] behind a name takes the items of its list";
 
 // The sentence for a text that begins with no `$`: to write it with `$` in front, if it is a path then, or what is written
 // for it.
 pub(super) fn hint_to_begin_with_root(alloc: Global, path: &str) -> Result<String, AllocError>
     ensures { IfOk result (λ hint. BeginsWithRoot (string_bytes hint)) }
 {
+    let path = path.trim().trim_start_matches('$');
     let fixed = path_from_root(alloc, path)?;
     let fixed = fixed.as_str();
     let more = if is_file_name(path) {
@@ -19,7 +23,9 @@ pub(super) fn hint_to_begin_with_root(alloc: Global, path: &str) -> Result<Strin
     } else if let Some(sentence) = sentence_unless_xpath(alloc, path, fixed) {
         return format!(in alloc; "a path begins with $; {sentence}");
     } else if !path.starts_with('{') && PathParser::compile(alloc, fixed).is_ok() {
-        return format!(in alloc; "a path begins with $: write {fixed}");
+        let goes_down = path.trim_start_matches('/').contains("/");
+        let note = if goes_down { ON_LISTS } else { "" };
+        return format!(in alloc; "a path begins with $: write {fixed}{note}");
     } else if path.contains(",") {
         "; several are given by -e: jpath -e '$.a' -e '$.b'"
     } else {
@@ -32,7 +38,7 @@ pub(super) fn hint_to_begin_with_root(alloc: Global, path: &str) -> Result<Strin
 // with an index, which would be another's: XPath counts from 1.
 fn sentence_unless_xpath(alloc: Global, path: &str, fixed: &str) -> Option<&'static str> {
     if path.starts_with('/') && PathParser::compile(alloc, fixed).is_ok() {
-        if path.contains("[") {
+        if path.contains("[") && !path.contains("[@") {
             return Some("an index counts from 0, and names are separated by dots: $.a[0].b");
         }
         return None;
@@ -40,10 +46,25 @@ fn sentence_unless_xpath(alloc: Global, path: &str, fixed: &str) -> Option<&'sta
     sentence_for_other_tool(path)
 }
 
-// The text with `$` in front, `[*]` for each `[]`, a dot for each slash of an XPath, and no `?` at its end.
+// The text as a path from `$`, with parentheses about the condition of its first filter, if that makes it one.
 fn path_from_root(alloc: Global, path: &str) -> Result<String, AllocError> {
-    let slash = if path.starts_with('/') { "." } else { "/" };
+    let names = names_from_root(alloc, path)?;
+    match path_with_parentheses(alloc, names.as_str())? {
+        Some(fixed) => Ok(fixed),
+        None => Ok(names),
+    }
+}
+
+// The text with `$` in front, `[*]` for each `[]`, a dot for each slash of an XPath, or two where it begins with two, and
+// no `?` at its end.
+fn names_from_root(alloc: Global, path: &str) -> Result<String, AllocError> {
+    let slash = match (path.starts_with("//"), path.starts_with('/')) {
+        (true, _) => "..",
+        (_, true) => ".",
+        _ => "/",
+    };
     let names = path.trim_end_matches('?').replace(alloc, "[]", "[*]")?;
+    let names = names.as_str().replace(alloc, "//", "..")?;
     let names = names.as_str().replace(alloc, "/", slash)?;
     let names = names.as_str();
     if names == "." {
