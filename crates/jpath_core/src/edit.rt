@@ -1,6 +1,6 @@
 //! Edits by a path: the text of a document with what the path selects changed, and checked before it is returned.
 
-ghost use Rattle.std.specs.Prelude.{◌≡◌, true, Some, IfOk};
+ghost use Rattle.std.specs.Prelude.{IfOk};
 ghost use Rattle.std.specs.List.Sorted.{IsStrictlySortedBy};
 ghost use Rattle.json.specs.Value.{value_view};
 ghost use Rattle.jsonpath_nodes.specs.place.Location.{location_cmp};
@@ -73,5 +73,6 @@ pub(crate) fn select_locations_in_document_order(
     ensures ordered { IfOk result (λ places. IsStrictlySortedBy location_cmp places.items) }
 {
     let nodes = select_in_document(alloc, document, query)?;
-    Ok(compute_paths(alloc, nodes.as_slice())?)
+    let places = compute_paths(alloc, nodes.as_slice())?;
+    Ok(places)
 }
