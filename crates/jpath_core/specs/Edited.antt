@@ -1,12 +1,11 @@
 -- A text that was edited at the targets of a path.
 use Rattle.std.specs.Prelude.{◌≡◌, ◌≢◌, ℕ, List, [], ◌∷◌, Some}
-use Rattle.std.specs.List.Sorted.{IsStrictlySortedBy}
 use Rattle.json.specs.Value.{value_view}
 use Rattle.serde_json.specs.Data.{Data}
 use Rattle.serde_json.specs.Read.{read}
 use Rattle.jsonpath_paths.specs.Spelling.{Spells}
 use Rattle.jsonpath_paths.specs.tree.Tree.{Path}
-use Rattle.jsonpath_nodes.specs.place.Location.{Location, location_cmp}
+use Rattle.jsonpath_nodes.specs.place.Location.{Location}
 use Rattle.jsonpath_select.specs.Meaning.{sel}
 use Rattle.jsonpath_select.specs.Targets.{AreTargets}
 use Rattle.jpath_edits.specs.Changed.{IsChangedAt, ReadsChanged}
