@@ -11,6 +11,7 @@ use std::collections::BTreeMap;
 
 // Whether the names of each object are in the order of their bytes, each once.
 #[cycle(ordered)]
+#[inline(always)]
 pub(crate) fn is_tree_ordered(value: &Exact<'_>) -> bool
     ensures { result ≡ is_ordered (value_view value.now) }
 {

@@ -10,6 +10,7 @@ use json::Value as Exact;
 use std::alloc::{AllocError, Global};
 
 // A copy of the value with its members as they are to be written; `None` where they stand so already.
+#[inline(always)]
 pub(crate) fn rearranged<'t>(
     alloc: Global,
     value: &Exact<'t>,

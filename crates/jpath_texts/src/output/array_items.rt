@@ -27,8 +27,8 @@ pub fn add_array_item(
 {
     add_comma_and_indent(out, has_comma, look.layout, 1)?;
     match rearranged(alloc, value, look.is_sorted)? {
-        Some(made) => add_value_at_depth(alloc, out, &made, look, 1),
-        None => add_value_at_depth(alloc, out, value, look, 1),
+        Some(made) => add_value_at_depth(out, &made, look, 1),
+        None => add_value_at_depth(out, value, look, 1),
     }
 }
 

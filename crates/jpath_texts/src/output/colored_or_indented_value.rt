@@ -9,7 +9,7 @@ ghost use Rattle.jpath_texts.specs.AtDepth.{at_depth, rest_of_array, rest_of_obj
 use crate::output::look::{Layout, Look};
 use crate::output::quoted_text::add_quoted;
 use json::Value as Exact;
-use std::alloc::{AllocError, Global};
+use std::alloc::AllocError;
 
 const NAME: &[u8] = b"\x1b[34;1m";
 
@@ -25,8 +25,8 @@ const PLAIN: &[u8] = b"\x1b[0m";
 // says. Names have one colour, texts another, numbers a third, truths and null a fourth. Members are written as they
 // stand. A refusal may leave a part of it.
 #[cycle(at_depth)]
+#[inline(always)]
 pub(crate) fn add_value_at_depth(
-    alloc: Global,
     out: &mut Vec<u8>,
     value: &Exact<'_>,
     look: Look,
@@ -39,16 +39,15 @@ pub(crate) fn add_value_at_depth(
         Exact::Bool(true) => add_in_color(out, look.is_colored, WORD, b"true"),
         Exact::Bool(false) => add_in_color(out, look.is_colored, WORD, b"false"),
         Exact::Number(digits) => add_in_color(out, look.is_colored, NUMBER, digits.as_bytes()),
-        Exact::String(text) => add_quoted_in_color(alloc, out, look.is_colored, TEXT, *text),
-        Exact::Array(items) => add_array_at_depth(alloc, out, items, look, depth),
-        Exact::Object(members) => add_object_at_depth(alloc, out, members, look, depth),
+        Exact::String(text) => add_quoted_in_color(out, look.is_colored, TEXT, *text),
+        Exact::Array(items) => add_array_at_depth(out, items, look, depth),
+        Exact::Object(members) => add_object_at_depth(out, members, look, depth),
     }
 }
 
 // Writes an array with its brackets at a depth of indentation.
 #[cycle(at_depth)]
 fn add_array_at_depth(
-    alloc: Global,
     out: &mut Vec<u8>,
     items: &Vec<Exact<'_>>,
     look: Look,
@@ -61,7 +60,7 @@ fn add_array_at_depth(
     out.push(b'[')?;
     for item in items {
         add_comma_and_indent(out, has_items, look.layout, inside)?;
-        add_value_at_depth(alloc, out, item, look, inside)?;
+        add_value_at_depth(out, item, look, inside)?;
         has_items = true;
     }
     add_closing(out, b']', has_items, look.layout, depth)
@@ -70,7 +69,6 @@ fn add_array_at_depth(
 // Writes an object with its braces at a depth of indentation.
 #[cycle(at_depth)]
 fn add_object_at_depth(
-    alloc: Global,
     out: &mut Vec<u8>,
     members: &Vec<(&str, Exact<'_>)>,
     look: Look,
@@ -83,9 +81,9 @@ fn add_object_at_depth(
     out.push(b'{')?;
     for member in members {
         add_comma_and_indent(out, has_members, look.layout, inside)?;
-        add_quoted_in_color(alloc, out, look.is_colored, NAME, member.0)?;
+        add_quoted_in_color(out, look.is_colored, NAME, member.0)?;
         add_colon(out, look.layout)?;
-        add_value_at_depth(alloc, out, &member.1, look, inside)?;
+        add_value_at_depth(out, &member.1, look, inside)?;
         has_members = true;
     }
     add_closing(out, b'}', has_members, look.layout, depth)
@@ -176,7 +174,6 @@ fn add_repeated(out: &mut Vec<u8>, byte: u8, count: usize) -> Result<(), AllocEr
 
 // Writes a text as JSON has it, in quotes, and in this colour if there are colours.
 fn add_quoted_in_color(
-    alloc: Global,
     out: &mut Vec<u8>,
     is_colored: bool,
     color: &[u8],
@@ -185,10 +182,10 @@ fn add_quoted_in_color(
     ensures { OnOk result (out.new.items ≡ out.old.items ++ in_color is_colored color.now (quoted text.now)) }
 {
     if !is_colored {
-        return add_quoted(alloc, out, text);
+        return add_quoted(out, text);
     }
     out.extend_from_slice(color)?;
-    add_quoted(alloc, out, text)?;
+    add_quoted(out, text)?;
     out.extend_from_slice(PLAIN)
 }
 

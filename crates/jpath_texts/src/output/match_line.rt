@@ -85,6 +85,7 @@ pub fn add_record_start(out: &mut Vec<u8>, is_record: bool) -> Result<(), AllocE
 
 /// Appends to `out` what `end` says, which is printed after a line: a line feed, the byte 0, or nothing. The only error
 /// is that memory ran out.
+#[inline(always)]
 pub fn add_line_end(out: &mut Vec<u8>, end: LineEnd) -> Result<(), AllocError>
     ensures { OnOk result (out.new.items ≡ out.old.items ++ line_end end) }
 {

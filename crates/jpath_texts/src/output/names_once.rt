@@ -97,6 +97,7 @@ fn members_of_map<'t>(
 
 // Whether a name may come again in an object of the value. Where it says no, none does.
 #[cycle(repeats)]
+#[inline(always)]
 pub(crate) fn may_repeat_names(value: &Exact<'_>) -> bool
     ensures { result ≡ false → names_once (value_view value.now) ≡ value_view value.now }
 {

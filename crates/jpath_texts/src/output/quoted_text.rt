@@ -1,41 +1,83 @@
 //! A text as JSON has it, in quotes.
 
-ghost use Rattle.std.specs.Prelude.{◌≡◌, [], ◌∷◌, ◌++◌, false, OnOk};
-ghost use Rattle.json.specs.Print.{escape, print, quoted};
-ghost use Rattle.json.specs.Token.{string};
+ghost use Rattle.std.specs.Prelude.{◌≡◌, ◌<◌, [], ◌∷◌, ◌++◌, false, OnOk};
+ghost use Rattle.std.specs.Char.{digit_char};
+ghost use Rattle.json.specs.Print.{escape, escape_byte, quoted};
 
-use json::{Token, Writer};
-use std::alloc::{AllocError, Global};
+use std::alloc::AllocError;
 
-// Writes a text in quotes, with the escapes that JSON wants. Most texts have none, and are written as they are.
-pub(crate) fn add_quoted(alloc: Global, out: &mut Vec<u8>, text: &str) -> Result<(), AllocError>
+// Writes a text in quotes, with the escapes that JSON wants.
+pub(crate) fn add_quoted(out: &mut Vec<u8>, text: &str) -> Result<(), AllocError>
     ensures { OnOk result (out.new.items ≡ out.old.items ++ quoted text.now) }
 {
-    if has_escapes(text.as_bytes()) {
-        return add_with_escapes(alloc, out, text);
-    }
     out.push(b'"')?;
-    out.extend_from_slice(text.as_bytes())?;
+    add_escaped(out, text.as_bytes())?;
     Ok(out.push(b'"')?)
 }
 
-// Whether a text may have escapes between quotes. Where it says no, the text has none.
+// Writes what stands between the quotes. Most texts have no escapes, and are written as they are.
+fn add_escaped(out: &mut Vec<u8>, text: &[u8]) -> Result<(), AllocError>
+    ensures { OnOk result (out.new.items ≡ out.old.items ++ escape text.now) }
+{
+    if !has_escapes(text) {
+        return out.extend_from_slice(text);
+    }
+    for byte in text {
+        add_escaped_byte(out, *byte)?;
+    }
+    Ok(())
+}
+
+// Whether a text may have escapes between quotes. Where it says no, the text has none. It looks at all bytes, so that
+// many are looked at in one instruction.
 fn has_escapes(text: &[u8]) -> bool
     ensures { result ≡ false → escape text.now ≡ text.now }
 {
+    let mut has_escapes = false;
     for byte in text {
-        if *byte < 32 || *byte == b'"' || *byte == b'\\' {
-            return true;
-        }
+        has_escapes |= is_escaped(*byte);
     }
-    false
+    has_escapes
 }
 
-// Writes a text in quotes, by the writer of JSON.
-fn add_with_escapes(alloc: Global, out: &mut Vec<u8>, text: &str) -> Result<(), AllocError>
-    ensures { OnOk result (out.new.items ≡ out.old.items ++ print (string text.now ∷ [])) }
+// Whether a byte has an escape between quotes.
+#[tactic(auto, unfolding(json::specs::Print::escape_byte))]
+fn is_escaped(byte: u8) -> bool
+    ensures { result ≡ false → escape_byte byte ≡ byte ∷ [] }
 {
-    let mut writer = Writer::new(Vec::new(alloc));
-    writer.token(Token::String(text))?;
-    out.extend_from_slice(writer.into_inner().as_slice())
+    byte < 32 || byte == b'"' || byte == b'\\'
+}
+
+// Writes a byte of a text, or its escape.
+#[tactic(auto, unfolding(json::specs::Print::escape_byte))]
+fn add_escaped_byte(out: &mut Vec<u8>, byte: u8) -> Result<(), AllocError>
+    ensures { OnOk result (out.new.items ≡ out.old.items ++ escape_byte byte) }
+{
+    match byte {
+        b'"' => out.extend_from_slice(b"\\\""),
+        b'\\' => out.extend_from_slice(b"\\\\"),
+        8 => out.extend_from_slice(b"\\b"),
+        12 => out.extend_from_slice(b"\\f"),
+        b'\n' => out.extend_from_slice(b"\\n"),
+        b'\r' => out.extend_from_slice(b"\\r"),
+        b'\t' => out.extend_from_slice(b"\\t"),
+        0..=31 => {
+            out.extend_from_slice(b"\\u00")?;
+            out.push(hex_digit(byte / 16))?;
+            Ok(out.push(hex_digit(byte % 16))?)
+        }
+        _ => Ok(out.push(byte)?),
+    }
+}
+
+// A digit of a number in base 16.
+fn hex_digit(number: u8) -> u8
+    requires { number < 16 }
+    ensures { result ≡ digit_char number }
+{
+    if number < 10 {
+        b'0' + number
+    } else {
+        b'a' - 10 + number
+    }
 }

@@ -8,6 +8,7 @@ ghost use Rattle.jpath_texts.specs.Lines.{compact, shown, with_members_kept};
 use crate::output::arranged::rearranged;
 use crate::output::colored_or_indented_value::add_value_at_depth;
 use crate::output::look::Look;
+use crate::output::quoted_text::add_quoted;
 use json::{Value as Exact, Writer};
 use std::alloc::{AllocError, Global};
 use std::mem;
@@ -34,6 +35,7 @@ pub fn add_compact_value(
 /// name is written once, where it occurs first, with its last value. If `look.is_sorted`, the members of each object
 /// are written in the order of their names' bytes. The only error is that memory ran out; `out` may then end with a
 /// part of the text.
+#[inline(always)]
 pub fn add_value_in_look(
     alloc: Global,
     out: &mut Vec<u8>,
@@ -67,8 +69,29 @@ pub(crate) fn add_value_with_members_kept(
         }
     }
     if look.is_compact() {
-        add_compact_value(alloc, out, value)
+        add_value_on_one_line(alloc, out, value)
     } else {
-        add_value_at_depth(alloc, out, value, look, 0)
+        add_value_at_depth(out, value, look, 0)
+    }
+}
+
+// Writes the compact text of a value; of an array or object by the writer of JSON, which is slow to begin.
+#[inline(always)]
+#[tactic(auto, unfolding(json::specs::Print::print_from))]
+fn add_value_on_one_line(
+    alloc: Global,
+    out: &mut Vec<u8>,
+    value: &Exact<'_>,
+) -> Result<(), AllocError>
+    requires { HasNumbers (value_view value.now) }
+    ensures { OnOk result (out.new.items ≡ out.old.items ++ compact (value_view value.now)) }
+{
+    match value {
+        Exact::Null => out.extend_from_slice(b"null"),
+        Exact::Bool(true) => out.extend_from_slice(b"true"),
+        Exact::Bool(false) => out.extend_from_slice(b"false"),
+        Exact::Number(digits) => out.extend_from_slice(digits.as_bytes()),
+        Exact::String(text) => add_quoted(out, *text),
+        Exact::Array(_) | Exact::Object(_) => add_compact_value(alloc, out, value),
     }
 }
