@@ -132,10 +132,10 @@ fn locations_text(alloc: Global, spots: &[Spot<'_>]) -> Result<String, JsonPathE
 
 // The text of the values at spots.
 fn text_of(alloc: Global, spots: &[Spot<'_>]) -> Result<String, JsonPathError> {
-    let mut values = Vec::new(alloc);
-    for spot in spots {
-        values.push(spot.value())?;
-    }
+    let values = spots
+        .iter()
+        .map(|spot| spot.value())
+        .collect::<Vec<&Value>>(alloc)?;
     list_to_text(alloc, values.as_slice())
 }
 
