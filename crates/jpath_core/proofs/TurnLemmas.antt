@@ -1,9 +1,12 @@
 -- Paths one after the other.
-use Rattle.std.proofs.Common.{List, [], ◌∷◌, ◌++◌, map, sym, subst}
+use Rattle.std.proofs.Common.{◌≡◌, List, [], ◌∷◌, ◌++◌, None, map, refl, sym, ap, subst, ◌∙◌}
+use Rattle.std.specs.Prelude.{filter_map}
 use Rattle.std.proofs.lemmas.List.{append-nil, append_assoc}
+use Rattle.std.proofs.lemmas.List.Elements.{filter_map-append}
 use Rattle.json.specs.Json.{Json}
 use Rattle.jsonpath_nodes.specs.place.Location.{Location}
 use Rattle.jsonpath_select.specs.Meaning.{SelectsAt, SelectsNodes}
+use Rattle.jpath_edits.specs.ExactAt.{exact_at}
 use Rattle.jpath_texts.specs.ExactDocument.{document_at, exact_document, name_bytes}
 use Rattle.jpath_texts.specs.declared.query.Query.{Query}
 use Rattle.jpath_core.specs.Matches.{SelectInTurn, nothing, path_first}
@@ -20,3 +23,7 @@ turn_more exact (q ∷ queries) _ more query (path_first {first = first} {others
 
 pub nodes_selected : (exact : Json) (query : Query) (nodes : List Node) → SelectsNodes name_bytes document_at query.path (exact_document exact) nodes → SelectsAt query.path (exact_document exact) (map location_of nodes)
 nodes_selected exact query nodes found = record { path = found.path; spelled = found.spelled; holds = locations_of (exact_document exact) _ nodes found.holds }
+
+-- a location at which nothing stands adds nothing
+pub none_more : (exact : Json) (ls : List Location) (l : Location) → exact_at exact l ≡ None → filter_map (exact_at exact) (ls ++ l ∷ []) ≡ filter_map (exact_at exact) ls
+none_more exact ls l absent = filter_map-append (exact_at exact) ls (l ∷ []) ∙ ap (λ js. filter_map (exact_at exact) ls ++ js) (rw absent refl) ∙ append-nil (filter_map (exact_at exact) ls)

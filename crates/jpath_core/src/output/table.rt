@@ -73,7 +73,7 @@ fn row_fields(
     columns: &[Query<'_>],
 ) -> Result<Vec<Vec<u8>>, DocumentRefusal>
     requires { HasNumbers (value_view exact.now) }
-    ensures { document_at value ≡ exact_document (value_view exact.now) → IfOk result (λ fields. AreFields (value_view exact.now) columns.now (map (λ f. f.items) fields.items)) }
+    ensures { document_at value.entry ≡ exact_document (value_view exact.now) → IfOk result (λ fields. AreFields (value_view exact.now) columns.now (map (λ f. f.items) fields.items)) }
 {
     let mut fields = Vec::new(alloc);
     for column in columns {
@@ -91,10 +91,10 @@ fn field_of_column(
     column: &Query<'_>,
 ) -> Result<Vec<u8>, DocumentRefusal>
     requires { HasNumbers (value_view exact.now) }
-    ensures { document_at value ≡ exact_document (value_view exact.now) → IfOk result (λ field. IsField (value_view exact.now) column.now field.items) }
+    ensures { document_at value.entry ≡ exact_document (value_view exact.now) → IfOk result (λ field. IsField (value_view exact.now) column.now field.items) }
 {
     let nodes = select_nodes_in_tree(alloc, value, column.path())?;
-    field_of_first(alloc, exact, nodes.as_slice())
+    Ok(field_of_first(alloc, exact, nodes.as_slice())?)
 }
 
 // The field of the value at the first of the nodes, or nothing.
