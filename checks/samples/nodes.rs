@@ -218,14 +218,6 @@ fn samples_of_spots(rt: HostRuntime) -> Result<(), Fail> {
         let root = TreeNode::at_root(&document);
         assert!(rt; root.value().is_object());
     }
-    {
-        let root = TreeNode::at_root(&document);
-        assert!(rt; root.value().get("a").is_some());
-    }
-    {
-        let root = TreeNode::at_root(&document);
-        assert!(rt; root.location(alloc)?.to_string(alloc)?.as_str() == "$");
-    }
     Ok(())
 }
 

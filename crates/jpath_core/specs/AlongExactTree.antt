@@ -1,4 +1,4 @@
--- Paths that are answered on the exact tree itself, with no image made: where values stand in it, and what conditions see there.
+-- Simple paths that are answered on the exact tree itself: where values stand in it, and what conditions see there. Its image is the data that `serde_json` reads.
 use Rattle.std.specs.Prelude.{◌≡◌, ℕ, ◌+◌, Bool, true, false, ◌&&◌, ◌||◌, not, List, [], ◌∷◌, ◌++◌, map, flat_map, filter, length, is_some, if◌then◌else◌, Option, Some, None, option_map, option_and_then, option_to_list}
 use Rattle.std.specs.Borrow.{Bor}
 use Rattle.json.specs.Json.{Json, null, boolean, number, string, array, object, Items, no_items, item}
@@ -152,12 +152,12 @@ part_by spelled (Key s) x = Some (option_to_list (get (name_at spelled s) x))
 part_by spelled All x = if is_no_object x then Some (items_in x) else None
 part_by spelled _ x = None
 
--- what a step selects from a value, where no image is needed for it
+-- what a step selects from a value, where that is told by the tree alone
 abbrev pub part : List ℕ → Inner → Json → Option (List Json)
 part spelled (plain token) x = part_by spelled token x
 part spelled (with_filter f) x = if is_simple f && is_shallow x then Some (filter (holds_exact spelled f) (spread x)) else None
 
--- what steps select from a value, where no image is needed for them
+-- what steps select from a value, where that is told by the tree alone
 abbrev pub walk : List ℕ → PathSteps → Json → Option (List Json)
 walk spelled no_steps x = Some (x ∷ [])
 walk spelled (step_then leaves bracket inner rest) x = if leaves then None else option_and_then (walk_all (walk spelled rest)) (part spelled inner x)

@@ -38,7 +38,7 @@ pub struct Edited {
 ///
 /// The edited text is read again before it is returned. Errors: `EditNests` if it nests too deep to be read, or if the
 /// new value is no JSON; `EditDiffers` if what is read is another document, which would be a fault of this library; or
-/// `OutOfMemory`.
+/// those of `select_in_document`.
 pub fn edit_text(
     alloc: Global,
     text: &str,

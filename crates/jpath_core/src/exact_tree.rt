@@ -1,4 +1,4 @@
-//! Paths and filters evaluated on the exact tree itself, if no image, the copy that paths are run on, is needed.
+//! Simple paths and their filters evaluated on the exact tree itself, whatever the order of its members.
 
 pub(crate) mod exact_conditions;
 pub(crate) mod exact_evaluator;

@@ -32,7 +32,7 @@ pub struct NewMember<'m> {
 /// The edited text is read again before it is returned. Errors: `EditNests` if the edited text nests too deep to be
 /// read, or if a value is to be replaced and the new value is no JSON; `EditDiffers` if what is read is not the edited
 /// document, which would be a fault of this library; `NotADocument` if a member is to be added and its value is no JSON
-/// or nests deeper than 127 levels; or `OutOfMemory`.
+/// or nests deeper than 127 levels; or those of `select_in_document`.
 pub fn add_member_text(
     alloc: Global,
     text: &str,
@@ -94,7 +94,7 @@ fn make_member_text(
 ///
 /// The edited text is read again before it is returned. Errors: `NotADocument` if `value` is no JSON or nests deeper
 /// than 127 levels; `EditNests` if the edited text nests too deep to be read; `EditDiffers` if what is read is not the
-/// edited document, which would be a fault of this library; or `OutOfMemory`.
+/// edited document, which would be a fault of this library; or those of `select_in_document`.
 pub fn append_text(
     alloc: Global,
     text: &str,
@@ -119,7 +119,8 @@ pub fn append_text(
 /// if one of the objects around these members has a member named `new` already. Every other byte of the text stays.
 ///
 /// The edited text is read again before it is returned. Errors: `EditNests` if it nests too deep to be read;
-/// `EditDiffers` if what is read is not the edited document, which would be a fault of this library; or `OutOfMemory`.
+/// `EditDiffers` if what is read is not the edited document, which would be a fault of this library; or those of
+/// `select_in_document`.
 pub fn rename_text(
     alloc: Global,
     text: &str,

@@ -16,8 +16,8 @@ pub use exact_tree::exact_evaluator::{
 pub use grow::{NewMember, add_member_text, append_text, rename_text};
 pub use jpath_edits::{Change, exact_value_at_location};
 pub use jpath_texts::{
-    Document, DocumentRefusal, Ended, How, Kind, Layout, Line, LineColumn, LineEnd, Look,
-    MARK, NumberKey, OrderedValue, Piece, Query, ReadFailure, Separated, Shown, Taken, Visitor,
+    Document, DocumentRefusal, Ended, How, Kind, Layout, Line, LineColumn, LineEnd, Look, MARK,
+    NumberKey, OrderedValue, Piece, Query, ReadFailure, Separated, Shown, Taken, Visitor,
     add_compact_value, add_header, add_line_end, add_value_in_look, read_exact_tree,
     visit_documents,
 };

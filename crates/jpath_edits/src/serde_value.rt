@@ -9,7 +9,10 @@ use serde_json::Value;
 use std::alloc::Global;
 
 // The value of a JSON text as `serde_json` reads it; `None` if `serde_json` rejects it. Refused with `OutOfMemory` alone.
-pub(crate) fn serde_value_of_text(alloc: Global, text: &str) -> Result<Option<Value>, DocumentRefusal>
+pub(crate) fn serde_value_of_text(
+    alloc: Global,
+    text: &str,
+) -> Result<Option<Value>, DocumentRefusal>
     ensures { IfOk result (λ found. option_map view found ≡ read text.now) }
 {
     match Value::from_str(alloc, text) {

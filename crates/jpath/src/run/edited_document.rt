@@ -153,9 +153,7 @@ fn edited_text(
         (EditWords::Rename(_, new), Some(member)) => {
             rename_text(alloc, text, document, query, member.name.as_str(), new)
         }
-        (EditWords::Append(_, _), _) => Ok(Some(append_text(
-            alloc, text, document, query, value,
-        )?)),
+        (EditWords::Append(_, _), _) => Ok(Some(append_text(alloc, text, document, query, value)?)),
         (EditWords::Remove(_), _) => Ok(Some(edit_text(
             alloc,
             text,

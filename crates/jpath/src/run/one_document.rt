@@ -71,13 +71,7 @@ fn add_output_for_task(
     requires { HasNumbers (value_view document.now.exact) }
 {
     match task {
-        Task::Lines(queries, _) => add_matches(
-            alloc,
-            document,
-            queries.as_slice(),
-            line,
-            out,
-        ),
+        Task::Lines(queries, _) => add_matches(alloc, document, queries.as_slice(), line, out),
         Task::Array(queries) => add_array(alloc, document, queries.as_slice(), line, out),
         Task::Count(queries) | Task::Quiet(queries) => {
             count_matches(alloc, document, queries.as_slice())
@@ -113,7 +107,7 @@ fn add_matches(
 }
 
 // Writes what the task asks of a document by its exact tree alone, and answers how many matches it has. `None`, and
-// nothing is written, where the task or a path needs the members in the order of their names.
+// nothing is written, where the task or a path is none that can be done so.
 fn add_output_by_exact_tree(
     alloc: Global,
     exact: &Exact<'_>,
@@ -135,8 +129,8 @@ fn add_output_by_exact_tree(
 }
 
 // Writes a line for each value that the paths select along the exact tree, path after path, and answers how many there
-// are; without a line form they are only counted. `None`, and nothing is written, where a path needs the members in the
-// order of their names. A refusal may leave a part of the lines.
+// are; without a line form they are only counted. `None`, and nothing is written, where a path or the document is none
+// for that. A refusal may leave a part of the lines.
 fn add_matches_by_exact_tree(
     alloc: Global,
     exact: &Exact<'_>,

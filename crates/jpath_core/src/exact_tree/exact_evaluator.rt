@@ -1,6 +1,5 @@
 //! Paths that are evaluated on the exact tree itself, their lines written or their matches counted: paths of names,
-//! `[*]` on arrays, and filters on members of a candidate. No image, the copy of a document that paths are run on,
-//! is made for them.
+//! `[*]` on arrays, and filters on members of a candidate. The order of members doesn't matter to them.
 
 ghost use Rattle.std.specs.Prelude.{◌≡◌, ◌∷◌, [], true, false, Some, OnOk, IfOk, IfSome};
 ghost use Rattle.json.specs.Tree.{HasNumbers, ItemsHaveNumbers};
@@ -36,8 +35,8 @@ pub struct ExactOutcome {
 
 /// Whether a path is so simple that on most documents it can be evaluated on the exact tree, which is the tree of the
 /// JSON text with each number as it is written. Such a path begins at the root. It has only single names, `[*]`, and
-/// filters whose conditions use only literals and members of the value that the filter tests, such as `@.a`. For other
-/// paths, and for some documents, a copy of the tree with `serde_json`'s numbers has to be made first.
+/// filters whose conditions use only literals and members of the value that the filter tests, such as `@.a`. Other paths,
+/// and this path in some documents, are for `add_lines_for_path`.
 pub fn may_answer_by_exact_tree(query: &Query<'_>) -> bool
     ensures { (p : Path) → Spells query.now.path p → result ≡ is_straight p }
 {
@@ -77,8 +76,8 @@ fn is_straight_inner(inner: &Inner) -> bool
 /// field `shown` is not used); if `line` is `None`, nothing is appended.
 ///
 /// Returns how many values there are, and whether a filter compared a number that is no integer of 64 bits. Returns
-/// `None` if this path or document has to be evaluated on a copy of the tree with `serde_json`'s numbers instead. The
-/// only error is out of memory. After `None` or the error, `out` may end with a part of the lines.
+/// `None` if this path in this document is for `add_lines_for_path`. The only error is out of memory. After `None` or the
+/// error, `out` may end with a part of the lines.
 pub fn add_lines_by_exact_tree(
     alloc: Global,
     exact: &Exact<'_>,
@@ -127,8 +126,8 @@ struct Lines {
     has_fraction: bool,
 }
 
-// A path's text, and how the lines of its values are written. Each call answers true if it was done without
-// an image, false where one is needed.
+// A path's text, and how the lines of its values are written. Each call answers true if it was done, false where that
+// can't be done on the exact tree alone.
 #[derive(Clone, Copy)]
 struct ExactEvaluator<'w> {
     alloc: Global,
@@ -137,7 +136,7 @@ struct ExactEvaluator<'w> {
 }
 
 impl<'w> ExactEvaluator<'w> {
-    // Writes and counts the values to which the steps lead from a value. False where an image is needed for that.
+    // Writes and counts the values to which the steps lead from a value. False where that can't be done.
     #[cycle(along)]
     fn add_lines_from_value(
         &self,
@@ -171,7 +170,7 @@ impl<'w> ExactEvaluator<'w> {
     }
 
     // Writes the line of a value where the path ends, if lines are asked for, and counts it. False where the count
-    // doesn't fit: the image is taken then, too.
+    // doesn't fit.
     fn add_line_and_count(&self, value: &Exact<'_>, lines: &mut Lines) -> Result<bool, AllocError>
         requires { HasNumbers (value_view value.now) }
         ensures stays { OnOk result (lines.new.has_fraction ≡ false → lines.old.has_fraction ≡ false) }
@@ -190,8 +189,8 @@ impl<'w> ExactEvaluator<'w> {
         }
     }
 
-    // Writes and counts what the steps lead to from the member of this name, if there is one. False where an image is
-    // needed, as for a name with a backslash.
+    // Writes and counts what the steps lead to from the member of this name, if there is one. False where that
+    // can't be done, as for a name with a backslash.
     #[cycle(along)]
     fn add_lines_from_member(
         &self,
@@ -214,8 +213,8 @@ impl<'w> ExactEvaluator<'w> {
         }
     }
 
-    // Writes and counts what the steps lead to from each item of an array. False where an image is needed, as for an
-    // object, whose members go by the order of the image.
+    // Writes and counts what the steps lead to from each item of an array. False where that can't be done, as for an
+    // object, whose members go by the order of their names.
     #[cycle(along)]
     fn add_lines_from_items(
         &self,
@@ -236,7 +235,7 @@ impl<'w> ExactEvaluator<'w> {
     }
 
     // Writes and counts what the steps lead to from each of these items, or from those at which a condition holds.
-    // False where an image is needed.
+    // False where that can't be done.
     #[cycle(along)]
     fn add_lines_from_each_kept(
         &self,
@@ -259,7 +258,7 @@ impl<'w> ExactEvaluator<'w> {
     }
 
     // Writes and counts what the steps lead to from the candidates of a filter at which its condition holds: the items
-    // of an array, or else the value itself. False where an image is needed.
+    // of an array, or else the value itself. False where that can't be done.
     #[cycle(along)]
     fn add_lines_from_candidates(
         &self,
@@ -288,7 +287,7 @@ impl<'w> ExactEvaluator<'w> {
     }
 
     // Writes and counts what the steps lead to from a value, if there is no condition or if it holds there. False where
-    // an image is needed, as for a condition at an array, which is no candidate itself.
+    // that can't be done, as for a condition at an array, which is no candidate itself.
     #[cycle(along)]
     fn add_lines_if_kept(
         &self,

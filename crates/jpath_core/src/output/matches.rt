@@ -16,8 +16,9 @@ use crate::exact_at_location::printable_value_at_location;
 use crate::output::places::{add_place_and_value_line, add_place_line};
 use crate::selection::select_in_document;
 use jpath_texts::{
-    Document, DocumentRefusal, Line, Look, OrderedValue, Query, Shown, add_array_end, add_array_item,
-    add_entry_lines, add_length_line, add_line_end, add_line_start, add_value_in_look,
+    Document, DocumentRefusal, Line, Look, OrderedValue, Query, Shown, add_array_end,
+    add_array_item, add_entry_lines, add_length_line, add_line_end, add_line_start,
+    add_value_in_look,
 };
 use json::Value as Exact;
 use jsonpath_nodes::{Location, TreeNode};

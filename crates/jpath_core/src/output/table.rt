@@ -23,8 +23,7 @@ use std::alloc::Global;
 /// the path's steps find them, and returns the number of rows. Each column is a path, which is applied to the row's
 /// value as its root. The column's field, in the order of `columns`, is the first value that this path selects: a text
 /// without quotes, any other value as compact JSON, or an empty field if it selects nothing. Errors: those of
-/// `select_in_document`;
-/// `out` may then end with a part of the rows, or have lost all its content.
+/// `select_in_document`; `out` may then end with a part of the rows, or have lost all its content.
 pub fn add_rows(
     alloc: Global,
     document: &Document<'_>,

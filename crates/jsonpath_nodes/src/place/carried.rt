@@ -157,10 +157,7 @@ impl<T: Tree> Carried for TreeNode<T> {
         Tree::number_of_literal(&self.value, alloc, literal)
     }
 
-    fn flattened_once(
-        alloc: Global,
-        marks: &[TreeNode<T>],
-    ) -> Result<Vec<TreeNode<T>>, T::Error> {
+    fn flattened_once(alloc: Global, marks: &[TreeNode<T>]) -> Result<Vec<TreeNode<T>>, T::Error> {
         Ok(candidates::flattened_once(alloc, marks)?)
     }
 
@@ -178,10 +175,7 @@ impl<T: Tree> Carried for TreeNode<T> {
         Ok(in_document_order(alloc, marks)?)
     }
 
-    fn topmost_marks(
-        alloc: Global,
-        marks: &[TreeNode<T>],
-    ) -> Result<Vec<TreeNode<T>>, T::Error> {
+    fn topmost_marks(alloc: Global, marks: &[TreeNode<T>]) -> Result<Vec<TreeNode<T>>, T::Error> {
         Ok(topmost_spots(alloc, marks)?)
     }
 

@@ -78,10 +78,7 @@ fn is_after_last_spot<N: Name>(last: &Option<Vec<DownStep<N>>>, up: &[DownStep<N
 }
 
 // Clones of the spots.
-fn clone_spots<T: Tree>(
-    alloc: Global,
-    spots: &[TreeNode<T>],
-) -> Result<Vec<TreeNode<T>>, NoMemory>
+fn clone_spots<T: Tree>(alloc: Global, spots: &[TreeNode<T>]) -> Result<Vec<TreeNode<T>>, NoMemory>
     ensures { IfOk result (λ same. map (place_sight T.Name.bytes T.content) same.items ≡ map (place_sight T.Name.bytes T.content) spots.now) }
 {
     let mut same = Vec::with_capacity(alloc, spots.len())?;
@@ -185,10 +182,7 @@ pub struct OrderedSpot<T: Handle> {
 
 impl<T: Tree> OrderedSpot<T> {
     // A clone of the spot beside the steps to it, by which it is ordered.
-    pub(crate) fn of_spot(
-        alloc: Global,
-        spot: &TreeNode<T>,
-    ) -> Result<OrderedSpot<T>, NoMemory>
+    pub(crate) fn of_spot(alloc: Global, spot: &TreeNode<T>) -> Result<OrderedSpot<T>, NoMemory>
         ensures location { IfOk result (λ placed. ordered_spot_location T.Name.bytes placed ≡ place_location T.Name.bytes spot.now) }
         ensures sight { IfOk result (λ placed. ordered_spot_sight T.Name.bytes T.content placed ≡ place_sight T.Name.bytes T.content spot.now) }
     {

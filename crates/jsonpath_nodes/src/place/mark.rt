@@ -229,11 +229,7 @@ impl<T: Tree> Mark for TreeNode<T> {
     }
 
     #[inline]
-    fn add_flattened(
-        &self,
-        alloc: Global,
-        out: &mut Vec<TreeNode<T>>,
-    ) -> Result<(), NoMemory> {
+    fn add_flattened(&self, alloc: Global, out: &mut Vec<TreeNode<T>>) -> Result<(), NoMemory> {
         candidates::add_flattened(alloc, self, out)
     }
 

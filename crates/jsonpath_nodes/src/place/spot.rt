@@ -81,7 +81,7 @@ pub struct Steps<'b, 'a> {
     pub(crate) path_to: PathTo<'b, &'a String>,
 }
 
-// A spot takes four words, three of them for its trail: a list of spots is copied as it grows.
+// A spot takes four words, a reference and three for its trail: a list of spots is copied as it grows.
 const _: () = prove!(size_of::<Trail<&'static String>>() <= 24);
 
 impl<'a> Spot<'a> {

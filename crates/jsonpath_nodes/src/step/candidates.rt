@@ -171,10 +171,7 @@ pub(crate) fn candidates_below_once<T: Tree>(
 }
 
 // Whether the spots ascend in document order, none at or below another: no candidate is then found from two of them.
-fn are_ordered_and_disjoint<T: Tree>(
-    alloc: Global,
-    spots: &[TreeNode<T>],
-) -> Result<bool, NoMemory>
+fn are_ordered_and_disjoint<T: Tree>(alloc: Global, spots: &[TreeNode<T>]) -> Result<bool, NoMemory>
     ensures { IfOk result (λ apart. IsTrue apart → Ascend (map (place_location T.Name.bytes) spots.now)) }
 {
     if spots.len() < 2 {

@@ -36,7 +36,13 @@ impl<'a> Name for &'a str {
     }
 }
 
-/// A trait: a small handle to a value of a document, which can be copied. What can be read through it, says `Tree`.
+/// A trait: a small handle to a value of a document, which can be copied, such as `&Value`. `Tree` says what can be read
+/// through it.
+///
+/// ```text
+/// let handle = &document;
+/// assert!(rt; TreeNode::at_root(handle).value().is_object());
+/// ```
 pub trait Handle: Copy + Drop {
     /// An associated type, chosen by the implementor: the name of a member of an object, as the document stores it.
     type Name: Name;
