@@ -1,5 +1,4 @@
 pub mod CarryLemmas
-pub mod DocumentLemmas
 pub mod EditLemmas
 pub mod LineLemmas
 mod RowLemmas

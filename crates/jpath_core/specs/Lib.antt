@@ -1,6 +1,5 @@
 pub mod AlongExactTree
 pub mod Edited
-pub mod Documents
 pub mod Matches
 pub mod Nodes
 pub mod Printable

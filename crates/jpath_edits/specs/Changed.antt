@@ -13,7 +13,7 @@ use Rattle.jsonpath_nodes.specs.place.Location.{Step, name, index, Location}
 use Rattle.jsonpath_nodes.specs.step.SameMembers.{topmost}
 use Rattle.jsonpath_nodes.specs.update.Topmost.{put, taken}
 use Rattle.jpath_texts.specs.Exact.{exact_of}
-use Rattle.jpath_edits.specs.ExactAt.{exact_at}
+use Rattle.jpath_texts.specs.ExactAt.{exact_at}
 use Rattle.jpath_edits.specs.declared.change.Change.{Change}
 use Rattle.jpath_edits.specs.declared.change.Change.TheVariants.{Put, Take}
 use Rattle.jpath_edits.specs.declared.parts.part.Part.{Part}

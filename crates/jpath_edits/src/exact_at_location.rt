@@ -3,7 +3,7 @@
 ghost use Rattle.std.specs.Prelude.{◌≡◌, option_map};
 ghost use Rattle.json.specs.Value.{value_view};
 ghost use Rattle.jsonpath_nodes.specs.place.Owned.{owned_step, owned_steps};
-ghost use Rattle.jpath_edits.specs.ExactAt.{exact_child, exact_at};
+ghost use Rattle.jpath_texts.specs.ExactAt.{exact_child, exact_at};
 
 use json::Value as Exact;
 use jsonpath_nodes::{LocStep, Location};

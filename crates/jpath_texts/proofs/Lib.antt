@@ -1,6 +1,9 @@
 pub mod ArrangedLemmas
+pub mod DocumentLemmas
 pub mod LineLemmas
 pub mod MemberSearchLemmas
 pub mod OnceLemmas
+pub mod OrderLemmas
 pub mod OrderedTreeLemmas
+pub mod PlacesLemmas
 pub mod StreamLemmas

@@ -1,22 +1,15 @@
 -- Trees whose members stand in order, member by member.
-use Rattle.std.proofs.Common.{◌≡◌, ℕ, zero, suc, ◌<◌, ◌≤◌, List, [], ◌∷◌, ◌++◌, length, map, get_or, Bool, true, false, ◌&&◌, Option, Some, None, Iter, Ordering, Less, Equal, Greater, nat_cmp, refl, sym, ap, ap₂, ◌∙◌, arith}
+use Rattle.std.proofs.Common.{◌≡◌, ℕ, List, [], ◌∷◌, ◌++◌, map, Bool, true, false, ◌&&◌, Option, Some, None, Ordering, Less, Equal, Greater, nat_cmp, refl, sym, ap, ap₂, ◌∙◌}
 use Rattle.std.proofs.lemmas.Cmp.{nat_list_cmp_total}
 use Rattle.std.specs.Borrow.{Bor}
 use Rattle.std.specs.BTreeMap.{insert_entry}
 use Rattle.std.specs.Cmp.Lexicographic.{slice_cmp}
-use Rattle.std.specs.List.{AllByRecursion}
-use Rattle.std.specs.List.Sorted.{IsStrictlySortedBy}
-use Rattle.std.specs.Slice.Iter.{iter_rest, iter_steps}
 use Rattle.std.specs.Ordering.{is_lt, match_ordering, ordering_reverse}
 use Rattle.json.specs.Json as json
 use Rattle.json.specs.Tree.{HasNumbers, ItemsHaveNumbers, MembersHaveNumbers}
 use Rattle.json.specs.Value.{value_view, items_of, items_view, members_view}
 use Rattle.json.specs.declared.value.Value.{Value}
-use Rattle.jsonpath_nodes.specs.document.Document.{Items, Members}
-use Rattle.jsonpath_nodes.specs.document.Find.{items_len, get_item}
-use Rattle.jsonpath_nodes.specs.place.Location.{name, names, step_cmp}
-use Rattle.jsonpath_nodes.specs.place.Order.{NamesAscend}
-use Rattle.jpath_texts.specs.OrderedTree.{is_before, is_ordered, are_items_ordered, are_members_ordered, document_of_tree, items_of_tree, members_of_tree, put_in_order, in_order, items_in_order, members_in_order}
+use Rattle.jpath_texts.specs.OrderedTree.{is_before, is_ordered, are_items_ordered, are_members_ordered, put_in_order, in_order, items_in_order, members_in_order}
 
 pub and_left : (a b : Bool) → (a && b) ≡ true → a ≡ true
 and_left true b h = refl
@@ -33,28 +26,6 @@ pub less : (o : Ordering) → is_lt o ≡ true → o ≡ Less
 less Less h = refl
 less Equal h = absurd (cc)
 less Greater h = absurd (cc)
-
--- ---- names ascend
-
-abbrev pub Above : List ℕ → Members → Type 0
-Above l ms = AllByRecursion (λ t. step_cmp (name l) t ≡ Less) (names ms)
-
-pub above : (k : List ℕ) (ms : json.Members) → is_before k ms ≡ true → are_members_ordered ms ≡ true → Above k (members_of_tree ms)
-above k json.no_members h o = tt
-above k (json.member l j ms) h o =
-    let here : slice_cmp nat_cmp k l ≡ Less = less (slice_cmp nat_cmp k l) h in
-    (here, more l ms here (above l ms (and_left (is_before l ms) (is_ordered j && are_members_ordered ms) o) (and_right (is_ordered j) (are_members_ordered ms) (and_right (is_before l ms) (is_ordered j && are_members_ordered ms) o))))
-  where
-    more : (l : List ℕ) (ms : json.Members) → slice_cmp nat_cmp k l ≡ Less → Above l (members_of_tree ms) → Above k (members_of_tree ms)
-    more l json.no_members lt h = tt
-    more l (json.member m j ms) lt h = (nat_list_cmp_total.trans k l m lt h.0, more l ms lt h.1)
-
-pub names_ascend : (ms : json.Members) → are_members_ordered ms ≡ true → NamesAscend (members_of_tree ms)
-unfolding IsStrictlySortedBy
-names_ascend json.no_members o = tt
-names_ascend (json.member k j ms) o =
-    let rest : are_members_ordered ms ≡ true = and_right (is_ordered j) (are_members_ordered ms) (and_right (is_before k ms) (is_ordered j && are_members_ordered ms) o) in
-    (above k ms (and_left (is_before k ms) (is_ordered j && are_members_ordered ms) o) rest, names_ascend ms rest)
 
 -- ---- members put in a map one after another
 
@@ -82,25 +53,6 @@ is_behind (Some k) ms = is_before k.now ms
 
 -- ---- items
 
-pub items_count : {A : Type 0} (vs : List (Value A)) → items_len (items_of_tree (items_view vs)) ≡ length vs
-items_count [] = refl
-items_count (v ∷ vs) = ap suc (items_count vs)
-
-pub item_within : {A : Type 0} (vs : List (Value A)) (i : ℕ) (d : Value A) → i < length vs → Some (document_of_tree (value_view (get_or vs i d))) ≡ get_item i (items_of_tree (items_view vs))
-item_within [] i d h = absurd (omega arith)
-item_within (v ∷ vs) zero d h = refl
-item_within (v ∷ vs) (suc i) d h = item_within vs i d (omega arith)
-
-pub item_past : {A : Type 0} (vs : List (Value A)) (i : ℕ) → length vs ≤ i → None ≡ get_item i (items_of_tree (items_view vs))
-item_past [] i h = refl
-item_past (v ∷ vs) zero h = absurd (omega arith)
-item_past (v ∷ vs) (suc i) h = item_past vs i (omega arith)
-
-pub item_ordered : {A : Type 0} (vs : List (Value A)) (i : ℕ) (d : Value A) → i < length vs → are_items_ordered (items_view vs) ≡ true → is_ordered (value_view (get_or vs i d)) ≡ true
-item_ordered [] i d h o = absurd (omega arith)
-item_ordered (v ∷ vs) zero d h o = and_left (is_ordered (value_view v)) (are_items_ordered (items_view vs)) o
-item_ordered (v ∷ vs) (suc i) d h o = item_ordered vs i d (omega arith) (and_right (is_ordered (value_view v)) (are_items_ordered (items_view vs)) o)
-
 -- ---- the first of some members, and the rest
 
 pub first_ordered : (k : List ℕ) (j : json.Json) (ms : json.Members) → are_members_ordered (json.member k j ms) ≡ true → is_ordered j ≡ true
@@ -108,46 +60,6 @@ first_ordered k j ms o = and_left (is_ordered j) (are_members_ordered ms) (and_r
 
 pub rest_ordered : (k : List ℕ) (j : json.Json) (ms : json.Members) → are_members_ordered (json.member k j ms) ≡ true → are_members_ordered ms ≡ true
 rest_ordered k j ms o = and_right (is_ordered j) (are_members_ordered ms) (and_right (is_before k ms) (is_ordered j && are_members_ordered ms) o)
-
-pub step_ordered : {A : Type 0} (s t : Iter (Entry A)) (r : Option (Bor (Entry A))) → iter_steps s r t → are_members_ordered (members_view (iter_rest s)) ≡ true → are_members_ordered (members_view (iter_rest t)) ≡ true
-step_ordered {A = A} s t None h o = ap (λ (u : Iter (Entry A)). are_members_ordered (members_view (iter_rest u))) h.1 ∙ o
-step_ordered s t (Some x) h o = rest_ordered x.now.0.now (value_view x.now.1) (members_view (iter_rest t)) (ap (λ ys. are_members_ordered (members_view ys)) (sym h) ∙ o)
-
--- a name before the members, whichever they are
-before_choice : {A : Type 0} (l : List ℕ) (o : Ordering) (a b c : List (Entry A)) → is_before l (members_view a) ≡ true → is_before l (members_view b) ≡ true → is_before l (members_view c) ≡ true → is_before l (members_view (match_ordering o a b c)) ≡ true
-before_choice l Less a b c h i j = h
-before_choice l Equal a b c h i j = i
-before_choice l Greater a b c h i j = j
-
--- a name stays before the members with one more that is above it
-insert_behind : {A : Type 0} (l : List ℕ) (es : List (Entry A)) (k : Bor (List ℕ)) (v : Value A) → is_lt (slice_cmp nat_cmp l k.now) ≡ true → is_before l (members_view es) ≡ true → is_before l (members_view (insert_entry by_text es k v)) ≡ true
-insert_behind l [] k v h b = h
-insert_behind l (e ∷ es) k v h b = before_choice l (by_text k e.0) ((k, v) ∷ e ∷ es) ((e.0, v) ∷ es) (e ∷ insert_entry by_text es k v) h b b
-
-turned : (o : Ordering) → o ≡ Greater → is_lt (ordering_reverse o) ≡ true
-turned o h = rw h refl
-
-pub insert_ordered : {A : Type 0} (es : List (Entry A)) (k : Bor (List ℕ)) (v : Value A) → is_ordered (value_view v) ≡ true → are_members_ordered (members_view es) ≡ true → are_members_ordered (members_view (insert_entry by_text es k v)) ≡ true
-insert_ordered [] k v h o = rw h refl
-insert_ordered (e ∷ es) k v h o = by (by_text k e.0) refl (insert_ordered es k v h rest)
-  where
-    first : is_before e.0.now (members_view es) ≡ true
-    first = and_left (is_before e.0.now (members_view es)) (is_ordered (value_view e.1) && are_members_ordered (members_view es)) o
-
-    value : is_ordered (value_view e.1) ≡ true
-    value = first_ordered e.0.now (value_view e.1) (members_view es) o
-
-    rest : are_members_ordered (members_view es) ≡ true
-    rest = rest_ordered e.0.now (value_view e.1) (members_view es) o
-
-    by : (c : Ordering) → by_text k e.0 ≡ c → are_members_ordered (members_view (insert_entry by_text es k v)) ≡ true
-        → are_members_ordered (members_view (match_ordering c ((k, v) ∷ e ∷ es) ((e.0, v) ∷ es) (e ∷ insert_entry by_text es k v))) ≡ true
-    by Less is later = both (is_lt (by_text k e.0)) (is_ordered (value_view v) && are_members_ordered (members_view (e ∷ es))) (ap is_lt is) (both (is_ordered (value_view v)) (are_members_ordered (members_view (e ∷ es))) h o)
-    by Equal is later = both (is_before e.0.now (members_view es)) (is_ordered (value_view v) && are_members_ordered (members_view es)) first (both (is_ordered (value_view v)) (are_members_ordered (members_view es)) h rest)
-    by Greater is later =
-        let above : is_lt (slice_cmp nat_cmp e.0.now k.now) ≡ true = ap is_lt (nat_list_cmp_total.antisymm e.0.now k.now) ∙ turned (by_text k e.0) is in
-        both (is_before e.0.now (members_view (insert_entry by_text es k v))) (is_ordered (value_view e.1) && are_members_ordered (members_view (insert_entry by_text es k v))) (insert_behind e.0.now es k v above first)
-        (both (is_ordered (value_view e.1)) (are_members_ordered (members_view (insert_entry by_text es k v))) value later)
 
 -- ---- items made one after another
 

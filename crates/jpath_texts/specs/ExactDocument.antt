@@ -13,7 +13,7 @@ exact_document j = document_of_tree (in_order j)
 
 -- the document at a handle
 abbrev pub document_at : OrderedValue → Document
-document_at v = document_of_tree (value_view v.value.now)
+document_at v = exact_document (value_view v.value.now)
 
 -- a member's name
 abbrev pub name_bytes : Bor (List ℕ) → List ℕ

@@ -1,6 +1,8 @@
 pub mod AtDepth
+pub mod DocumentPlaces
 pub mod Entries
 pub mod Exact
+pub mod ExactAt
 pub mod ExactDocument
 pub mod Lines
 pub mod NamesOnce
@@ -8,4 +10,4 @@ pub mod NumberKey
 pub mod OrderedTree
 pub mod Rows
 pub mod Stream
-pub mod TreeCode
+pub mod TreeOrder

@@ -1,5 +1,7 @@
 -- The document that a text's tree is, and trees whose members stand in the order of their names, each name once.
-use Rattle.std.specs.Prelude.{ℕ, ◌*◌, ◌^◌, ℤ, List, Bool, true, ◌&&◌}
+use Rattle.std.specs.Prelude.{ℕ, zero, suc, ◌*◌, ◌^◌, ℤ, List, [], Bool, true, ◌&&◌, Option, Some, None, option_and_then}
+use Rattle.std.specs.List.{slice_get}
+use Rattle.std.specs.BTreeMap.{insert_entry}
 use Rattle.std.specs.Float.Numeral.{scan_numeral, numeral_digits, tens_up, tens_down}
 use Rattle.std.specs.Cmp.Lexicographic.{slice_cmp}
 use Rattle.std.specs.Ordering.{nat_cmp, is_lt, match_ordering}
@@ -73,6 +75,36 @@ abbrev mutual
   pub members_in_order : json.Members → json.Members → json.Members
   members_in_order json.no_members found = found
   members_in_order (json.member k j ms) found = members_in_order ms (put_in_order k (in_order j) found)
+
+-- the places of members, by their names, put one after another among those found already; the first has place n
+abbrev pub places_from : ℕ → json.Members → List (List ℕ × ℕ) → List (List ℕ × ℕ)
+places_from n json.no_members found = found
+places_from n (json.member k j ms) found = places_from (suc n) ms (insert_entry (slice_cmp nat_cmp) found k n)
+
+-- the names of an object's members in their order, each with the place of the last member of that name
+abbrev pub places : json.Members → List (List ℕ × ℕ)
+places ms = places_from 0 ms []
+
+-- the member at a place
+abbrev pub member_at : ℕ → json.Members → Option (List ℕ × json.Json)
+member_at n json.no_members = None
+member_at zero (json.member k j ms) = Some (k, j)
+member_at (suc n) (json.member k j ms) = member_at n ms
+
+-- the member whose name has an index among the names in their order
+abbrev pub taken : ℕ → json.Members → Option (List ℕ × json.Json)
+taken i ms = option_and_then (λ e. member_at e.1 ms) (slice_get (places ms) i)
+
+-- the items, and the members, from an index on
+abbrev pub items_from : ℕ → Items → Items
+items_from zero ds = ds
+items_from (suc n) no_items = no_items
+items_from (suc n) (item d ds) = items_from n ds
+
+abbrev pub members_from : ℕ → Members → Members
+members_from zero ms = ms
+members_from (suc n) no_members = no_members
+members_from (suc n) (member k d ms) = members_from n ms
 
 -- the number that a text writes: a whole number, and the power of ten below it
 abbrev pub text_fraction : List ℕ → ℤ × ℕ

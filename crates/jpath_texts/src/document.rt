@@ -1,31 +1,26 @@
 //! A document: its exact tree, as its text has it, and the order in which paths go through it.
 
-ghost use Rattle.std.specs.Prelude.{◌≡◌, true, Some, unwrap_or, IfOk, IfErr};
-ghost use Rattle.std.specs.Coded.{Coded-set};
+ghost use Rattle.std.specs.Prelude.{◌≡◌, true, Some, IfOk, IfErr};
 ghost use Rattle.json.specs.Tree.{HasNumbers};
 ghost use Rattle.json.specs.Value.{value_view};
 ghost use Rattle.jpath_texts.specs.Exact.{exact_of};
 ghost use Rattle.jpath_texts.specs.Lines.{IsWhyRefused};
-ghost use Rattle.jpath_texts.specs.ExactDocument.{document_at, exact_document};
-ghost use Rattle.jpath_texts.specs.OrderedTree.{in_order, is_ordered};
-ghost use Rattle.jpath_texts.specs.TreeCode.{tree_code};
+ghost use Rattle.jpath_texts.specs.TreeOrder.{is_order};
 
 use crate::exact_tree::read_exact_tree;
 use crate::ordered_tree::handle::OrderedValue;
-use crate::ordered_tree::in_order::{copy_in_order, is_tree_ordered};
+use crate::ordered_tree::order::{Order, order_of};
 use crate::refusal::DocumentRefusal;
 use json::{Scratch, Value as Exact};
 use std::alloc::{AllocError, Global};
 
 /// A JSON document as `jpath` reads it: its exact tree, which keeps digits and the order of members. Paths are run on its
-/// `root`, under which the members of each object are in the order of their names.
+/// `root`, under which the members of each object are taken in the order of their names.
 #[derive(Drop)]
 pub struct Document<'a> {
     exact: Exact<'a>,
-    // The tree in the order of names, where its text has another.
-    by_name: Option<Exact<'a>>,
-    ghost ordered: { is_ordered (value_view (unwrap_or by_name exact)) ≡ true },
-    ghost same: { value_view (unwrap_or by_name exact) ≡ in_order (value_view exact) } by { Coded-set tree_code _ _ },
+    order: Order,
+    ghost ordered: { is_order order (value_view exact) ≡ true },
 }
 
 impl<'a> Document<'a> {
@@ -49,12 +44,8 @@ impl<'a> Document<'a> {
     pub fn of_exact_tree(alloc: Global, exact: Exact<'a>) -> Result<Document<'a>, AllocError>
         ensures { IfOk result (λ document. value_view document.exact ≡ value_view exact.entry) }
     {
-        let by_name = if is_tree_ordered(&exact) {
-            None
-        } else {
-            Some(copy_in_order(alloc, &exact)?)
-        };
-        Ok(Document { exact, by_name })
+        let order = order_of(alloc, &exact)?;
+        Ok(Document { exact, order })
     }
 
     /// The exact tree of the document: numbers as written, members in the order of the text.
@@ -67,11 +58,8 @@ impl<'a> Document<'a> {
     /// The root of the document, on which paths are run: the members of each object are in the order of their names'
     /// bytes, each name once, with its last value. Comparisons of its numbers take memory from `alloc`.
     pub fn root(&self, alloc: Global) -> OrderedValue<'_, 'a>
-        ensures { document_at result ≡ exact_document (value_view self.now.exact) }
+        ensures { result.value.now ≡ self.now.exact }
     {
-        match &self.by_name {
-            Some(tree) => OrderedValue::of_ordered(alloc, tree),
-            None => OrderedValue::of_ordered(alloc, &self.exact),
-        }
+        OrderedValue::with_order(alloc, &self.exact, &self.order)
     }
 }

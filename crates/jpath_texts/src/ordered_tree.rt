@@ -2,3 +2,5 @@
 
 pub(crate) mod handle;
 pub(crate) mod in_order;
+pub(crate) mod order;
+pub(crate) mod tree;

@@ -6,7 +6,7 @@ ghost use Rattle.json.specs.Value.{value_view};
 ghost use Rattle.jsonpath_paths.specs.tree.Tree.{Path};
 ghost use Rattle.jsonpath_paths.specs.Spelling.{Spells};
 ghost use Rattle.jsonpath_select.specs.Meaning.{sel};
-ghost use Rattle.jpath_edits.specs.ExactAt.{exact_at};
+ghost use Rattle.jpath_texts.specs.ExactAt.{exact_at};
 ghost use Rattle.jpath_texts.specs.ExactDocument.{exact_document};
 ghost use Rattle.jpath_core.specs.Matches.{lines_text, match_text, items_text, item_text, AddsMatches, AddsArray, AreSelected, IsCountOf};
 ghost use Rattle.jpath_core.specs.Nodes.{location_of};
@@ -41,7 +41,7 @@ pub fn add_lines_for_path(
 {
     one_tree_per_text();
     let nodes = select_in_document(alloc, document, query)?;
-    add_lines_of_nodes(alloc, document.exact(), nodes.as_slice(), line, out)?;
+    add_lines_of_nodes(alloc, document.root(alloc), nodes.as_slice(), line, out)?;
     Ok(nodes.len())
 }
 
@@ -115,7 +115,7 @@ fn selected_values<'v, 'a>(
     let mut values = Vec::new(alloc);
     for query in queries {
         let nodes = select_in_document(alloc, document, query)?;
-        add_values_at_nodes(alloc, document.exact(), nodes.as_slice(), &mut values)?;
+        add_values_at_nodes(alloc, document.root(alloc), nodes.as_slice(), &mut values)?;
     }
     Ok(values)
 }
@@ -123,19 +123,21 @@ fn selected_values<'v, 'a>(
 // Adds the values at the nodes.
 fn add_values_at_nodes<'v, 'a>(
     alloc: Global,
-    exact: &'v Exact<'a>,
+    root: OrderedValue<'v, 'a>,
     nodes: &[TreeNode<OrderedValue<'_, '_>>],
     values: &mut Vec<Selected<'v, 'a>>,
 ) -> Result<(), DocumentRefusal>
-    requires { HasNumbers (value_view exact.now) }
+    requires { HasNumbers (value_view root.value.now) }
     ensures added { OnOk result (map (λ v. value_view v.value.now) values.new.items
-        ≡ map (λ v. value_view v.value.now) values.old.items ++ filter_map (exact_at (value_view exact.now)) (map location_of nodes.now)) }
+        ≡ map (λ v. value_view v.value.now) values.old.items ++ filter_map (exact_at (value_view root.value.now)) (map location_of nodes.now)) }
     ensures writable { All (λ v. HasNumbers (value_view v.value.now)) values.old.items → All (λ v. HasNumbers (value_view v.value.now)) values.new.items }
 {
     for node in nodes {
         let location = node.location(alloc)?;
-        if let Some(value) = printable_value_at_location(exact, &location) {
-            values.push(Selected { value })?;
+        if let Some(found) = printable_value_at_location(root, &location) {
+            values.push(Selected {
+                value: found.value(),
+            })?;
         }
     }
     Ok(())
@@ -190,18 +192,18 @@ fn add_item(
 // Adds the lines of each node to what is written: its place, its value or both, or what is in the value, as is asked for.
 fn add_lines_of_nodes(
     alloc: Global,
-    exact: &Exact<'_>,
+    root: OrderedValue<'_, '_>,
     nodes: &[TreeNode<OrderedValue<'_, '_>>],
     line: &Line<'_>,
     out: &mut Vec<u8>,
 ) -> Result<(), DocumentRefusal>
-    requires { HasNumbers (value_view exact.now) }
-    ensures { OnOk result (out.new.items ≡ out.old.items ++ lines_text line.now (value_view exact.now) (map location_of nodes.now)) }
+    requires { HasNumbers (value_view root.value.now) }
+    ensures { OnOk result (out.new.items ≡ out.old.items ++ lines_text line.now (value_view root.value.now) (map location_of nodes.now)) }
 {
     for node in nodes {
         let location = node.location(alloc)?;
-        if let Some(value) = printable_value_at_location(exact, &location) {
-            add_lines_of_match(alloc, &location, value, line, out)?;
+        if let Some(found) = printable_value_at_location(root, &location) {
+            add_lines_of_match(alloc, &location, found.value(), line, out)?;
         }
     }
     Ok(())

@@ -1,84 +1,64 @@
-//! Handles that lead to the values of an exact tree whose names are in order.
+//! Handles that lead to the values of an exact tree, the members of each object in the order of their names.
 
-ghost use Rattle.std.specs.Prelude.{◌≡◌, true, is_some, IfSome};
-ghost use Rattle.std.specs.Slice.Iter.{iter_rest};
+ghost use Rattle.std.specs.Prelude.{◌≡◌, true, length, option_map, IfSome};
+ghost use Rattle.json.specs.Find.{as_array, as_object, get_item, get_member};
+ghost use Rattle.json.specs.Json.{array, object};
 ghost use Rattle.json.specs.Value.{value_view, items_view, members_view};
-ghost use Rattle.jpath_texts.specs.OrderedTree.{is_ordered, are_items_ordered, are_members_ordered, document_of_tree, items_of_tree, members_of_tree};
+ghost use Rattle.jsonpath_nodes.specs.place.Owned.{owned_step, owned_steps};
+ghost use Rattle.jpath_texts.specs.ExactAt.{exact_child, exact_at};
+ghost use Rattle.jpath_texts.specs.OrderedTree.{member_at, places, taken};
+ghost use Rattle.jpath_texts.specs.TreeOrder.{is_order};
 
-use crate::numbers::exact_number::ExactNumber;
-use crate::ordered_tree::in_order::is_tree_ordered;
-use crate::refusal::DocumentRefusal;
+use crate::ordered_tree::order::Order;
 use json::Value as Exact;
-use jsonpath_nodes::{Atom, Handle, Tree};
-use jsonpath_paths::Decimal;
+use jsonpath_nodes::{LocStep, Location};
 use std::alloc::Global;
-use std::borrow::CowStr;
 use std::cmp::Ordering;
 
-/// A value of an exact tree, which is the tree of a JSON text with numbers as written. Each object in it has its names
-/// in the order of their bytes, each once.
+/// A value of an exact tree, which is the tree of a JSON text with numbers as written. Paths that are run on it take the
+/// members of each object in the order of their names' bytes, each name once, with its last value.
 #[derive(Clone, Copy, Drop)]
 pub struct OrderedValue<'t, 'a> {
-    value: &'t Exact<'a>,
-    alloc: Global,
-    ghost ordered: { is_ordered (value_view value.now) ≡ true },
+    pub(crate) value: &'t Exact<'a>,
+    pub(crate) order: &'t Order,
+    pub(crate) alloc: Global,
+    ghost ordered: { is_order order.now (value_view value.now) ≡ true },
 }
 
-/// A handle to an array in an exact tree, which is the tree of a JSON text with each number as it is written. Each
-/// object inside this array, at any depth, has its names in the order of their bytes, each once.
+/// A handle to an array in an exact tree, which is the tree of a JSON text with each number as it is written.
 #[derive(Clone, Copy, Drop)]
 pub struct OrderedItems<'t, 'a> {
-    items: &'t Vec<Exact<'a>>,
-    alloc: Global,
-    ghost ordered: { are_items_ordered (items_view items.now.items) ≡ true },
+    pub(crate) items: &'t Vec<Exact<'a>>,
+    pub(crate) order: &'t Order,
+    pub(crate) alloc: Global,
+    ghost ordered: { is_order order.now (array (items_view items.now.items)) ≡ true },
 }
 
-/// An object in an exact tree, which is the tree of a JSON text with numbers as written. This object and each object in
-/// it has its names in the order of their bytes, each once.
+/// An object in an exact tree, which is the tree of a JSON text with numbers as written. Its members are taken in the
+/// order of their names' bytes, each name once, with its last value.
 #[derive(Clone, Copy, Drop)]
 pub struct OrderedMembers<'t, 'a> {
-    members: &'t Vec<(&'a str, Exact<'a>)>,
-    alloc: Global,
-    ghost ordered: { are_members_ordered (members_view members.now.items) ≡ true },
-}
-
-/// An associated type, chosen by the implementor: the state of an iteration over an array's items, that is, the items
-/// not yet returned.
-#[derive(Drop)]
-pub struct OrderedItemsLeft<'t, 'a> {
-    items: std::slice::Iter<'t, Exact<'a>>,
-    alloc: Global,
-    ghost ordered: { are_items_ordered (items_view (iter_rest items)) ≡ true },
-}
-
-/// The state of an iteration over an object's members, in the order of their names: those not yet returned.
-#[derive(Drop)]
-pub struct OrderedMembersLeft<'t, 'a> {
-    members: std::slice::Iter<'t, (&'a str, Exact<'a>)>,
-    alloc: Global,
-    ghost ordered: { are_members_ordered (members_view (iter_rest members)) ≡ true },
+    pub(crate) members: &'t Vec<(&'a str, Exact<'a>)>,
+    pub(crate) order: &'t Order,
+    pub(crate) alloc: Global,
+    ghost ordered: { is_order order.now (object (members_view members.now.items)) ≡ true },
 }
 
 impl<'t, 'a> OrderedValue<'t, 'a> {
-    /// Makes an `OrderedValue`, a handle to a value of an exact tree (the tree of a JSON text, with numbers as
-    /// written). Returns `None` unless each object in the value has its names in the order of their bytes, each once.
-    pub fn of(alloc: Global, value: &'t Exact<'a>) -> Option<OrderedValue<'t, 'a>>
-        ensures some { is_some result ≡ is_ordered (value_view value.now) }
-        ensures value { IfSome result (λ v. v.value.now ≡ value.now) }
-    {
-        if is_tree_ordered(value) {
-            Some(OrderedValue { value, alloc })
-        } else {
-            None
-        }
-    }
-
-    // A handle to a value in which the names of each object are in order.
-    pub(crate) fn of_ordered(alloc: Global, value: &'t Exact<'a>) -> OrderedValue<'t, 'a>
-        requires { is_ordered (value_view value.now) ≡ true }
+    // A handle to a value whose members are taken in this order.
+    pub(crate) fn with_order(
+        alloc: Global,
+        value: &'t Exact<'a>,
+        order: &'t Order,
+    ) -> OrderedValue<'t, 'a>
+        requires { is_order order.now (value_view value.now) ≡ true }
         ensures { result.value.now ≡ value.now }
     {
-        OrderedValue { value, alloc }
+        OrderedValue {
+            value,
+            order,
+            alloc,
+        }
     }
 
     /// Returns the value, in the tree of a JSON text, to which this `OrderedValue` is a handle.
@@ -87,153 +67,154 @@ impl<'t, 'a> OrderedValue<'t, 'a> {
     {
         self.value
     }
-}
 
-impl<'t, 'a> Handle for OrderedValue<'t, 'a> {
-    type Name = &'a str;
-}
+    /// The value at a location, which is counted from this value as the root; `None` if nothing is there. If an object
+    /// has a name several times, its last value counts. The time grows with the location's steps and with the logarithm
+    /// of how many members the objects have.
+    pub fn value_at(&self, location: &Location) -> Option<OrderedValue<'t, 'a>>
+        ensures { option_map (λ v. value_view v.value.now) result ≡ exact_at (value_view self.now.value.now) location.now }
+    {
+        self.value_below(location.steps())
+    }
 
-impl<'t, 'a> Tree for OrderedValue<'t, 'a> {
-    type Array = OrderedItems<'t, 'a>;
-
-    type Object = OrderedMembers<'t, 'a>;
-
-    type ItemsLeft = OrderedItemsLeft<'t, 'a>;
-
-    type MembersLeft = OrderedMembersLeft<'t, 'a>;
-
-    type Number = ExactNumber<'a>;
-
-    type Error = DocumentRefusal;
-
-    ghost content = { λ v. document_of_tree (value_view v.value.now) };
-
-    ghost items = { λ a. items_of_tree (items_view a.items.now.items) };
-
-    ghost members = { λ o. members_of_tree (members_view o.members.now.items) };
-
-    ghost items_left = { λ left. items_of_tree (items_view (iter_rest left.items)) };
-
-    ghost members_left = { λ left. members_of_tree (members_view (iter_rest left.members)) };
-
-    fn atom(&self) -> Result<Atom<'_, ExactNumber<'a>>, DocumentRefusal> {
-        match self.value {
-            Exact::Null => Ok(Atom::Null),
-            Exact::Bool(truth) => Ok(Atom::Bool(*truth)),
-            Exact::Number(text) => {
-                let number = ExactNumber::of_text(self.alloc, CowStr::Borrowed(text))?;
-                Ok(Atom::Number(number))
-            }
-            Exact::String(text) => Ok(Atom::Text(*text)),
-            Exact::Array(_) => Ok(Atom::List),
-            Exact::Object(_) => Ok(Atom::Object),
+    // The value that the steps lead to, if there is one.
+    fn value_below(self, steps: &[LocStep]) -> Option<OrderedValue<'t, 'a>>
+        ensures { option_map (λ v. value_view v.value.now) result ≡ exact_at (value_view self.entry.value.now) (owned_steps steps.now) }
+    {
+        match steps.split_first() {
+            Some((step, rest)) => self.child(step)?.value_below(rest),
+            None => Some(self),
         }
     }
 
-    fn number_of_literal(
-        &self,
-        alloc: Global,
-        literal: Decimal,
-    ) -> Result<ExactNumber<'a>, DocumentRefusal> {
-        ExactNumber::of_literal(alloc, literal)
+    // The member or item that one step of a location leads to, if there is one.
+    fn child(self, step: &LocStep) -> Option<OrderedValue<'t, 'a>>
+        ensures { option_map (λ v. value_view v.value.now) result ≡ exact_child (owned_step step.now) (value_view self.entry.value.now) }
+    {
+        match step {
+            LocStep::Name(name) => {
+                let member = self.members()?.member(name.as_str())?;
+                Some(member.1)
+            }
+            LocStep::Index(index) => self.items()?.item(*index),
+        }
     }
 
-    fn as_array(self) -> Option<OrderedItems<'t, 'a>> {
+    // The items, if this is an array.
+    #[inline(always)]
+    pub(crate) fn items(self) -> Option<OrderedItems<'t, 'a>>
+        ensures { option_map (λ a. items_view a.items.now.items) result ≡ as_array (value_view self.entry.value.now) }
+    {
         match self.value {
             Exact::Array(items) => Some(OrderedItems {
                 items,
+                order: self.order,
                 alloc: self.alloc,
             }),
             _ => None,
         }
     }
 
-    fn as_object(self) -> Option<OrderedMembers<'t, 'a>> {
+    // The members, if this is an object.
+    #[inline(always)]
+    pub(crate) fn members(self) -> Option<OrderedMembers<'t, 'a>>
+        ensures { option_map (λ o. members_view o.members.now.items) result ≡ as_object (value_view self.entry.value.now) }
+    {
         match self.value {
             Exact::Object(members) => Some(OrderedMembers {
                 members,
+                order: self.order,
                 alloc: self.alloc,
             }),
             _ => None,
         }
     }
+}
 
-    fn len(array: OrderedItems<'t, 'a>) -> usize {
-        array.items.len()
+impl<'t, 'a> OrderedItems<'t, 'a> {
+    // The item at an index, if there is one.
+    #[inline(always)]
+    pub(crate) fn item(self, index: usize) -> Option<OrderedValue<'t, 'a>>
+        ensures { option_map (λ v. value_view v.value.now) result ≡ get_item index (items_view self.entry.items.now.items) }
+    {
+        if index >= self.items.len() {
+            return None;
+        }
+        let value = &self.items[index];
+        match self.order {
+            Order::OfItems(orders) => {
+                Some(OrderedValue::with_order(self.alloc, value, &orders[index]))
+            }
+            Order::AsItStands | Order::OfMembers(_) => {
+                Some(OrderedValue::with_order(self.alloc, value, self.order))
+            }
+        }
     }
+}
 
-    fn item_at(array: OrderedItems<'t, 'a>, index: usize) -> Option<OrderedValue<'t, 'a>> {
-        if index < array.items.len() {
-            Some(OrderedValue {
-                value: &array.items[index],
-                alloc: array.alloc,
-            })
-        } else {
-            None
+impl<'t, 'a> OrderedMembers<'t, 'a> {
+    // How many members there are, each name counted once.
+    #[inline(always)]
+    fn len(self) -> usize
+        ensures { result ≡ length (places (members_view self.entry.members.now.items)) }
+    {
+        match self.order {
+            Order::OfMembers(members) => members.len(),
+            Order::AsItStands | Order::OfItems(_) => self.members.len(),
         }
     }
 
-    // The names are in order: half of the members that are left is passed over at a time.
-    fn member_named(
-        object: OrderedMembers<'t, 'a>,
-        name: &str,
-    ) -> Option<(&'a str, OrderedValue<'t, 'a>)> {
+    // The member whose name has this index among the names in their order, if there are so many.
+    #[inline(always)]
+    pub(crate) fn member_at(self, index: usize) -> Option<(&'a str, OrderedValue<'t, 'a>)>
+        ensures { option_map (λ m. (m.0.now, value_view m.1.value.now)) result ≡ taken index (members_view self.entry.members.now.items) }
+    {
+        match self.order {
+            Order::OfMembers(members) => {
+                if index >= members.len() {
+                    return None;
+                }
+                let member = &members[index];
+                self.member_in_place(member.0, &member.1)
+            }
+            Order::AsItStands | Order::OfItems(_) => self.member_in_place(index, self.order),
+        }
+    }
+
+    // The member at a place of the object, in whose value members are taken in this order.
+    #[inline(always)]
+    fn member_in_place(
+        self,
+        place: usize,
+        order: &'t Order,
+    ) -> Option<(&'a str, OrderedValue<'t, 'a>)>
+        requires { IfSome (member_at place (members_view self.members.now.items)) (λ m. is_order order.now m.1 ≡ true) }
+        ensures { option_map (λ m. (m.0.now, value_view m.1.value.now)) result ≡ member_at place (members_view self.entry.members.now.items) }
+    {
+        if place >= self.members.len() {
+            return None;
+        }
+        let member = &self.members[place];
+        let value = OrderedValue::with_order(self.alloc, &member.1, order);
+        Some((member.0, value))
+    }
+
+    // The last member of a name, if there is one. Half of the names that are left is passed over at a time.
+    pub(crate) fn member(self, name: &str) -> Option<(&'a str, OrderedValue<'t, 'a>)>
+        ensures key { IfSome result (λ m. m.0.now ≡ name.now) }
+        ensures value { option_map (λ m. value_view m.1.value.now) result ≡ get_member name.now (members_view self.entry.members.now.items) }
+    {
         let mut low = 0;
-        let mut high = object.members.len();
+        let mut high = self.len();
         while low < high {
             let middle = low + (high - low) / 2;
-            let member = &object.members[middle];
+            let member = self.member_at(middle)?;
             match name.cmp(member.0) {
                 Ordering::Less => high = middle,
-                Ordering::Equal => {
-                    let value = OrderedValue {
-                        value: &member.1,
-                        alloc: object.alloc,
-                    };
-                    return Some((member.0, value));
-                }
+                Ordering::Equal => return Some(member),
                 Ordering::Greater => low = middle + 1,
             }
         }
         None
-    }
-
-    fn each_item(array: OrderedItems<'t, 'a>) -> OrderedItemsLeft<'t, 'a> {
-        OrderedItemsLeft {
-            items: array.items.iter(),
-            alloc: array.alloc,
-        }
-    }
-
-    fn next_item(left: &mut OrderedItemsLeft<'t, 'a>) -> Option<OrderedValue<'t, 'a>> {
-        match left.items.next() {
-            Some(value) => Some(OrderedValue {
-                value,
-                alloc: left.alloc,
-            }),
-            None => None,
-        }
-    }
-
-    fn each_member(object: OrderedMembers<'t, 'a>) -> OrderedMembersLeft<'t, 'a> {
-        OrderedMembersLeft {
-            members: object.members.iter(),
-            alloc: object.alloc,
-        }
-    }
-
-    fn next_member(
-        left: &mut OrderedMembersLeft<'t, 'a>,
-    ) -> Option<(&'a str, OrderedValue<'t, 'a>)> {
-        match left.members.next() {
-            Some(member) => {
-                let value = OrderedValue {
-                    value: &member.1,
-                    alloc: left.alloc,
-                };
-                Some((member.0, value))
-            }
-            None => None,
-        }
     }
 }

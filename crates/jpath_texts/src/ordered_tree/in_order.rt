@@ -1,6 +1,6 @@
 //! Whether the names of an exact tree are in order, and the tree with its members in the order of their names.
 
-ghost use Rattle.std.specs.Prelude.{◌≡◌, true, IfOk};
+ghost use Rattle.std.specs.Prelude.{◌≡◌, IfOk};
 ghost use Rattle.json.specs.Value.{value_view, items_view, members_view};
 ghost use Rattle.json.specs.Json.{no_members};
 ghost use Rattle.jpath_texts.specs.OrderedTree.{is_ordered, are_items_ordered, are_members_ordered, in_order, items_in_order, members_in_order};
@@ -55,23 +55,10 @@ fn are_named_trees_ordered(members: &Vec<(&str, Exact<'_>)>) -> bool
     true
 }
 
-/// Sorts the members of each object in an exact tree, the tree of a JSON text with numbers as written, by their names'
-/// bytes. If an object has a name several times, only its last value is kept. The only error is out of memory.
-pub fn put_in_order<'a>(alloc: Global, value: Exact<'a>) -> Result<Exact<'a>, AllocError>
-    ensures ordered { IfOk result (λ made. is_ordered (value_view made) ≡ true) }
-    ensures tree { IfOk result (λ made. value_view made ≡ in_order (value_view value.entry)) }
-{
-    if is_tree_ordered(&value) {
-        return Ok(value);
-    }
-    copy_in_order(alloc, &value)
-}
-
 // A copy of the tree with the members of each object in the order of their names.
 #[cycle(copy)]
 pub(crate) fn copy_in_order<'a>(alloc: Global, value: &Exact<'a>) -> Result<Exact<'a>, AllocError>
-    ensures ordered { IfOk result (λ made. is_ordered (value_view made) ≡ true) }
-    ensures tree { IfOk result (λ made. value_view made ≡ in_order (value_view value.now)) }
+    ensures { IfOk result (λ made. value_view made ≡ in_order (value_view value.now)) }
 {
     match value {
         Exact::Null => Ok(Exact::Null),
@@ -89,8 +76,7 @@ fn copy_items_in_order<'a>(
     alloc: Global,
     items: &Vec<Exact<'a>>,
 ) -> Result<Vec<Exact<'a>>, AllocError>
-    ensures ordered { IfOk result (λ made. are_items_ordered (items_view made.items) ≡ true) }
-    ensures tree { IfOk result (λ made. items_view made.items ≡ items_in_order (items_view items.now.items)) }
+    ensures { IfOk result (λ made. items_view made.items ≡ items_in_order (items_view items.now.items)) }
 {
     let mut made = Vec::with_capacity(alloc, items.len())?;
     for item in items {
@@ -105,8 +91,7 @@ fn copy_members_in_order<'a>(
     alloc: Global,
     members: &Vec<(&'a str, Exact<'a>)>,
 ) -> Result<Vec<(&'a str, Exact<'a>)>, AllocError>
-    ensures ordered { IfOk result (λ made. are_members_ordered (members_view made.items) ≡ true) }
-    ensures tree { IfOk result (λ made. members_view made.items ≡ members_in_order (members_view members.now.items) no_members) }
+    ensures { IfOk result (λ made. members_view made.items ≡ members_in_order (members_view members.now.items) no_members) }
 {
     let mut named = BTreeMap::new(alloc);
     for member in members {

@@ -1,10 +1,10 @@
 use Rattle.std.proofs.Common.{◌≡◌, Some, arith}
 use Rattle.json.specs.Value.{value_view}
-use Rattle.jpath_edits.specs.ExactAt.{exact_at}
+use Rattle.jpath_texts.specs.ExactAt.{exact_at}
 use Rattle.jpath_core.proofs.LineLemmas.{has_numbers_at}
 use Rattle.jpath_core.proofs.exact_at_location.printable_value_at_location.Goals as goal
 
 pub returns-in-Some-clause-writable : goal.returns-in-Some-clause-writable
 returns-in-Some-clause-writable c =
-    let stands : Some (value_view c.in-Some.value.now) ≡ exact_at (value_view c.args.root.now) c.args.location.now = grind arith in
-    has_numbers_at c.args.location.now (value_view c.args.root.now) (value_view c.in-Some.value.now) c.requires stands
+    let stands : Some (value_view c.in-Some.value.value.now) ≡ exact_at (value_view c.args.root.value.now) c.args.location.now = grind arith in
+    has_numbers_at c.args.location.now (value_view c.args.root.value.now) (value_view c.in-Some.value.value.now) c.requires stands

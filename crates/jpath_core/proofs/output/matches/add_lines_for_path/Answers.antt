@@ -17,7 +17,7 @@ returns c = λ p spelled.
     let stand : map location_of nodes ≡ sel text (exact_document exact) p =
     locations_of (exact_document exact) _ nodes found.holds ∙ ap (sel text (exact_document exact)) (c.one_tree_per_text.ensures text found.path p found.spelled spelled) in
     let lent : map location_of c.as_slice.result.now ≡ map location_of nodes = ap (map location_of) c.as_slice.ensures.value in
-    let root = ap (λ v. value_view v) c.exact.ensures in
+    let root = ap (λ v. value_view v) c.root.ensures in
     let counted : c.len.result ≡ length nodes = grind arith in
     record {
       written = c.in_ok-add_lines_of_nodes.ensures ∙ ap (λ j. c.args.out.now.items ++ lines_text c.args.line.now j (map location_of c.as_slice.result.now)) root ∙ ap (λ ls. c.args.out.now.items ++ lines_text c.args.line.now exact ls) (lent ∙ stand);

@@ -6,4 +6,4 @@ use Rattle.jpath_core.proofs.output.matches.add_lines_of_nodes.Given as goal
 
 abbrev pub invariant-loop-node : goal.invariant-loop-node
 invariant-loop-node l =
-    l.out.items ≡ l.initial.out.items ++ lines_text l.line (value_view l.exact) (map location_of (take l.node-index l.nodes))
+    l.out.items ≡ l.initial.out.items ++ lines_text l.line (value_view l.root.value.now) (map location_of (take l.node-index l.nodes))

@@ -5,7 +5,7 @@ use Rattle.std.proofs.lemmas.List.{map-append, take_more}
 use Rattle.std.proofs.lemmas.List.Elements.{filter_map-append, All-push, All-same}
 use Rattle.json.specs.Tree.{HasNumbers}
 use Rattle.json.specs.Value.{value_view}
-use Rattle.jpath_edits.specs.ExactAt.{exact_at}
+use Rattle.jpath_texts.specs.ExactAt.{exact_at}
 use Rattle.jpath_core.specs.Nodes.{location_of}
 use Rattle.jpath_core.proofs.TurnLemmas.{none_more}
 use Rattle.jpath_core.proofs.output.matches.add_values_at_nodes.Goals as goal
@@ -19,7 +19,7 @@ loop-node-preserved c = elim c.match-printable_value_at_location.branch [
         (All-push (λ v. HasNumbers (value_view v.value.now)) _ _ (c.loop-node.invariant.writable old) w.in-Some.ensures.writable);
   }
   | in_default w ↦
-      let exact = value_view c.args.exact.now in
+      let exact = value_view c.args.root.value.now in
       let nodes = c.args.nodes.now in
       let i = c.loop-node.node-index in
       let node = c.node-item.result in

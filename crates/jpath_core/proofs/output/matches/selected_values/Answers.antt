@@ -5,7 +5,7 @@ use Rattle.std.proofs.lemmas.List.Elements.{filter_map-append, All-nil, All-same
 use Rattle.json.specs.Json.{Json}
 use Rattle.json.specs.Tree.{HasNumbers}
 use Rattle.json.specs.Value.{value_view}
-use Rattle.jpath_edits.specs.ExactAt.{exact_at}
+use Rattle.jpath_texts.specs.ExactAt.{exact_at}
 use Rattle.jpath_core.specs.Matches.{SelectInTurn, nothing}
 use Rattle.jpath_core.specs.Nodes.{location_of}
 use Rattle.jpath_core.proofs.TurnLemmas.{turn_more, nodes_selected}
@@ -32,7 +32,7 @@ loop-query-preserved c =
         locations = before.locations ++ more;
         in_turn = subst (λ qs. SelectInTurn exact qs (before.locations ++ more)) (sym taken)
             (turn_more exact (take l.query-index queries) before.locations more query before.in_turn (nodes_selected exact query nodes c.in_ok-nodes.ensures));
-        there = c.in_ok-add_values_at_nodes.ensures.added ∙ ap₂ (λ (js ks : List Json). js ++ ks) before.there (ap (λ v. filter_map (exact_at (value_view v)) (map location_of c.as_slice.result.now)) c.exact.ensures ∙ ap (λ ns. filter_map (exact_at exact) (map location_of ns)) c.as_slice.ensures.value)
+        there = c.in_ok-add_values_at_nodes.ensures.added ∙ ap₂ (λ (js ks : List Json). js ++ ks) before.there (ap (λ v. filter_map (exact_at (value_view v)) (map location_of c.as_slice.result.now)) c.root.ensures ∙ ap (λ ns. filter_map (exact_at exact) (map location_of ns)) c.as_slice.ensures.value)
             ∙ sym (filter_map-append (exact_at exact) before.locations more);
       };
       writable = c.add_values_at_nodes.ensures.writable l.invariant.writable;

@@ -1,29 +1,27 @@
 use Rattle.std.proofs.Common.{◌≡◌, [], ◌++◌, map, None, Some, sym, ap, ◌∙◌}
 use Rattle.std.proofs.lemmas.List.{append-nil}
 use Rattle.json.specs.Value.{value_view}
-use Rattle.jpath_edits.specs.ExactAt.{exact_at}
+use Rattle.jpath_texts.specs.ExactAt.{exact_at}
 use Rattle.jpath_texts.specs.Rows.{row_line}
-use Rattle.jpath_core.specs.Nodes.{location_of, value_of}
+use Rattle.jpath_core.specs.Nodes.{location_of}
 use Rattle.jpath_core.specs.Rows.{row, no_row}
-use Rattle.jpath_core.proofs.RowLemmas.{value_written}
 use Rattle.jpath_core.proofs.output.table.add_row_of_node.Goals as goal
 
 pub returns-in_default : goal.returns-in_default
-returns-in_default c = λ stands.
-    let exact = value_view c.args.root.now in
+returns-in_default c =
+    let exact = value_view c.args.root.value.now in
     let absent : exact_at exact (location_of c.args.node.now) ≡ None = sym (c.in_default.ensures.value ∙ ap (exact_at exact) c.in_ok-location.ensures) in
     record { text = []; is_row = no_row absent; written = sym (append-nil c.args.out.now.items) }
 
 pub returns : goal.returns
-returns c = λ stands.
-    let exact = value_view c.args.root.now in
+returns c =
+    let exact = value_view c.args.root.value.now in
     let out = c.args.out.now.items in
-    let value = value_view c.in-Some.exact.now in
+    let value = value_view c.in-Some.value.value.now in
     let fields = map (λ f. f.items) c.in_ok-fields.fields.items in
     let there : exact_at exact (location_of c.args.node.now) ≡ Some value = sym (c.in-Some.ensures.value ∙ ap (exact_at exact) c.in_ok-location.ensures) in
-    let is = c.value.ensures ∙ value_written exact value (location_of c.args.node.now) (value_of c.args.node.now) stands there in
     record {
       text = row_line c.args.separated fields;
-      is_row = row there (c.in_ok-fields.ensures is);
+      is_row = row there c.in_ok-fields.ensures;
       written = c.in_ok-add_row.ensures ∙ ap (λ fs. out ++ row_line c.args.separated (map (λ f. f.items) fs)) c.as_slice.ensures.value;
     }

@@ -1,11 +1,9 @@
-use Rattle.std.proofs.Common.{◌≡◌, ◌+◌, [], ◌∷◌, ◌++◌, All, Some, length, map, sym, ap, subst, take, ◌∙◌, arith}
+use Rattle.std.proofs.Common.{◌≡◌, ◌+◌, [], ◌∷◌, ◌++◌, length, map, sym, ap, subst, take, ◌∙◌, arith}
 use Rattle.std.proofs.lemmas.List.{append-nil, append_assoc, length-map, map-append, take_more, take_all}
 use Rattle.json.specs.Value.{value_view}
-use Rattle.jsonpath_nodes.specs.place.Location.{at}
-use Rattle.jpath_texts.specs.ExactDocument.{exact_document}
-use Rattle.jpath_core.specs.Nodes.{location_of, value_of}
+use Rattle.jpath_core.specs.Nodes.{location_of}
 use Rattle.jpath_core.specs.Rows.{AddsRow, AreRowsAt, no_rows}
-use Rattle.jpath_core.proofs.RowLemmas.{rows_more, nodes_stand}
+use Rattle.jpath_core.proofs.RowLemmas.{rows_more}
 use Rattle.jpath_core.proofs.TurnLemmas.{nodes_selected}
 use Rattle.jpath_core.proofs.output.table.add_rows.Goals as goal
 
@@ -18,15 +16,11 @@ loop-node-preserved c =
     let exact = value_view c.args.document.now.exact in
     let columns = c.args.columns.now in
     let separated = c.args.separated in
-    let document = exact_document exact in
     let nodes = c.as_slice-node-items.result.now in
     let before = l.invariant in
-    let root = ap (λ v. value_view v) c.exact.ensures in
-    let stand = subst (All (λ n. at document (location_of n) ≡ Some (value_of n))) (sym c.as_slice-node-items.ensures.value) (nodes_stand document _ c.in_ok-nodes.nodes.items c.in_ok-nodes.ensures.holds) in
+    let root = ap (λ v. value_view v) c.root.ensures in
     let node = c.node-item.result in
-    let here : at document (location_of node) ≡ Some (value_of node) = subst (λ n. at document (location_of n) ≡ Some (value_of n)) (sym c.node-item.is) (stand l.node-index node c.loop-node-test.true) in
-    let lent : at (exact_document (value_view c.exact.result.now)) (location_of node) ≡ Some (value_of node) = ap (λ j. at (exact_document j) (location_of node)) root ∙ here in
-    let added = subst (λ j. AddsRow j columns separated (location_of node) l.out.items c.add_row_of_node.new.out.items) root (c.in_ok-add_row_of_node.ensures lent) in
+    let added = subst (λ j. AddsRow j columns separated (location_of node) l.out.items c.add_row_of_node.new.out.items) root c.in_ok-add_row_of_node.ensures in
     let more = rows_more exact columns separated (map location_of (take l.node-index nodes)) before.0 (location_of node) added.text before.1 added.is_row in
     let taken : take (l.node-index + 1) nodes ≡ take l.node-index nodes ++ node ∷ [] = take_more nodes l.node-index node c.loop-node-test.true ∙ ap (λ n. take l.node-index nodes ++ n ∷ []) (sym c.node-item.is) in (
       before.0 ++ added.text,

@@ -8,10 +8,10 @@ use Rattle.jpath_core.proofs.LineLemmas.{locations_of}
 use Rattle.jpath_core.proofs.output.table.field_of_column.Goals as goal
 
 pub returns : goal.returns
-returns c = λ is.
-    let exact = value_view c.args.exact.now in
+returns c =
+    let exact = value_view c.args.value.value.now in
     let nodes = c.in_ok-nodes.nodes.items in
-    let found = subst (λ d. SelectsNodes name_bytes document_at c.args.column.now.path d nodes) is (subst (λ text. SelectsNodes name_bytes document_at text (document_at c.args.value) nodes) c.path.ensures c.in_ok-nodes.ensures) in
+    let found = subst (λ text. SelectsNodes name_bytes document_at text (exact_document exact) nodes) c.path.ensures c.in_ok-nodes.ensures in
     record {
       path = found.path;
       spelled = found.spelled;
