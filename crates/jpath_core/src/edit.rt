@@ -10,7 +10,9 @@ ghost use Rattle.jpath_edits.specs.Changed.{put_by, IsSpliced};
 ghost use Rattle.jpath_core.specs.Edited.{IsEditedAt};
 
 use crate::selection::select_in_document;
-use jpath_edits::{Change, are_bytes_of_changed_document, changed_text, locations_below_root};
+use jpath_edits::{
+    Change, PartReader, are_bytes_of_changed_document, changed_text, locations_below_root,
+};
 use jpath_texts::{Document, DocumentRefusal, Query};
 use jsonpath_nodes::{Location, compute_paths};
 use std::alloc::Global;
@@ -40,7 +42,7 @@ pub struct Edited {
 /// new value is no JSON; `EditDiffers` if what is read is another document, which would be a fault of this library; or
 /// those of `select_in_document`.
 pub fn edit_text(
-    alloc: Global,
+    reader: &mut PartReader,
     text: &str,
     document: &Document<'_>,
     query: &Query<'_>,
@@ -49,9 +51,10 @@ pub fn edit_text(
     ensures bytes { IfOk result (λ edited. IsSpliced (put_by change.entry) text.now edited.text.items) }
     ensures targets { IfOk result (λ edited. IsEditedAt query.now.path change.entry (value_view document.now.exact) text.now edited.text.items) }
 {
+    let alloc = reader.alloc();
     let places = select_locations_in_document_order(alloc, document, query)?;
     let all = places.as_slice();
-    let written = changed_text(alloc, text, document.exact(), all, change)?;
+    let written = changed_text(reader, text, document.exact(), all, change)?;
     if !are_bytes_of_changed_document(alloc, text, all, change, written.as_slice())? {
         return Err(DocumentRefusal::EditDiffers);
     }

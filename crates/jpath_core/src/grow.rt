@@ -8,7 +8,7 @@ ghost use Rattle.jpath_core.specs.Edited.{IsAppended, IsGrownByPath, IsMade, IsM
 
 use crate::edit::{Edited, edit_text, select_locations_in_document_order};
 use crate::output::matches::count_matches_of_path;
-use jpath_edits::{Change, Growth, grown_text};
+use jpath_edits::{Change, Growth, PartReader, grown_text};
 use jpath_texts::{Document, DocumentRefusal, Query, read_exact_tree};
 use json::Scratch;
 use jsonpath_nodes::Location;
@@ -34,7 +34,7 @@ pub struct NewMember<'m> {
 /// document, which would be a fault of this library; `NotADocument` if a member is to be added and its value is no JSON
 /// or nests deeper than 127 levels; or those of `select_in_document`.
 pub fn add_member_text(
-    alloc: Global,
+    reader: &mut PartReader,
     text: &str,
     document: &Document<'_>,
     query: &Query<'_>,
@@ -42,8 +42,9 @@ pub fn add_member_text(
 ) -> Result<Edited, DocumentRefusal>
     ensures { IfOk result (λ edited. IsMemberPut query.now.path member.now (value_view document.now.exact) text.now edited.text.items) }
 {
+    let alloc = reader.alloc();
     if count_matches_of_path(alloc, document, query)? > 0 {
-        return edit_text(alloc, text, document, query, Change::Put(member.value));
+        return edit_text(reader, text, document, query, Change::Put(member.value));
     }
     make_member_text(alloc, text, document, member)
 }

@@ -6,12 +6,12 @@ ghost use Rattle.jpath_edits.specs.Changed.{put_by, IsChangedAt};
 
 use crate::parts::check_parts::are_parts_at_targets;
 use crate::parts::find_parts::find_parts;
+use crate::parts::part_texts::PartReader;
 use crate::parts::splice::splice_parts;
 use crate::target_locations::locations_below_root;
 use jpath_texts::DocumentRefusal;
 use json::Value as Exact;
 use jsonpath_nodes::Location;
-use std::alloc::Global;
 
 /// What an edit does with each value that the edit's path selects: it replaces the value or removes it.
 #[derive(Clone, Copy, Debug, Drop)]
@@ -41,7 +41,7 @@ impl<'c> Change<'c> {
 /// of the text that is to be replaced, read by itself, is not the value that `exact` has at that location, which would
 /// be a fault of this library; or `OutOfMemory`.
 pub fn changed_text(
-    alloc: Global,
+    reader: &mut PartReader,
     text: &str,
     exact: &Exact<'_>,
     places: &[Location],
@@ -49,6 +49,7 @@ pub fn changed_text(
 ) -> Result<Vec<u8>, DocumentRefusal>
     ensures { IfOk result (λ written. IsChangedAt change.entry (value_view exact.now) places.now text.now written.items) }
 {
+    let alloc = reader.alloc();
     let targets = locations_below_root(places);
     let takes = matches!(change, Change::Take);
     let parts = find_parts(alloc, text, exact, targets, takes)?;
@@ -61,7 +62,7 @@ pub fn changed_text(
     else {
         return Err(DocumentRefusal::EditDiffers);
     };
-    if !are_parts_at_targets(alloc, text, exact, targets, parts, change)? {
+    if !are_parts_at_targets(reader, text, exact, targets, parts, change)? {
         return Err(DocumentRefusal::EditDiffers);
     }
     Ok(written)

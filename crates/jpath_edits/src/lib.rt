@@ -17,4 +17,5 @@ pub use change::{Change, changed_text};
 pub use check_edited_text::are_bytes_of_changed_document;
 pub use exact_at_location::exact_value_at_location;
 pub use growth::{Grown, Growth, grown_text};
+pub use parts::part_texts::PartReader;
 pub use target_locations::locations_below_root;

@@ -514,14 +514,18 @@ fn add_argument<'a>(argument: Arg<'a>, arguments: &mut Vec<Arg<'a>>) -> Result<(
     Ok(())
 }
 
-// Adds an option that takes no value for each of these flags.
+// Adds an option that takes no value for each of these flags. One that isn't given has no entry in what `clap` finds, as
+// it would have by `ArgAction::SetTrue`: each entry makes each look-up there longer.
 fn add_flags<'a>(
     alloc: Global,
     flags: &[Flag],
     arguments: &mut Vec<Arg<'a>>,
 ) -> Result<(), AllocError> {
     for (letter, name, help) in flags {
-        let flag = named_option(alloc, *name, *help).action(ArgAction::SetTrue);
+        let flag = named_option(alloc, *name, *help)
+            .action(ArgAction::Set)
+            .num_args(0)
+            .default_missing_value("true");
         add_argument(with_letter(flag, *letter), arguments)?;
     }
     Ok(())

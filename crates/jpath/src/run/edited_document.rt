@@ -1,20 +1,22 @@
 //! The text of a document as the edits of the command line leave it.
 
 use jpath_core::{
-    Change, Document, DocumentRefusal, Edited, Look, NewMember, add_member_text, add_value_in_look,
-    append_text, edit_text, read_exact_tree, rename_text,
+    Change, Document, DocumentRefusal, Edited, Look, NewMember, PartReader, add_member_text,
+    add_value_in_look, append_text, edit_text, read_exact_tree, rename_text,
 };
 use jpath_words::{Edit, EditWords};
 use json::Scratch;
 use std::alloc::{AllocError, Global};
 use std::str;
 
-/// What `jpath` keeps from one document of its input to the next: memory that reading the next document uses again, and
-/// a note for each edit of the command line. The note says whether the edit has changed some document, or a message has
-/// said why it changed none.
+/// What `jpath` keeps from one document of its input to the next: memory that reading the next document and its parts
+/// uses again, and a note for each edit of the command line. The note says whether the edit has changed some document,
+/// or a message has said why it changed none.
 #[derive(Drop)]
 pub struct Kept {
     pub scratch: Scratch,
+    // Made at the first edit.
+    parts: Option<PartReader>,
     made_or_told: Vec<bool>,
 }
 
@@ -24,6 +26,7 @@ impl Kept {
     pub fn new(alloc: Global) -> Kept {
         Kept {
             scratch: Scratch::new(alloc),
+            parts: None,
             made_or_told: Vec::new(alloc),
         }
     }
@@ -84,7 +87,7 @@ fn apply_edits(
     let mut count = 0usize;
     let mut bytes = Vec::from_slice(rt.alloc(), text.as_bytes())?;
     for (at, edit) in edits.iter().enumerate() {
-        let (next, found, is_told) = apply_edit(rt, edit, bytes.as_slice(), &mut kept.scratch)?;
+        let (next, found, is_told) = apply_edit(rt, edit, bytes.as_slice(), kept)?;
         bytes = next;
         count = count.saturating_add(found);
         if found > 0 || is_told {
@@ -116,15 +119,16 @@ fn apply_edit(
     rt: &(impl Eprint + Alloc<A = Global>),
     edit: &Edit<'_>,
     bytes: &[u8],
-    scratch: &mut Scratch,
+    kept: &mut Kept,
 ) -> Result<(Vec<u8>, usize, bool), DocumentRefusal> {
     let alloc = rt.alloc();
     let Ok(text) = str::from_utf8(bytes) else {
         return Err(DocumentRefusal::NotADocument);
     };
     let path = edit.words.path();
-    let document = Document::read(alloc, text, scratch)?;
-    let Some(done) = edited_text(alloc, text, &document, edit)? else {
+    let document = Document::read(alloc, text, &mut kept.scratch)?;
+    let parts = kept.parts.get_or_insert_with(|| PartReader::new(alloc));
+    let Some(done) = edited_text(parts, text, &document, edit)? else {
         let _ = eprintln!(rt;
             "jpath: {path}: not renamed: a member of the new name is there already"
         );
@@ -140,7 +144,7 @@ fn apply_edit(
 
 // The text of the document as one edit leaves it; `None` where a new name is taken.
 fn edited_text(
-    alloc: Global,
+    parts: &mut PartReader,
     text: &str,
     document: &Document<'_>,
     edit: &Edit<'_>,
@@ -149,13 +153,14 @@ fn edited_text(
         return Err(DocumentRefusal::NotADocument);
     };
     let query = &edit.query;
+    let alloc = parts.alloc();
     match (edit.words, &edit.member) {
         (EditWords::Rename(_, new), Some(member)) => {
             rename_text(alloc, text, document, query, member.name.as_str(), new)
         }
         (EditWords::Append(_, _), _) => Ok(Some(append_text(alloc, text, document, query, value)?)),
         (EditWords::Remove(_), _) => Ok(Some(edit_text(
-            alloc,
+            parts,
             text,
             document,
             query,
@@ -167,8 +172,8 @@ fn edited_text(
                 name: member.name.as_str(),
                 value,
             };
-            Ok(Some(add_member_text(alloc, text, document, query, &member)?))
+            Ok(Some(add_member_text(parts, text, document, query, &member)?))
         }
-        (_, None) => Ok(Some(edit_text(alloc, text, document, query, Change::Put(value))?)),
+        (_, None) => Ok(Some(edit_text(parts, text, document, query, Change::Put(value))?)),
     }
 }

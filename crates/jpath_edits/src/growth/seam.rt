@@ -4,7 +4,7 @@ ghost use Rattle.std.specs.Prelude.{map, slice_range, IfOk, IfSome, IsTrue};
 ghost use Rattle.jpath_edits.specs.Grown.{AreGoneFor, IsFilledAt, IsGoneFor};
 
 use crate::growth::Growth;
-use crate::parts::part_texts::is_text_of;
+use crate::parts::part_texts::PartReader;
 use jpath_texts::DocumentRefusal;
 use json::Value as Exact;
 use std::alloc::{AllocError, Global};
@@ -69,7 +69,7 @@ fn is_seam_of(
         return Ok(false);
     };
     match growth {
-        Growth::Name(old, _) => is_text_of(alloc, gone, &Exact::String(*old)),
+        Growth::Name(old, _) => PartReader::new(alloc).is_text_of(gone, &Exact::String(*old)),
         _ => Ok(gone.is_empty()),
     }
 }

@@ -8,16 +8,15 @@ use crate::change::Change;
 use crate::exact_at_location::exact_value_at_location;
 use crate::parts::check_taken_parts::are_members_or_items_at;
 use crate::parts::part::Part;
-use crate::parts::part_texts::{has_no_outer_blanks, is_text_of};
+use crate::parts::part_texts::{PartReader, has_no_outer_blanks};
 use crate::target_locations::topmost_locations;
 use jpath_texts::DocumentRefusal;
 use json::Value as Exact;
 use jsonpath_nodes::Location;
-use std::alloc::Global;
 
 // Whether the parts of a text are what is to give way at the topmost of the targets.
 pub(crate) fn are_parts_at_targets(
-    alloc: Global,
+    reader: &mut PartReader,
     text: &str,
     exact: &Exact<'_>,
     targets: &[Location],
@@ -26,13 +25,13 @@ pub(crate) fn are_parts_at_targets(
 ) -> Result<bool, DocumentRefusal>
     ensures { IfOk result (λ right. IsTrue right → GiveWay change.entry (value_view exact.now) targets.now (map (part_text text.now) parts.items)) }
 {
-    let tops = topmost_locations(alloc, targets)?;
+    let tops = topmost_locations(reader.alloc(), targets)?;
     let mut ordered = parts;
     ordered.sort_by_key(|part| part.target)?;
     match change {
-        Change::Put(_) => are_texts_at(alloc, text, exact, tops.as_slice(), ordered.as_slice()),
+        Change::Put(_) => are_texts_at(reader, text, exact, tops.as_slice(), ordered.as_slice()),
         Change::Take => are_members_or_items_at(
-            alloc,
+            reader,
             text,
             exact,
             tops.as_slice(),
@@ -43,7 +42,7 @@ pub(crate) fn are_parts_at_targets(
 
 // Whether there is a part for each location, and each is the text of what stands there.
 fn are_texts_at(
-    alloc: Global,
+    reader: &mut PartReader,
     text: &str,
     exact: &Exact<'_>,
     locations: &[&Location],
@@ -55,7 +54,7 @@ fn are_texts_at(
         let Some(part) = parts.get(index) else {
             return Ok(false);
         };
-        if !is_text_at(alloc, text, exact, location, part)? {
+        if !is_text_at(reader, text, exact, location, part)? {
             return Ok(false);
         }
     }
@@ -64,7 +63,7 @@ fn are_texts_at(
 
 // Whether a part is the text of what stands at the location, with no blanks around it.
 fn is_text_at(
-    alloc: Global,
+    reader: &mut PartReader,
     text: &str,
     exact: &Exact<'_>,
     location: &Location,
@@ -77,7 +76,7 @@ fn is_text_at(
         exact_value_at_location(exact, location),
     ) {
         (Some(part), Some(value)) => if has_no_outer_blanks(part.as_bytes()) {
-            is_text_of(alloc, part, value)
+            reader.is_text_of(part, value)
         } else {
             Ok(false)
         },

@@ -7,15 +7,14 @@ ghost use Rattle.jpath_edits.specs.Changed.{part_text, values_named, values_by, 
 
 use crate::exact_at_location::exact_value_below;
 use crate::parts::part::Part;
-use crate::parts::part_texts::{is_blank_with_optional_comma, is_name_with_colon, is_text_of};
+use crate::parts::part_texts::{PartReader, is_blank_with_optional_comma};
 use jpath_texts::DocumentRefusal;
 use json::Value as Exact;
 use jsonpath_nodes::{LocStep, Location};
-use std::alloc::Global;
 
 // Whether the parts of a text are the members and items at these locations, in their order.
 pub(crate) fn are_members_or_items_at(
-    alloc: Global,
+    reader: &mut PartReader,
     text: &str,
     exact: &Exact<'_>,
     locations: &[&Location],
@@ -25,7 +24,7 @@ pub(crate) fn are_members_or_items_at(
 {
     let mut left = parts;
     for location in locations {
-        match strip_parts_of_location(alloc, text, exact, location, left)? {
+        match strip_parts_of_location(reader, text, exact, location, left)? {
             Some(behind) => left = behind,
             None => return Ok(false),
         }
@@ -36,7 +35,7 @@ pub(crate) fn are_members_or_items_at(
 // The rest of the parts, without those of the member or item at one location, with which they have to begin; None where
 // they don't.
 fn strip_parts_of_location<'p>(
-    alloc: Global,
+    reader: &mut PartReader,
     text: &str,
     exact: &Exact<'_>,
     location: &Location,
@@ -46,7 +45,7 @@ fn strip_parts_of_location<'p>(
 {
     match location.steps().split_last() {
         Some((step, above)) => match exact_value_below(exact, above) {
-            Some(parent) => strip_parts_of_children(alloc, text, parent, step, parts),
+            Some(parent) => strip_parts_of_children(reader, text, parent, step, parts),
             None => Ok(None),
         },
         None => Ok(None),
@@ -56,7 +55,7 @@ fn strip_parts_of_location<'p>(
 // The rest of the parts, without those of what the step leads to from a value, with which they have to begin; None
 // where they don't. All of them where the step leads to nothing.
 fn strip_parts_of_children<'p>(
-    alloc: Global,
+    reader: &mut PartReader,
     text: &str,
     parent: &Exact<'_>,
     step: &LocStep,
@@ -67,12 +66,12 @@ fn strip_parts_of_children<'p>(
     match step {
         LocStep::Name(name) => match parent {
             Exact::Object(members) => {
-                strip_parts_of_members(alloc, text, members, step, name.as_str(), parts)
+                strip_parts_of_members(reader, text, members, step, name.as_str(), parts)
             }
             _ => Ok(Some(parts)),
         },
         LocStep::Index(index) => match parent.at(*index) {
-            Some(item) => strip_part_of_child(alloc, text, item, step, parts),
+            Some(item) => strip_part_of_child(reader, text, item, step, parts),
             None => Ok(Some(parts)),
         },
     }
@@ -81,7 +80,7 @@ fn strip_parts_of_children<'p>(
 // The rest of the parts, without those of all members of this name, with which they have to begin; None where they
 // don't.
 fn strip_parts_of_members<'p>(
-    alloc: Global,
+    reader: &mut PartReader,
     text: &str,
     members: &Vec<(&str, Exact<'_>)>,
     step: &LocStep,
@@ -93,7 +92,7 @@ fn strip_parts_of_members<'p>(
     let mut left = parts;
     for member in members {
         if member.0 == name {
-            match strip_part_of_child(alloc, text, &member.1, step, left)? {
+            match strip_part_of_child(reader, text, &member.1, step, left)? {
                 Some(behind) => left = behind,
                 None => return Ok(None),
             }
@@ -105,7 +104,7 @@ fn strip_parts_of_members<'p>(
 // The rest of the parts, without the first one, which has to be the text of the item with this value, or of the member
 // with the step's name and this value; None where it isn't.
 fn strip_part_of_child<'p>(
-    alloc: Global,
+    reader: &mut PartReader,
     text: &str,
     value: &Exact<'_>,
     step: &LocStep,
@@ -114,7 +113,7 @@ fn strip_part_of_child<'p>(
     ensures { IfOk result (λ found. IfSome found (λ behind. AreChildrenBefore (owned_step step.now) (value_view value.now ∷ []) (map (part_text text.now) parts.entry.now) (map (part_text text.now) behind.now))) }
 {
     match parts.split_first() {
-        Some((part, behind)) => if is_child_text(alloc, text, step, value, part)? {
+        Some((part, behind)) => if is_child_text(reader, text, step, value, part)? {
             Ok(Some(behind))
         } else {
             Ok(None)
@@ -126,7 +125,7 @@ fn strip_part_of_child<'p>(
 // Whether a part is the text of the item with this value, or of the member with the step's name and this value, with
 // blanks and at most one comma on either side.
 fn is_child_text(
-    alloc: Global,
+    reader: &mut PartReader,
     text: &str,
     step: &LocStep,
     value: &Exact<'_>,
@@ -148,19 +147,23 @@ fn is_child_text(
     };
     if !is_blank_with_optional_comma(before.as_bytes())
         || !is_blank_with_optional_comma(behind.as_bytes())
-        || !is_text_before_value(alloc, label, step)?
+        || !is_text_before_value(reader, label, step)?
     {
         return Ok(false);
     }
-    is_text_of(alloc, own, value)
+    reader.is_text_of(own, value)
 }
 
 // Whether a text is what stands before the value that the step leads to: a name and a colon, or nothing before an item.
-fn is_text_before_value(alloc: Global, text: &str, step: &LocStep) -> Result<bool, DocumentRefusal>
+fn is_text_before_value(
+    reader: &mut PartReader,
+    text: &str,
+    step: &LocStep,
+) -> Result<bool, DocumentRefusal>
     ensures { IfOk result (λ right. IsTrue right → IsLabel (owned_step step.now) text.now) }
 {
     match step {
-        LocStep::Name(name) => is_name_with_colon(alloc, text, name.as_str()),
+        LocStep::Name(name) => reader.is_name_with_colon(text, name.as_str()),
         LocStep::Index(_) => Ok(text.is_empty()),
     }
 }

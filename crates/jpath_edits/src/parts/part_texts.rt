@@ -12,38 +12,64 @@ use json::{Scratch, Value as Exact};
 use json_recognizer::first_document_len;
 use std::alloc::Global;
 
-// Whether a text, read again, is this value.
-pub(crate) fn is_text_of(
+/// Reads the parts of a text that an edit replaces. It keeps memory from one part to the next, and from one document to
+/// the next.
+#[derive(Drop)]
+pub struct PartReader {
     alloc: Global,
-    text: &str,
-    value: &Exact<'_>,
-) -> Result<bool, DocumentRefusal>
-    ensures { IfOk result (λ right. IsTrue right → exact_of text.now ≡ Some (value_view value.now)) }
-{
-    let mut scratch = Scratch::new(alloc);
-    match read_exact_tree(alloc, text, &mut scratch) {
-        Ok(found) => Ok(is_same_exact_tree(&found, value)),
-        Err(DocumentRefusal::OutOfMemory) => Err(DocumentRefusal::OutOfMemory),
-        Err(_) => Ok(false),
-    }
+    scratch: Scratch,
 }
 
-// Whether a text is this name in quotes with one colon, and blanks at most beside them.
-pub(crate) fn is_name_with_colon(
-    alloc: Global,
-    text: &str,
-    name: &str,
-) -> Result<bool, DocumentRefusal>
-    ensures { IfOk result (λ right. IsTrue right → IsNameText name.now text.now) }
-{
-    let end = first_document_len(text.as_bytes());
-    match (text.get(..end), text.get(end..)) {
-        (Some(word), Some(colon)) => if is_blank_with_one_colon(colon.as_bytes()) {
-            is_text_of(alloc, word, &Exact::String(name))
-        } else {
-            Ok(false)
-        },
-        _ => Ok(false),
+impl PartReader {
+    /// Makes a reader that has read no part yet.
+    pub fn new(alloc: Global) -> PartReader
+        ensures { result.alloc ≡ alloc }
+    {
+        PartReader {
+            alloc,
+            scratch: Scratch::new(alloc),
+        }
+    }
+
+    /// The allocator that this reader was made with.
+    pub fn alloc(&self) -> Global
+        ensures { result ≡ self.now.alloc }
+    {
+        self.alloc
+    }
+
+    // Whether a text, read again, is this value.
+    pub(crate) fn is_text_of(
+        &mut self,
+        text: &str,
+        value: &Exact<'_>,
+    ) -> Result<bool, DocumentRefusal>
+        ensures { IfOk result (λ right. IsTrue right → exact_of text.now ≡ Some (value_view value.now)) }
+    {
+        match read_exact_tree(self.alloc, text, &mut self.scratch) {
+            Ok(found) => Ok(is_same_exact_tree(&found, value)),
+            Err(DocumentRefusal::OutOfMemory) => Err(DocumentRefusal::OutOfMemory),
+            Err(_) => Ok(false),
+        }
+    }
+
+    // Whether a text is this name in quotes with one colon, and blanks at most beside them.
+    pub(crate) fn is_name_with_colon(
+        &mut self,
+        text: &str,
+        name: &str,
+    ) -> Result<bool, DocumentRefusal>
+        ensures { IfOk result (λ right. IsTrue right → IsNameText name.now text.now) }
+    {
+        let end = first_document_len(text.as_bytes());
+        match (text.get(..end), text.get(end..)) {
+            (Some(word), Some(colon)) => if is_blank_with_one_colon(colon.as_bytes()) {
+                self.is_text_of(word, &Exact::String(name))
+            } else {
+                Ok(false)
+            },
+            _ => Ok(false),
+        }
     }
 }
 
