@@ -54,7 +54,7 @@ pub fn edit_text(
     let alloc = reader.alloc();
     let places = select_locations_in_document_order(alloc, document, query)?;
     let all = places.as_slice();
-    let written = changed_text(reader, text, document.exact(), all, change)?;
+    let written = changed_text(reader, text, document.root(alloc), all, change)?;
     if !are_bytes_of_changed_document(alloc, text, all, change, written.as_slice())? {
         return Err(DocumentRefusal::EditDiffers);
     }

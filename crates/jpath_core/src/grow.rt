@@ -60,7 +60,7 @@ fn text_with_growth(
     requires { CanBeWritten growth.now }
     ensures { IfOk result (λ found. IfSome found (λ edited. IsGrownAt growth.now (value_view document.now.exact) places.now text.now edited.text.items)) }
 {
-    match grown_text(alloc, text, document.exact(), places, growth)? {
+    match grown_text(alloc, text, document.root(alloc), places, growth)? {
         Some(grown) => Ok(Some(Edited {
             text: grown.text,
             targets: grown.count,

@@ -14,7 +14,7 @@ pub use exact_tree::exact_evaluator::{
     ExactOutcome, add_lines_by_exact_tree, may_answer_by_exact_tree,
 };
 pub use grow::{NewMember, add_member_text, append_text, rename_text};
-pub use jpath_edits::{Change, PartReader, exact_value_at_location};
+pub use jpath_edits::{Change, PartReader};
 pub use jpath_texts::{
     Document, DocumentRefusal, Ended, How, Kind, Layout, Line, LineColumn, LineEnd, Look, MARK,
     NumberKey, OrderedValue, Piece, Query, ReadFailure, Separated, Shown, Taken, Visitor,

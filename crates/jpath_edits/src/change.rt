@@ -9,8 +9,7 @@ use crate::parts::find_parts::find_parts;
 use crate::parts::part_texts::PartReader;
 use crate::parts::splice::splice_parts;
 use crate::target_locations::locations_below_root;
-use jpath_texts::DocumentRefusal;
-use json::Value as Exact;
+use jpath_texts::{DocumentRefusal, OrderedValue};
 use jsonpath_nodes::Location;
 
 /// What an edit does with each value that the edit's path selects: it replaces the value or removes it.
@@ -43,16 +42,16 @@ impl<'c> Change<'c> {
 pub fn changed_text(
     reader: &mut PartReader,
     text: &str,
-    exact: &Exact<'_>,
+    root: OrderedValue<'_, '_>,
     places: &[Location],
     change: Change<'_>,
 ) -> Result<Vec<u8>, DocumentRefusal>
-    ensures { IfOk result (λ written. IsChangedAt change.entry (value_view exact.now) places.now text.now written.items) }
+    ensures { IfOk result (λ written. IsChangedAt change.entry (value_view root.entry.value.now) places.now text.now written.items) }
 {
     let alloc = reader.alloc();
     let targets = locations_below_root(places);
     let takes = matches!(change, Change::Take);
-    let parts = find_parts(alloc, text, exact, targets, takes)?;
+    let parts = find_parts(alloc, text, root.value(), targets, takes)?;
     let Some(written) = splice_parts(
         alloc,
         text.as_bytes(),
@@ -62,7 +61,7 @@ pub fn changed_text(
     else {
         return Err(DocumentRefusal::EditDiffers);
     };
-    if !are_parts_at_targets(reader, text, exact, targets, parts, change)? {
+    if !are_parts_at_targets(reader, text, root, targets, parts, change)? {
         return Err(DocumentRefusal::EditDiffers);
     }
     Ok(written)

@@ -13,11 +13,10 @@ mod layout;
 mod seam;
 mod take_back;
 
-use crate::exact_at_location::exact_value_below;
 use crate::target_locations::topmost_locations;
 use find_seams::find_seams;
 use is_grown_text::is_grown_text;
-use jpath_texts::DocumentRefusal;
+use jpath_texts::{DocumentRefusal, OrderedValue};
 use json::Value as Exact;
 use jsonpath_nodes::{LocStep, Location};
 use seam::{are_seams_of, fill_seams};
@@ -64,18 +63,18 @@ pub struct Grown {
 pub fn grown_text(
     alloc: Global,
     text: &str,
-    exact: &Exact<'_>,
+    root: OrderedValue<'_, '_>,
     places: &[Location],
     growth: &Growth<'_, '_>,
 ) -> Result<Option<Grown>, DocumentRefusal>
     requires { CanBeWritten growth.now }
-    ensures { IfOk result (λ found. IfSome found (λ grown. IsGrownAt growth.now (value_view exact.now) places.now text.now grown.text.items)) }
+    ensures { IfOk result (λ found. IfSome found (λ grown. IsGrownAt growth.now (value_view root.entry.value.now) places.now text.now grown.text.items)) }
 {
     let containers = containers(alloc, places, growth)?;
-    if is_name_taken(exact, containers.as_slice(), growth) {
+    if is_name_taken(root, containers.as_slice(), growth) {
         return Ok(None);
     }
-    let seams = find_seams(alloc, text, exact, places, growth)?;
+    let seams = find_seams(alloc, text, root, places, growth)?;
     let Some(bytes) = fill_seams(alloc, text.as_bytes(), seams.as_slice())? else {
         return Err(DocumentRefusal::EditDiffers);
     };
@@ -83,7 +82,7 @@ pub fn grown_text(
         || !is_grown(
             alloc,
             bytes.as_slice(),
-            exact,
+            root.value(),
             containers.as_slice(),
             growth,
         )?
@@ -144,11 +143,11 @@ fn container<'l>(location: &'l Location, growth: &Growth<'_, '_>) -> &'l [LocSte
 }
 
 // Whether a name is to be given to a member of an object that has one of that name already.
-fn is_name_taken(exact: &Exact<'_>, containers: &[&[LocStep]], growth: &Growth<'_, '_>) -> bool {
+fn is_name_taken(root: OrderedValue<'_, '_>, containers: &[&[LocStep]], growth: &Growth<'_, '_>) -> bool {
     match growth {
         Growth::Name(_, new) => containers.iter().any(|container| {
-            match exact_value_below(exact, *container) {
-                Some(object) => object.get(*new).is_some(),
+            match root.value_below(*container) {
+                Some(object) => object.value().get(*new).is_some(),
                 None => false,
             }
         }),

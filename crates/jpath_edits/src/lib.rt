@@ -4,7 +4,6 @@
 
 mod change;
 mod check_edited_text;
-mod exact_at_location;
 mod growth;
 mod numbers_alike;
 mod parts;
@@ -15,7 +14,6 @@ mod target_locations;
 
 pub use change::{Change, changed_text};
 pub use check_edited_text::are_bytes_of_changed_document;
-pub use exact_at_location::exact_value_at_location;
 pub use growth::{Grown, Growth, grown_text};
 pub use parts::part_texts::PartReader;
 pub use target_locations::locations_below_root;

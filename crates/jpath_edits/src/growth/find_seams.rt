@@ -2,7 +2,6 @@
 
 ghost use Rattle.jpath_edits.specs.Grown.{CanBeWritten};
 
-use crate::exact_at_location::exact_value_at_location;
 use crate::growth::Growth;
 use crate::growth::layout::{DocumentStyle, LastChild, add_name_text};
 use crate::growth::seam::Seam;
@@ -10,7 +9,7 @@ use crate::parts::find_parts::find_parts;
 use crate::parts::part::Part;
 use crate::parts::positions::{ChildStart, Positions};
 use crate::target_locations::locations_below_root;
-use jpath_texts::add_compact_value;
+use jpath_texts::{OrderedValue, add_compact_value};
 use json::Value as Exact;
 use jsonpath_nodes::Location;
 use std::alloc::{AllocError, Global};
@@ -19,7 +18,7 @@ use std::alloc::{AllocError, Global};
 pub(crate) fn find_seams(
     alloc: Global,
     text: &str,
-    exact: &Exact<'_>,
+    root: OrderedValue<'_, '_>,
     places: &[Location],
     growth: &Growth<'_, '_>,
 ) -> Result<Vec<Seam>, AllocError>
@@ -30,15 +29,15 @@ pub(crate) fn find_seams(
     };
     let below = locations_below_root(places);
     if let Growth::Name(_, new) = growth {
-        let parts = find_parts(alloc, text, exact, below, true)?;
+        let parts = find_parts(alloc, text, root.value(), below, true)?;
         return seams_at_names(alloc, at, parts.as_slice(), *new);
     }
     if below.len() < places.len() {
-        let root = Part::of_value(at.blanks_end(0), text.len(), 0);
-        return seams_in_containers(alloc, at, exact, &[root], &places[..1], growth);
+        let whole = Part::of_value(at.blanks_end(0), text.len(), 0);
+        return seams_in_containers(alloc, at, root, &[whole], &places[..1], growth);
     }
-    let parts = find_parts(alloc, text, exact, places, false)?;
-    seams_in_containers(alloc, at, exact, parts.as_slice(), places, growth)
+    let parts = find_parts(alloc, text, root.value(), places, false)?;
+    seams_in_containers(alloc, at, root, parts.as_slice(), places, growth)
 }
 
 // A seam at the name of each member among the parts, with the new name.
@@ -67,7 +66,7 @@ fn seams_at_names(
 fn seams_in_containers(
     alloc: Global,
     at: Positions<'_>,
-    exact: &Exact<'_>,
+    root: OrderedValue<'_, '_>,
     parts: &[Part],
     places: &[Location],
     growth: &Growth<'_, '_>,
@@ -80,11 +79,14 @@ fn seams_in_containers(
         let Some(place) = places.get(part.target) else {
             continue;
         };
-        let last = match (exact_value_at_location(exact, place), growth) {
-            (Some(Exact::Object(members)), Growth::Member(_, _)) => {
+        let Some(container) = root.value_at(place) else {
+            continue;
+        };
+        let last = match (container.value(), growth) {
+            (Exact::Object(members), Growth::Member(_, _)) => {
                 last_child(at, part.value, members.len(), true)
             }
-            (Some(Exact::Array(items)), Growth::Item(_)) => last_child(
+            (Exact::Array(items), Growth::Item(_)) => last_child(
                 at,
                 part.value,
                 items.len(),

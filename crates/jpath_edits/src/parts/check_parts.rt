@@ -5,35 +5,33 @@ ghost use Rattle.json.specs.Value.{value_view};
 ghost use Rattle.jpath_edits.specs.Changed.{part_text, IsTextAt, AreTextsAt, GiveWay};
 
 use crate::change::Change;
-use crate::exact_at_location::exact_value_at_location;
 use crate::parts::check_taken_parts::are_members_or_items_at;
 use crate::parts::part::Part;
 use crate::parts::part_texts::{PartReader, has_no_outer_blanks};
 use crate::target_locations::topmost_locations;
-use jpath_texts::DocumentRefusal;
-use json::Value as Exact;
+use jpath_texts::{DocumentRefusal, OrderedValue};
 use jsonpath_nodes::Location;
 
 // Whether the parts of a text are what is to give way at the topmost of the targets.
 pub(crate) fn are_parts_at_targets(
     reader: &mut PartReader,
     text: &str,
-    exact: &Exact<'_>,
+    root: OrderedValue<'_, '_>,
     targets: &[Location],
     parts: Vec<Part>,
     change: Change<'_>,
 ) -> Result<bool, DocumentRefusal>
-    ensures { IfOk result (λ right. IsTrue right → GiveWay change.entry (value_view exact.now) targets.now (map (part_text text.now) parts.items)) }
+    ensures { IfOk result (λ right. IsTrue right → GiveWay change.entry (value_view root.entry.value.now) targets.now (map (part_text text.now) parts.items)) }
 {
     let tops = topmost_locations(reader.alloc(), targets)?;
     let mut ordered = parts;
     ordered.sort_by_key(|part| part.target)?;
     match change {
-        Change::Put(_) => are_texts_at(reader, text, exact, tops.as_slice(), ordered.as_slice()),
+        Change::Put(_) => are_texts_at(reader, text, root, tops.as_slice(), ordered.as_slice()),
         Change::Take => are_members_or_items_at(
             reader,
             text,
-            exact,
+            root,
             tops.as_slice(),
             ordered.as_slice(),
         ),
@@ -44,17 +42,17 @@ pub(crate) fn are_parts_at_targets(
 fn are_texts_at(
     reader: &mut PartReader,
     text: &str,
-    exact: &Exact<'_>,
+    root: OrderedValue<'_, '_>,
     locations: &[&Location],
     parts: &[Part],
 ) -> Result<bool, DocumentRefusal>
-    ensures { IfOk result (λ right. IsTrue right → AreTextsAt (value_view exact.now) (map (λ l. l.now) locations.now) (map (part_text text.now) parts.now)) }
+    ensures { IfOk result (λ right. IsTrue right → AreTextsAt (value_view root.entry.value.now) (map (λ l. l.now) locations.now) (map (part_text text.now) parts.now)) }
 {
     for (index, location) in locations.iter().enumerate() {
         let Some(part) = parts.get(index) else {
             return Ok(false);
         };
-        if !is_text_at(reader, text, exact, location, part)? {
+        if !is_text_at(reader, text, root, location, part)? {
             return Ok(false);
         }
     }
@@ -65,18 +63,18 @@ fn are_texts_at(
 fn is_text_at(
     reader: &mut PartReader,
     text: &str,
-    exact: &Exact<'_>,
+    root: OrderedValue<'_, '_>,
     location: &Location,
     part: &Part,
 ) -> Result<bool, DocumentRefusal>
-    ensures { IfOk result (λ right. IsTrue right → IsTextAt (value_view exact.now) location.now (part_text text.now part.now)) }
+    ensures { IfOk result (λ right. IsTrue right → IsTextAt (value_view root.entry.value.now) location.now (part_text text.now part.now)) }
 {
     match (
         text.get(part.start..part.end),
-        exact_value_at_location(exact, location),
+        root.value_at(location),
     ) {
         (Some(part), Some(value)) => if has_no_outer_blanks(part.as_bytes()) {
-            reader.is_text_of(part, value)
+            reader.is_text_of(part, value.value())
         } else {
             Ok(false)
         },

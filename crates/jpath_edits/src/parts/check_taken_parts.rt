@@ -5,10 +5,9 @@ ghost use Rattle.json.specs.Value.{value_view, members_view};
 ghost use Rattle.jsonpath_nodes.specs.place.Owned.{owned_step};
 ghost use Rattle.jpath_edits.specs.Changed.{part_text, values_named, values_by, IsLabel, IsChildText, AreChildrenBefore, IsTakenBefore, AreTakenAt};
 
-use crate::exact_at_location::exact_value_below;
 use crate::parts::part::Part;
 use crate::parts::part_texts::{PartReader, is_blank_with_optional_comma};
-use jpath_texts::DocumentRefusal;
+use jpath_texts::{DocumentRefusal, OrderedValue};
 use json::Value as Exact;
 use jsonpath_nodes::{LocStep, Location};
 
@@ -16,15 +15,15 @@ use jsonpath_nodes::{LocStep, Location};
 pub(crate) fn are_members_or_items_at(
     reader: &mut PartReader,
     text: &str,
-    exact: &Exact<'_>,
+    root: OrderedValue<'_, '_>,
     locations: &[&Location],
     parts: &[Part],
 ) -> Result<bool, DocumentRefusal>
-    ensures { IfOk result (λ right. IsTrue right → AreTakenAt (value_view exact.now) (map (λ l. l.now) locations.now) (map (part_text text.now) parts.now)) }
+    ensures { IfOk result (λ right. IsTrue right → AreTakenAt (value_view root.entry.value.now) (map (λ l. l.now) locations.now) (map (part_text text.now) parts.now)) }
 {
     let mut left = parts;
     for location in locations {
-        match strip_parts_of_location(reader, text, exact, location, left)? {
+        match strip_parts_of_location(reader, text, root, location, left)? {
             Some(behind) => left = behind,
             None => return Ok(false),
         }
@@ -37,15 +36,15 @@ pub(crate) fn are_members_or_items_at(
 fn strip_parts_of_location<'p>(
     reader: &mut PartReader,
     text: &str,
-    exact: &Exact<'_>,
+    root: OrderedValue<'_, '_>,
     location: &Location,
     parts: &'p [Part],
 ) -> Result<Option<&'p [Part]>, DocumentRefusal>
-    ensures { IfOk result (λ found. IfSome found (λ behind. IsTakenBefore (value_view exact.now) location.now (map (part_text text.now) parts.entry.now) (map (part_text text.now) behind.now))) }
+    ensures { IfOk result (λ found. IfSome found (λ behind. IsTakenBefore (value_view root.entry.value.now) location.now (map (part_text text.now) parts.entry.now) (map (part_text text.now) behind.now))) }
 {
     match location.steps().split_last() {
-        Some((step, above)) => match exact_value_below(exact, above) {
-            Some(parent) => strip_parts_of_children(reader, text, parent, step, parts),
+        Some((step, above)) => match root.value_below(above) {
+            Some(parent) => strip_parts_of_children(reader, text, parent.value(), step, parts),
             None => Ok(None),
         },
         None => Ok(None),

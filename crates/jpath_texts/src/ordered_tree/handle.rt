@@ -77,8 +77,9 @@ impl<'t, 'a> OrderedValue<'t, 'a> {
         self.value_below(location.steps())
     }
 
-    // The value that the steps lead to, if there is one.
-    fn value_below(self, steps: &[LocStep]) -> Option<OrderedValue<'t, 'a>>
+    /// The value to which the steps of a location lead from this value; `None` if nothing is there. If an object has a
+    /// name several times, its last value counts.
+    pub fn value_below(self, steps: &[LocStep]) -> Option<OrderedValue<'t, 'a>>
         ensures { option_map (λ v. value_view v.value.now) result ≡ exact_at (value_view self.entry.value.now) (owned_steps steps.now) }
     {
         match steps.split_first() {

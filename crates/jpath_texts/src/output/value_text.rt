@@ -24,6 +24,24 @@ pub fn add_compact_value(
     ensures ok { OnOk result (out.new.items ≡ out.old.items ++ compact (value_view value.now)) }
     ensures err { OnErr result (out.new.items ≡ out.old.items) }
 {
+    if out.is_empty() {
+        return write_compact_value(alloc, out, value);
+    }
+    let mut apart = Vec::new(alloc);
+    write_compact_value(alloc, &mut apart, value)?;
+    out.extend_from_slice(apart.as_slice())
+}
+
+// The same by the writer of JSON, which clears up to 16 KB behind what is there already.
+fn write_compact_value(
+    alloc: Global,
+    out: &mut Vec<u8>,
+    value: &Exact<'_>,
+) -> Result<(), AllocError>
+    requires { HasNumbers (value_view value.now) }
+    ensures ok { OnOk result (out.new.items ≡ out.old.items ++ compact (value_view value.now)) }
+    ensures err { OnErr result (out.new.items ≡ out.old.items) }
+{
     let mut writer = Writer::new(mem::replace(out, Vec::new(alloc)));
     let written = writer.value(value);
     *out = writer.into_inner();

@@ -10,7 +10,7 @@ use Rattle.jpath_edits.proofs.parts.check_parts.are_parts_at_targets.Goals as go
 pub returns-in-Put : goal.returns-in-Put
 returns-in-Put c =
     let now : Bor Location → Location = λ t. t.now in
-    let tree = value_view c.args.exact.now in
+    let tree = value_view c.args.root.value.now in
     let text = c.args.text.now in
     let tops : map now c.as_slice.result.now ≡ topmost c.args.targets.now = ap (map now) c.as_slice.ensures.value ∙ c.in_ok-tops.ensures in
     given c.are_texts_at.result c.args.change tree c.args.targets.now (map now c.as_slice.result.now) text c.args.parts.items c.as_slice-in-Put.result.now tops
@@ -21,7 +21,7 @@ returns-in-Put c =
 pub returns : goal.returns
 returns c =
     let now : Bor Location → Location = λ t. t.now in
-    let tree = value_view c.args.exact.now in
+    let tree = value_view c.args.root.value.now in
     let text = c.args.text.now in
     let tops : map now c.as_slice-in-Take.result.now ≡ topmost c.args.targets.now = ap (map now) c.as_slice-in-Take.ensures.value ∙ c.in_ok-tops.ensures in
     given c.are_members_or_items_at.result c.args.change tree c.args.targets.now (map now c.as_slice-in-Take.result.now) text c.args.parts.items c.as_slice-in-Take-2.result.now tops

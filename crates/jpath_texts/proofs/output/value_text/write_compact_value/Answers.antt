@@ -1,7 +1,7 @@
 use Rattle.std.proofs.Common.{◌≡◌, ◌++◌, ap, ◌∙◌}
 use Rattle.json.specs.Print.{print}
 use Rattle.jpath_texts.proofs.LineLemmas.{on_err, none_written}
-use Rattle.jpath_texts.proofs.output.value_text.add_compact_value.Goals as goal
+use Rattle.jpath_texts.proofs.output.value_text.write_compact_value.Goals as goal
 
 pub returns-clause-err : goal.returns-clause-err
 returns-clause-err c =
