@@ -14,7 +14,7 @@ pub(crate) fn printable_value_at_location<'v, 'a>(
     location: &Location,
 ) -> Option<OrderedValue<'v, 'a>>
     requires { HasNumbers (value_view root.value.now) }
-    ensures value { option_map (λ v. value_view v.value.now) result ≡ exact_at (value_view root.value.now) location.now }
+    ensures value { option_map (λ v. value_view v.value.now) result ≡ exact_at (value_view root.entry.value.now) location.now }
     ensures writable { IfSome result (λ v. HasNumbers (value_view v.value.now)) }
 {
     match root.value_at(location) {

@@ -143,7 +143,11 @@ fn container<'l>(location: &'l Location, growth: &Growth<'_, '_>) -> &'l [LocSte
 }
 
 // Whether a name is to be given to a member of an object that has one of that name already.
-fn is_name_taken(root: OrderedValue<'_, '_>, containers: &[&[LocStep]], growth: &Growth<'_, '_>) -> bool {
+fn is_name_taken(
+    root: OrderedValue<'_, '_>,
+    containers: &[&[LocStep]],
+    growth: &Growth<'_, '_>,
+) -> bool {
     match growth {
         Growth::Name(_, new) => containers.iter().any(|container| {
             match root.value_below(*container) {

@@ -129,7 +129,7 @@ fn add_values_at_nodes<'v, 'a>(
 ) -> Result<(), DocumentRefusal>
     requires { HasNumbers (value_view root.value.now) }
     ensures added { OnOk result (map (λ v. value_view v.value.now) values.new.items
-        ≡ map (λ v. value_view v.value.now) values.old.items ++ filter_map (exact_at (value_view root.value.now)) (map location_of nodes.now)) }
+        ≡ map (λ v. value_view v.value.now) values.old.items ++ filter_map (exact_at (value_view root.entry.value.now)) (map location_of nodes.now)) }
     ensures writable { All (λ v. HasNumbers (value_view v.value.now)) values.old.items → All (λ v. HasNumbers (value_view v.value.now)) values.new.items }
 {
     for node in nodes {
@@ -198,7 +198,7 @@ fn add_lines_of_nodes(
     out: &mut Vec<u8>,
 ) -> Result<(), DocumentRefusal>
     requires { HasNumbers (value_view root.value.now) }
-    ensures { OnOk result (out.new.items ≡ out.old.items ++ lines_text line.now (value_view root.value.now) (map location_of nodes.now)) }
+    ensures { OnOk result (out.new.items ≡ out.old.items ++ lines_text line.now (value_view root.entry.value.now) (map location_of nodes.now)) }
 {
     for node in nodes {
         let location = node.location(alloc)?;

@@ -49,7 +49,7 @@ fn add_row_of_node(
     out: &mut Vec<u8>,
 ) -> Result<(), DocumentRefusal>
     requires { HasNumbers (value_view root.value.now) }
-    ensures { OnOk result (AddsRow (value_view root.value.now) columns.now separated (location_of node.now) out.old.items out.new.items) }
+    ensures { OnOk result (AddsRow (value_view root.entry.value.now) columns.now separated (location_of node.now) out.old.items out.new.items) }
 {
     let location = node.location(alloc)?;
     let Some(value) = printable_value_at_location(root, &location) else {
@@ -67,7 +67,7 @@ fn row_fields(
     columns: &[Query<'_>],
 ) -> Result<Vec<Vec<u8>>, DocumentRefusal>
     requires { HasNumbers (value_view value.value.now) }
-    ensures { IfOk result (λ fields. AreFields (value_view value.value.now) columns.now (map (λ f. f.items) fields.items)) }
+    ensures { IfOk result (λ fields. AreFields (value_view value.entry.value.now) columns.now (map (λ f. f.items) fields.items)) }
 {
     let mut fields = Vec::new(alloc);
     for column in columns {
@@ -84,7 +84,7 @@ fn field_of_column(
     column: &Query<'_>,
 ) -> Result<Vec<u8>, DocumentRefusal>
     requires { HasNumbers (value_view value.value.now) }
-    ensures { IfOk result (λ field. IsField (value_view value.value.now) column.now field.items) }
+    ensures { IfOk result (λ field. IsField (value_view value.entry.value.now) column.now field.items) }
 {
     let nodes = select_nodes_in_tree(alloc, value, column.path())?;
     Ok(field_of_first(alloc, value, nodes.as_slice())?)
@@ -97,7 +97,7 @@ fn field_of_first(
     nodes: &[TreeNode<OrderedValue<'_, '_>>],
 ) -> Result<Vec<u8>, DocumentRefusal>
     requires { HasNumbers (value_view root.value.now) }
-    ensures { IfOk result (λ field. field.items ≡ first_field (value_view root.value.now) (map location_of nodes.now)) }
+    ensures { IfOk result (λ field. field.items ≡ first_field (value_view root.entry.value.now) (map location_of nodes.now)) }
 {
     let mut field = Vec::new(alloc);
     let Some(node) = nodes.first() else {

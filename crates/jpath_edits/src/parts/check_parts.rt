@@ -69,10 +69,7 @@ fn is_text_at(
 ) -> Result<bool, DocumentRefusal>
     ensures { IfOk result (λ right. IsTrue right → IsTextAt (value_view root.entry.value.now) location.now (part_text text.now part.now)) }
 {
-    match (
-        text.get(part.start..part.end),
-        root.value_at(location),
-    ) {
+    match (text.get(part.start..part.end), root.value_at(location)) {
         (Some(part), Some(value)) => if has_no_outer_blanks(part.as_bytes()) {
             reader.is_text_of(part, value.value())
         } else {

@@ -10,7 +10,7 @@ returns-clause-targets c =
     let written = c.in_ok-written.written.items in
     let change = c.args.change in
     let exact = value_view c.args.document.now.exact in
-    let root = ap (λ v. value_view v) c.exact.ensures in
+    let root = ap (λ v. value_view v) c.root.ensures in
     record {
       locations = places;
       targets = c.in_ok-places.ensures.targets;

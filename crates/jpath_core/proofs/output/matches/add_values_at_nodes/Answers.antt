@@ -1,4 +1,4 @@
-use Rattle.std.proofs.Common.{◌≡◌, ◌+◌, [], ◌∷◌, ◌++◌, None, map, take, sym, arith, ap, ◌∙◌}
+use Rattle.std.proofs.Common.{◌≡◌, ◌+◌, [], ◌∷◌, ◌++◌, None, map, take, sym, arith, ap, subst, ◌∙◌}
 use Rattle.std.specs.Prelude.{filter_map}
 use Rattle.std.proofs.lemmas.Grind.{common_steps}
 use Rattle.std.proofs.lemmas.List.{map-append, take_more}
@@ -16,7 +16,7 @@ loop-node-preserved c = elim c.match-printable_value_at_location.branch [
   | in-Some+in_ok-push w ↦ record {
     added = grind (arith, common_steps, filter_map-append);
     writable = λ old. All-same (λ v. HasNumbers (value_view v.value.now)) _ _ (ap (λ v. v.items) w.values-is ∙ w.in_ok-push.ensures.items)
-        (All-push (λ v. HasNumbers (value_view v.value.now)) _ _ (c.loop-node.invariant.writable old) w.in-Some.ensures.writable);
+        (All-push (λ v. HasNumbers (value_view v.value.now)) _ _ (c.loop-node.invariant.writable old) (subst (λ v. HasNumbers (value_view v)) (sym w.value.ensures) w.in-Some.ensures.writable));
   }
   | in_default w ↦
       let exact = value_view c.args.root.value.now in
