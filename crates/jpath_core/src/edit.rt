@@ -33,10 +33,11 @@ pub struct Edited {
 }
 
 /// The text of a document after `change` is made at each value that one path selects in the original document. The root
-/// is not changed, nor is a value inside another changed value. `text` is the text from which the document was read. To
-/// replace a value, its own text is replaced. To remove it, the whole member or item is removed: the blanks before it,
-/// its name and colon, and the comma after it (or before it, if nothing is left after it). If an object has the name of
-/// a removed member several times, each of these members is removed. Every other byte of the text stays.
+/// is not changed, nor is a value inside another changed value. `text` is the text from which the document was read;
+/// `reader` reads the replaced parts, with memory that it keeps from edit to edit. To replace a value, its own text is
+/// replaced. To remove it, the whole member or item is removed: the blanks before it, its name and colon, and the comma
+/// after it (or before it, if nothing is left after it). If an object has the name of a removed member several times,
+/// each of these members is removed. Every other byte of the text stays.
 ///
 /// The edited text is read again before it is returned. Errors: `EditNests` if it nests too deep to be read, or if the
 /// new value is no JSON; `EditDiffers` if what is read is another document, which would be a fault of this library; or

@@ -25,9 +25,9 @@ pub struct NewMember<'m> {
 
 /// Returns the text of a document in which one member is set. `query` is the path to this member; `member` gives the
 /// location of its object (`above`), its name, and the JSON text of its new value. If the path selects a value, this
-/// value is replaced, as `edit_text` does. If it selects nothing, the member is added at the end of the object at
-/// `member.above`; if there is no object at that location, the text is returned unchanged. Every other byte of the text
-/// stays.
+/// value is replaced, as `edit_text` does with `reader`. If it selects nothing, the member is added at the end of the
+/// object at `member.above`; if there is no object at that location, the text is returned unchanged. Every other byte
+/// of the text stays.
 ///
 /// The edited text is read again before it is returned. Errors: `EditNests` if the edited text nests too deep to be
 /// read, or if a value is to be replaced and the new value is no JSON; `EditDiffers` if what is read is not the edited

@@ -35,10 +35,11 @@ impl<'c> Change<'c> {
 }
 
 /// The text of a document with `change` made, all at once, at each location of `places` except the root and locations
-/// below another changed one. `exact` is the document's exact tree, which keeps numbers as written. `places` has each
-/// location once, in document order: parents first, names by bytes, indexes by number. Errors: `EditDiffers` if a part
-/// of the text that is to be replaced, read by itself, is not the value that `exact` has at that location, which would
-/// be a fault of this library; or `OutOfMemory`.
+/// below another changed one. `root` is the document's root, whose value keeps numbers as written. `places` has each
+/// location once, in document order: parents first, names by bytes, indexes by number. `reader` reads the replaced parts,
+/// with memory that it keeps from edit to edit. Errors: `EditDiffers` if a part of the text that is to be replaced, read
+/// by itself, is not the value that the document has at that location, which would be a fault of this library; or
+/// `OutOfMemory`.
 pub fn changed_text(
     reader: &mut PartReader,
     text: &str,

@@ -48,7 +48,7 @@ pub struct Grown {
 }
 
 /// The text of a document with members or items added or members renamed, as `growth` says, at each location of
-/// `places` that is not below another one of them. `exact` is the document's exact tree, which keeps numbers as
+/// `places` that is not below another one of them. `root` is the document's root, whose value keeps numbers as
 /// written. `places` has each location once, in document order: parents first, names by bytes, indexes by number. To
 /// add a member or an item, the locations are those of the objects or arrays to which it is added; a value of another
 /// type stays as it is. To rename, they are the locations of the members.
