@@ -1,9 +1,9 @@
 //! Trees of texts in the order of their names, and how their numbers compare.
 
 use crate::asserts::check;
-use jpath_texts::{DocumentRefusal, OrderedValue, put_in_order};
+use jpath_texts::{Document, DocumentRefusal, OrderedValue};
 use json::{Scratch, Value as Exact};
-use jsonpath_nodes::{Atom, Tree, holds_by_fractions};
+use jsonpath_nodes::{Atom, LocStep, Location, Tree, holds_by_fractions};
 use jsonpath_paths::FilterToken;
 use std::alloc::Global;
 use std::process::Abort;
@@ -14,14 +14,45 @@ fn text_of(rt: &(impl Abort + AllocGlobal), tree: &Exact<'_>) -> String {
     String::from_utf8(bytes).expect(rt, "UTF-8")
 }
 
-// Asserts what a text's tree is in the order of its names, and whether it stands so already.
+// Adds the text of a value, its members as they are taken.
+fn add_text(rt: &(impl Abort + AllocGlobal), value: OrderedValue<'_, '_>, out: &mut String) {
+    if let Some(object) = value.as_object() {
+        out.push('{').expect(rt, "memory");
+        let mut left = OrderedValue::each_member(object);
+        while let Some((name, member)) = OrderedValue::next_member(&mut left) {
+            if !out.as_str().ends_with('{') {
+                out.push(',').expect(rt, "memory");
+            }
+            out.push_str(text_of(rt, &Exact::String(name)).as_str())
+                .expect(rt, "memory");
+            out.push(':').expect(rt, "memory");
+            add_text(rt, member, out);
+        }
+        out.push('}').expect(rt, "memory");
+    } else if let Some(array) = value.as_array() {
+        out.push('[').expect(rt, "memory");
+        let mut left = OrderedValue::each_item(array);
+        while let Some(item) = OrderedValue::next_item(&mut left) {
+            if !out.as_str().ends_with('[') {
+                out.push(',').expect(rt, "memory");
+            }
+            add_text(rt, item, out);
+        }
+        out.push(']').expect(rt, "memory");
+    } else {
+        out.push_str(text_of(rt, value.value()).as_str())
+            .expect(rt, "memory");
+    }
+}
+
+// Asserts what a text's tree is where its members are taken as on the way of a path, and that it stands as before.
 fn becomes(rt: &(impl Abort + AllocGlobal), text: &str, want: &str) {
     let mut scratch = Scratch::new(rt.alloc());
-    let tree = Exact::parse(rt.alloc(), text, &mut scratch).expect(rt, "a tree");
-    check!(*rt; OrderedValue::of(rt.alloc(), &tree).is_some() == (text == want), text);
-    let made = put_in_order(rt.alloc(), tree).expect(rt, "a tree in order");
-    check!(*rt; OrderedValue::of(rt.alloc(), &made).is_some(), text);
-    check!(*rt; text_of(rt, &made).as_str() == want, text);
+    let document = Document::read(rt.alloc(), text, &mut scratch).expect(rt, "a document");
+    let mut found = String::new(rt.alloc());
+    add_text(rt, document.root(rt.alloc()), &mut found);
+    check!(*rt; found.as_str() == want, text);
+    check!(*rt; text_of(rt, document.exact()).as_str() == text, text);
 }
 
 #[test]
@@ -57,10 +88,10 @@ fn compares(
 ) -> Result<bool, DocumentRefusal> {
     let mut left_scratch = Scratch::new(rt.alloc());
     let mut right_scratch = Scratch::new(rt.alloc());
-    let left = Exact::parse(rt.alloc(), left, &mut left_scratch).expect(rt, "a tree");
-    let right = Exact::parse(rt.alloc(), right, &mut right_scratch).expect(rt, "a tree");
-    let left = OrderedValue::of(rt.alloc(), &left).expect(rt, "a tree in order");
-    let right = OrderedValue::of(rt.alloc(), &right).expect(rt, "a tree in order");
+    let left = Document::read(rt.alloc(), left, &mut left_scratch)?;
+    let right = Document::read(rt.alloc(), right, &mut right_scratch)?;
+    let left = left.root(rt.alloc());
+    let right = right.root(rt.alloc());
     let a = Tree::atom(&left)?;
     let b = Tree::atom(&right)?;
     Ok(holds_by_fractions(op, &a, &b))
@@ -110,24 +141,71 @@ fn is_number<'a>(value: Option<(&'a str, OrderedValue<'_, 'a>)>) -> Option<bool>
     }
 }
 
-#[test]
-fn members_are_found_by_their_names(rt: HostRuntime) {
+// Asserts what is found by name and member by member in an object with the members "a", "ab", "b", "d" and "é".
+fn finds(rt: &(impl Abort + AllocGlobal), text: &str) {
     let mut scratch = Scratch::new(rt.alloc());
-    let text = "{\"a\":1,\"ab\":2,\"b\":\"c\",\"d\":4,\"é\":5}";
-    let tree = Exact::parse(rt.alloc(), text, &mut scratch).expect(&rt, "a tree");
-    let value = OrderedValue::of(rt.alloc(), &tree).expect(&rt, "a tree in order");
-    let object = value.as_object().expect(&rt, "an object");
+    let document = Document::read(rt.alloc(), text, &mut scratch).expect(rt, "a document");
+    let object = document
+        .root(rt.alloc())
+        .as_object()
+        .expect(rt, "an object");
     for name in ["a", "ab", "d", "é"] {
-        check!(rt; is_number(OrderedValue::member_named(object, name)) == Some(true), name);
+        check!(*rt; is_number(OrderedValue::member_named(object, name)) == Some(true), name);
     }
-    check!(rt; is_number(OrderedValue::member_named(object, "b")) == Some(false));
+    check!(*rt; is_number(OrderedValue::member_named(object, "b")) == Some(false));
     for name in ["", "aa", "abc", "c", "e", "ê"] {
-        check!(rt; is_number(OrderedValue::member_named(object, name)) == None, name);
+        check!(*rt; is_number(OrderedValue::member_named(object, name)) == None, name);
     }
     let mut left = OrderedValue::each_member(object);
     for name in ["a", "ab", "b", "d", "é"] {
-        let (next, _value) = OrderedValue::next_member(&mut left).expect(&rt, "a member");
-        check!(rt; next == name, name);
+        let (next, _value) = OrderedValue::next_member(&mut left).expect(rt, "a member");
+        check!(*rt; next == name, name);
     }
-    check!(rt; OrderedValue::next_member(&mut left).is_none());
+    check!(*rt; OrderedValue::next_member(&mut left).is_none());
+}
+
+#[test]
+fn members_are_found_by_their_names(rt: HostRuntime) {
+    finds(&rt, "{\"a\":1,\"ab\":2,\"b\":\"c\",\"d\":4,\"é\":5}");
+    finds(&rt, "{\"é\":5,\"b\":\"c\",\"ab\":2,\"d\":4,\"a\":1}");
+    finds(
+        &rt,
+        "{\"b\":7,\"é\":{},\"a\":1,\"b\":\"c\",\"ab\":[],\"d\":4,\"ab\":2,\"é\":5}",
+    );
+}
+
+#[test]
+fn values_are_found_by_locations(rt: HostRuntime) {
+    let alloc = rt.alloc();
+    let mut scratch = Scratch::new(alloc);
+    let text = "[{\"b\":[1,{\"d\":2.50,\"c\":3}],\"a\":4,\"b\":[5,{\"d\":6,\"c\":7e0}]},8]";
+    let document = Document::read(alloc, text, &mut scratch).expect(&rt, "a document");
+    let root = document.root(alloc);
+    let whole = root
+        .value_at(&Location::from_steps(Vec::new(alloc)))
+        .expect(&rt, "the root");
+    check!(rt; text_of(&rt, whole.value()).as_str() == text);
+    let rows = [
+        ("b", 1, "c", Some("7e0")),
+        ("b", 1, "d", Some("6")),
+        ("b", 0, "c", None),
+        ("b", 2, "c", None),
+        ("c", 1, "c", None),
+        ("a", 0, "c", None),
+    ];
+    for (first, index, last, want) in rows {
+        let mut steps = Vec::new(alloc);
+        steps.push(LocStep::Index(0)).expect(&rt, "memory");
+        let first = String::from_str(alloc, first).expect(&rt, "memory");
+        let last = String::from_str(alloc, last).expect(&rt, "memory");
+        steps.push(LocStep::Name(first)).expect(&rt, "memory");
+        steps.push(LocStep::Index(index)).expect(&rt, "memory");
+        steps.push(LocStep::Name(last)).expect(&rt, "memory");
+        match (root.value_at(&Location::from_steps(steps)), want) {
+            (Some(found), Some(want)) => {
+                check!(rt; text_of(&rt, found.value()).as_str() == want, want);
+            }
+            (found, want) => check!(rt; found.is_none() && want.is_none()),
+        }
+    }
 }

@@ -1,8 +1,8 @@
 //! What paths select in the tree of a text with its numbers as written, where they compare exactly.
 
 use crate::asserts::check;
-use jpath_texts::{DocumentRefusal, OrderedValue, put_in_order};
-use json::{Scratch, Value as Exact};
+use jpath_texts::{Document, DocumentRefusal};
+use json::Scratch;
 use jsonpath_select::{compile_path, select_in_tree, select_nodes_in_tree};
 use std::process::Abort;
 
@@ -14,9 +14,8 @@ fn selected(
 ) -> Result<String, DocumentRefusal> {
     let alloc = rt.alloc();
     let mut scratch = Scratch::new(alloc);
-    let tree = Exact::parse(alloc, text, &mut scratch).expect(rt, "a tree");
-    let tree = put_in_order(alloc, tree).expect(rt, "a tree in order");
-    let root = OrderedValue::of(alloc, &tree).expect(rt, "an ordered tree");
+    let document = Document::read(alloc, text, &mut scratch)?;
+    let root = document.root(alloc);
     let path = compile_path(alloc, path).expect(rt, "a path");
     let found = select_in_tree(alloc, root, &path)?;
     let mut out = String::new(alloc);
@@ -37,7 +36,7 @@ fn values_as_they_are_written(rt: HostRuntime) {
         (
             "{\"b\":1.50,\"a\":{\"b\":2e0}}",
             "$",
-            "{\"a\":{\"b\":2e0},\"b\":1.50}",
+            "{\"b\":1.50,\"a\":{\"b\":2e0}}",
         ),
         ("{\"b\":1.50,\"a\":{\"b\":2e0}}", "$.b", "1.50"),
         ("{\"b\":1.50,\"a\":{\"b\":2e0}}", "$..b", "1.50 2e0"),
@@ -114,8 +113,8 @@ fn nodes_of_a_tree(rt: HostRuntime) {
     let alloc = rt.alloc();
     let mut scratch = Scratch::new(alloc);
     let text = "{\"a\":[1.50,{\"b\":2e0}],\"b\":[]}";
-    let tree = Exact::parse(alloc, text, &mut scratch).expect(&rt, "a tree");
-    let root = OrderedValue::of(alloc, &tree).expect(&rt, "an ordered tree");
+    let document = Document::read(alloc, text, &mut scratch).expect(&rt, "a document");
+    let root = document.root(alloc);
     let rows = [
         ("$", "$"),
         ("$..b", "$['b'] $['a'][1]['b']"),
