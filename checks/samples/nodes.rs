@@ -218,6 +218,10 @@ fn samples_of_spots(rt: HostRuntime) -> Result<(), Fail> {
         let root = TreeNode::at_root(&document);
         assert!(rt; root.value().is_object());
     }
+    {
+        let handle = &document;
+        assert!(rt; TreeNode::at_root(handle).value().is_object());
+    }
     Ok(())
 }
 
