@@ -29,7 +29,8 @@ struct Progress<'r, 'w, W> {
 
 /// Writes the output that the command line asks for, of one file after another, and flushes it. Returns the exit status
 /// of the program, the first of these that applies: 4 if memory ran out; 0 if the reader of the output closed the pipe;
-/// 4 if a write or a file failed; 3 if a document had an error; 0 if there was a match; else 1.
+/// 4 if a write failed, or a file could not be opened, read or edited; 3 if a document had an error; 0 if there was a
+/// match; else 1.
 pub fn run_over_files<'r>(rt: &'r HostRuntime, wanted: &'r Wanted<'_>) -> u8 {
     let is_pipe_closed = Cell::new(false);
     let writer = Checked::new(FaultTellingWriter {

@@ -48,14 +48,15 @@ pub struct Grown {
 }
 
 /// The text of a document with members or items added or members renamed, as `growth` says, at each location of
-/// `places` that is not below another one of them. `root` is the document's root, whose value keeps numbers as
-/// written. `places` has each location once, in document order: parents first, names by bytes, indexes by number. To
-/// add a member or an item, the locations are those of the objects or arrays to which it is added; a value of another
-/// type stays as it is. To rename, they are the locations of the members.
+/// `places` that is not below another one of them. `root` is the document's root, whose value keeps numbers as written.
+/// `places` has each location once, in document order: parents first, names by bytes, indexes by number. To add a
+/// member or an item, the locations are those of the objects or arrays to which it is added; a value of another type
+/// stays as it is. To rename, they are the locations of the members.
 ///
-/// A new member or item has the same blanks before it as the one before it. If that is the only one and has no blanks,
-/// the new one has one blank if the document has a blank after its first colon, else none. If the new one is the first,
-/// it is laid out like the document: on an indented line of its own if the document has several lines.
+/// A new member or item gets the same blanks before it as the last member or item that its object or array had. If that
+/// object or array had only one, with no blanks before it, the new one gets one blank if the document has a blank after
+/// its first colon, else none. In an empty object or array, the new one is laid out like the document: on an indented
+/// line of its own if the document has several lines.
 ///
 /// Returns `None` if one of the members to be renamed is in an object that has a member of the new name already.
 /// Errors: `EditNests` if the edited text nests too deep to be read; `EditDiffers` if, read again, it is not the

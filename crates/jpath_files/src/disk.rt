@@ -11,7 +11,7 @@ use std::io;
 /// on the folder.
 #[derive(Clone, Copy, Drop)]
 pub enum Call<'a> {
-    /// A system call of an edit in place: writes these bytes into the edited file, at this byte position.
+    /// A system call of an edit in place: writes these bytes into the edited file, at this byte position (from 0).
     WriteAt(&'a [u8], u64),
     /// A system call of an edit in place: it sets the length of the edited file to this number of bytes. A longer file
     /// is truncated; a shorter one is extended with zero bytes.
@@ -55,8 +55,9 @@ pub enum Place {
     NewFile,
 }
 
-/// The system calls of an edit in place: on the edited file, and on the new file beside it. The contracts (proved
-/// specifications) say what each call does to both files.
+/// A trait for the system calls of an edit in place: on the edited file, on the new file beside it (in the same
+/// folder), and on the folder. The contracts (proved specifications) of its methods say what each call does to both
+/// files.
 pub trait Disk {
     ghost state: { Self → DiskState };
 

@@ -42,7 +42,7 @@ impl<W: Output> HeldOutput<W> {
         self.bytes.extend_from_slice(text.as_slice())
     }
 
-    /// Writes the output buffer to the writer if it has `ROOM` bytes (64 KB) or more. If a write fails, the bytes that
+    /// If the output buffer has 65536 bytes or more, writes all of them to the writer. If a write fails, the bytes that
     /// were not written are still in the buffer.
     pub fn flush_if_full(&mut self) -> Result<(), IoFailed>
         ensures same { W.written self.new.writer ++ self.new.bytes.items ≡ W.written self.old.writer ++ self.old.bytes.items }

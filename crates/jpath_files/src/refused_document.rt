@@ -20,8 +20,8 @@ pub enum Reason {
     /// this byte, or what is wrong with it.
     Wrong(Wanted),
     EndsTooEarly,
-    /// A reason why there is an error for a document: the document can't be used, or memory ran out. The field says
-    /// which of the two, and why.
+    /// An error for a document of a file, other than a wrong byte or a document that ends too early. The field says
+    /// which: the text is no JSON document, the document can't be compared or edited as asked, or memory ran out.
     Other(DocumentRefusal),
 }
 
@@ -49,8 +49,8 @@ impl Display for Reason {
     }
 }
 
-/// The error of a document of a file: the file's name, the line and column, and the reason. `Display` prints it as the
-/// line that `jpath` writes to standard error.
+/// The error for a document of a file: the file's name, the line and column of the error (both counted from 1, the
+/// column in bytes), and the reason. `Display` prints the error as the line that `jpath` writes to standard error.
 #[derive(Clone, Copy, Debug, Drop)]
 pub struct RefusedDocument<'n> {
     /// A field of the error for a document of a file: the name of the file.
@@ -73,7 +73,8 @@ impl<'n> RefusedDocument<'n> {
     /// Makes the error for a document of a file. `bytes` is the document, or wrong bytes in place of one, and begins at
     /// `place` in the file; `refusal` is the cause. If `refusal` is `NotADocument` because a byte is wrong or `bytes`
     /// ends too early, the error's position is that of the first wrong byte, or the end of `bytes`. In every other
-    /// case, such as a document that nests too deep, it is that of the first byte that is no blank.
+    /// case, such as an edited document that nests too deep, the error's position is that of the first byte of `bytes`
+    /// that is no blank.
     pub fn of_piece(
         name: &'n str,
         bytes: &[u8],

@@ -5,8 +5,9 @@ ghost use Rattle.jsonpath_nodes.specs.place.Location.{Location};
 ghost use Rattle.jpath_texts.specs.DocumentPlaces.{DocumentStandsAt};
 ghost use Rattle.jpath_texts.specs.NumberKey.{OneKey};
 
-/// Lemma: the exact tree of a JSON text, which keeps numbers as written, and its document, in which paths select, have
-/// values at the same locations. At each location, the value in the document is the document of the value in the tree.
+/// Lemma: the exact tree of a JSON text, which keeps numbers as written, and the document made from this tree, in which
+/// paths select, have values at the same locations. At each location, the document's value is what is made in the same
+/// way from the tree's value there.
 pub fn document_has_same_locations()
     ensures { (l : Location) (exact : Json) → DocumentStandsAt exact l }
 {}

@@ -14,7 +14,8 @@ pub struct Query<'a> {
 }
 
 impl<'a> Query<'a> {
-    /// Parses `text` as a path. Errors: a syntax error exactly if `text` is not a path, or `OutOfMemory`.
+    /// Parses `text` as a path. If `text` is a path, the only possible error is `OutOfMemory`. If it is not, the call
+    /// always fails, with a syntax error or with `OutOfMemory`.
     pub fn compile(alloc: Global, text: &'a str) -> Result<Query<'a>, TokenError>
         ensures found { IfOk result (λ query. (query.path ≡ text.now) × IsInGrammar text.now) }
         ensures only { IfErr result (λ e. e ≢ OutOfMemory → IsInGrammar text.now → ⊥) }

@@ -3,8 +3,9 @@
 use jsonpath_nodes::NoMemory;
 use std::alloc::{AllocError, AllocFailed};
 
-/// An error: the reason why `jpath` writes nothing for the text of a document. The text is no JSON document, or the
-/// document can't be edited or compared as asked, or memory ran out.
+/// An error: the reason why `jpath` writes nothing for the text of a document. The text is no JSON document or nests
+/// too deep, a filter compares a number whose exponent doesn't fit in 128 bits, the document can't be edited as asked,
+/// or memory ran out.
 #[derive(Clone, Copy, Debug, Drop, PartialEq, Eq)]
 pub enum DocumentRefusal {
     /// An error: a text is no JSON document, or it nests deeper than 127 levels.

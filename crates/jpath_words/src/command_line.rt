@@ -388,9 +388,10 @@ pub enum ParseOutcome<'a> {
     Ended(u8),
 }
 
-/// Parses the command line, whose first word is the program's name, into options and other words. Help, the version,
-/// completions and errors are printed here; the program then has to exit with the status that is returned. The only
-/// error is that memory ran out.
+/// Parses the command line, whose first word is the program's name, into options and other words. If the command line
+/// asks for help, the version or completions, or has a wrong option, the call prints what is asked for or what is
+/// wrong, and returns the status with which the program has to exit. The only error that it returns is that memory ran
+/// out.
 pub fn parse_words<'a>(
     rt: &(impl Print + Eprint + Alloc<A = Global>),
     words: &'a [String],

@@ -34,27 +34,24 @@ fn add_bash(options: &[Described], out: &mut String) -> Result<(), AllocError> {
     out.push_str("_jpath() {\n    COMPREPLY=()\n    case $3 in\n")?;
     for option in options {
         if !option.choices.is_empty() {
-            out.push_str("        ")?;
-            if let Some(letter) = option.letter {
-                out.push('-')?;
-                out.push(letter)?;
-                out.push_str(" | ")?;
-            }
-            add_three("--", option.name, ") COMPREPLY=($(compgen -W '", out)?;
-            add_words(option.choices, out)?;
-            out.push_str("' -- \"$2\")) ;;\n")?;
+            add_bash_choices(option, out)?;
         }
     }
     out.push_str("        *) [[ $2 != -* ]] || COMPREPLY=($(compgen -W '")?;
     for option in options {
-        if let Some(letter) = option.letter {
-            out.push('-')?;
-            out.push(letter)?;
-            out.push(' ')?;
-        }
+        add_letter(option, "-", " ", out)?;
         add_three("--", option.name, " ", out)?;
     }
     out.push_str("' -- \"$2\")) ;;\n    esac\n}\ncomplete -o default -F _jpath jpath\n")
+}
+
+// The case for an option whose value is one of a few.
+fn add_bash_choices(option: &Described, out: &mut String) -> Result<(), AllocError> {
+    out.push_str("        ")?;
+    add_letter(option, "-", " | ", out)?;
+    add_three("--", option.name, ") COMPREPLY=($(compgen -W '", out)?;
+    add_words(option.choices, out)?;
+    out.push_str("' -- \"$2\")) ;;\n")
 }
 
 // The options for zsh's `_arguments`, each with its help and what is behind it.
@@ -62,52 +59,65 @@ fn add_zsh(options: &[Described], out: &mut String) -> Result<(), AllocError> {
     out.push_str("#compdef jpath\n_arguments -s -S")?;
     for option in options {
         out.push_str(" \\\n    '*'")?;
-        match option.letter {
-            Some(letter) => {
-                out.push_str("{-")?;
-                out.push(letter)?;
-                add_three(",--", option.name, "}", out)?;
-            }
-            None => add_three("--", option.name, "", out)?,
-        }
-        out.push_str("'[")?;
+        add_letter(option, "{-", ",", out)?;
+        let end = if option.letter.is_some() { "}'[" } else { "'[" };
+        add_three("--", option.name, end, out)?;
         add_zsh_text(option.help, out)?;
-        out.push(']')?;
-        for value in option.values {
-            add_three(":", *value, ":", out)?;
-            if option.choices.is_empty() {
-                out.push(' ')?;
-            } else {
-                out.push('(')?;
-                add_words(option.choices, out)?;
-                out.push(')')?;
-            }
-        }
-        out.push('\'')?;
+        add_zsh_values(option, out)?;
     }
     out.push_str(" \\\n    '*:FILE:_files'\n")
+}
+
+// The end of an option for zsh: what is behind it.
+fn add_zsh_values(option: &Described, out: &mut String) -> Result<(), AllocError> {
+    out.push(']')?;
+    for value in option.values {
+        add_three(":", *value, ":", out)?;
+        if option.choices.is_empty() {
+            out.push(' ')?;
+        } else {
+            out.push('(')?;
+            add_words(option.choices, out)?;
+            out.push(')')?;
+        }
+    }
+    out.push('\'')
 }
 
 // A line for each option, as fish has it.
 fn add_fish(options: &[Described], out: &mut String) -> Result<(), AllocError> {
     for option in options {
         out.push_str("complete -c jpath")?;
-        if let Some(letter) = option.letter {
-            out.push_str(" -s ")?;
-            out.push(letter)?;
-        }
+        add_letter(option, " -s ", "", out)?;
         add_three(" -l ", option.name, " -d '", out)?;
         add_fish_text(option.help, out)?;
+        add_fish_values(option, out)?;
+    }
+    Ok(())
+}
+
+// The end of an option's line for fish: whether it takes a value, and what this may be.
+fn add_fish_values(option: &Described, out: &mut String) -> Result<(), AllocError> {
+    out.push_str(if option.values.is_empty() { "'" } else { "' -x" })?;
+    if !option.choices.is_empty() {
+        out.push_str(" -a '")?;
+        add_words(option.choices, out)?;
         out.push('\'')?;
-        if !option.values.is_empty() {
-            out.push_str(" -x")?;
-        }
-        if !option.choices.is_empty() {
-            out.push_str(" -a '")?;
-            add_words(option.choices, out)?;
-            out.push('\'')?;
-        }
-        out.push('\n')?;
+    }
+    out.push('\n')
+}
+
+// Adds an option's letter, if it has one, between these texts.
+fn add_letter(
+    option: &Described,
+    front: &str,
+    back: &str,
+    out: &mut String,
+) -> Result<(), AllocError> {
+    if let Some(letter) = option.letter {
+        out.push_str(front)?;
+        out.push(letter)?;
+        out.push_str(back)?;
     }
     Ok(())
 }

@@ -22,12 +22,13 @@ use jpath_texts::{
 use json::{Scratch, Value as Exact};
 use std::alloc::{AllocError, AllocFailed, Global};
 
-/// What `jpath` writes for each document: lines, an array, a count, a table, or the edited text.
+/// A task of `jpath`, that is, what it writes: lines, an array or the edited text for each document, a count for each
+/// file, a table, or nothing.
 #[derive(Drop)]
 pub enum Task<'a> {
-    /// A task of `jpath`: it writes lines for each value that the paths select, path by path, with duplicates. The
-    /// field of type `Shown` says what the lines show: the value, its location, both, its members or items, or its
-    /// length.
+    /// A task of `jpath`: it writes, for each document, lines for each value that the paths select, path by path, with
+    /// duplicates. The field of type `Shown` says what the lines show: the value, its location, both, its members or
+    /// items, or its length.
     Lines(Vec<Query<'a>>, Shown),
     /// A task of `jpath`: it writes, for each document, one JSON array with all values that the paths select, path by
     /// path, with duplicates.
@@ -41,8 +42,8 @@ pub enum Task<'a> {
     /// column, the row has a field with the first value that the column's path selects in the row's value; the field is
     /// empty if the path selects nothing.
     Table(Table<'a>),
-    /// A task of `jpath`: it writes each document after these edits, which are made one after another, in the order of
-    /// the command line.
+    /// A task of `jpath`: it writes each document after the edits in the field, which are made one after another, in
+    /// the order of the command line.
     Edits(Vec<Edit<'a>>),
 }
 
@@ -82,19 +83,21 @@ pub struct Wanted<'a> {
     pub look: Look,
     pub files: Vec<&'a str>,
     pub has_names: bool,
-    /// Whether the byte 30 (RS) is written before each value, as in a JSON text sequence.
+    /// A field of what the command line of `jpath` asks for: whether the byte 30 (RS) is written before each JSON text
+    /// in the output, as in a JSON text sequence.
     pub is_sequence: bool,
     pub line_end: LineEnd,
     pub keeps_going: bool,
     pub is_in_place: bool,
-    /// Whether the edited text is written into the file itself (`--copy`), instead of a new file that replaces it.
+    /// A field of what the command line of `jpath` asks for: whether the edited text is written into the file itself
+    /// (`--copy`). If not, and the file is edited in place, a new file replaces it.
     pub is_copied: bool,
 }
 
 impl<'a> Wanted<'a> {
-    /// Whether `jpath` copies to the output the blanks between documents, and a byte order mark before the first. True
-    /// exactly if it makes edits and the edited documents keep their layout, that is, are not laid out over several
-    /// lines.
+    /// Whether `jpath` copies to the output the blanks between documents, and a BOM (U+FEFF) before the first. True
+    /// exactly if it makes edits and no option (`--pretty`, `--indent` or `--tab`) lays the edited documents out anew,
+    /// over several lines.
     pub fn keeps_blanks_between_documents(&self) -> bool
         ensures { result ≡ is_edit self.now.task && not (is_over_lines self.now.look.layout) }
     {
@@ -143,8 +146,8 @@ impl<T: Drop> From<AllocFailed<T>> for Refused {
 
 /// Works out from the parsed command line `words` all that `jpath` has to do: compiled paths, the task, the layout of
 /// lines and the files. Errors: `Words` if options contradict each other, or if an option or the path is missing;
-/// `Told` if a path or an edit's value is wrong, which is printed here; `Checked` if all is right and the option
-/// `--check` is set; or `OutOfMemory`.
+/// `Told` if a path or an edit's value is wrong, after this call has printed the message about it; `Checked` if all is
+/// right and the option `--check` is set; or `OutOfMemory`.
 pub fn wanted_of_words<'a>(
     rt: &(impl Eprint + Alloc<A = Global>),
     words: &Words<'a>,
@@ -246,8 +249,8 @@ fn line_end(flags: &Flags) -> LineEnd
     }
 }
 
-/// Whether `jpath` writes its output in colours. This is as the option `--color` says or, if it says `auto`, true
-/// exactly if the output is a terminal and the environment variable NO_COLOR is not set.
+/// Whether `jpath` writes its output in colours: as the option `--color` says; if the option says `auto`, true exactly
+/// if the output is a terminal and the environment variable NO_COLOR is missing or empty.
 pub fn wants_color(flags: &Flags, is_terminal: bool, has_no_color: bool) -> bool
     ensures { result ≡ colored_by flags.now.color is_terminal has_no_color }
 {

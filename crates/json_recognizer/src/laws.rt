@@ -15,10 +15,10 @@ pub fn accepts_documents()
     ensures refused { (front : List ℕ) → after_all Value [] max_depth (map class_of front) ≡ refused → Begins front → ⊥ }
 {}
 
-/// Lemma: the recognizer, which reads a text byte by byte, decides rightly by the grammar of JSON. If it finds the end
-/// of a document, the bytes up to there are a document. If it finds a wrong byte, documents can begin with the bytes
-/// before it, but none can continue with this byte. If it finds neither, the text is the beginning of a document, but
-/// no document itself.
+/// Lemma: the recognizer, which reads a text byte by byte, decides rightly by the grammar of JSON, with documents
+/// nested at most 127 levels deep. If it finds the end of a document, the bytes up to there are a document. If it finds
+/// a wrong byte, documents can begin with the bytes before it, but none can continue with this byte. If it finds
+/// neither, the text is the beginning of a document, but no document itself.
 pub fn found_by_grammar()
     ensures { (text : List ℕ) → IsFound text (found_in text) }
 {}

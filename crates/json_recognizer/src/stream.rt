@@ -16,11 +16,11 @@ pub enum Found {
     /// A result of searching some bytes for the end of a JSON document: the document does not end in these bytes, and
     /// none of them is wrong. It may continue in later bytes.
     GoesOn,
-    /// A result of the search for a document's end in the next bytes of a stream: the document ends after this number
-    /// of these bytes.
+    /// A result of searching the next bytes of a stream for the end of a document: the document ends after the first
+    /// `n` of these bytes, where `n` is the field.
     Ends(usize),
-    /// A result of searching some bytes for the end of a JSON document: the byte at this index, from 0, in these bytes
-    /// is wrong, that is, no document can continue with it.
+    /// A result of searching some bytes for the end of a JSON document: one of these bytes is wrong, that is, no
+    /// document can continue with it. The field is its index in these bytes, from 0.
     Refused(usize),
 }
 

@@ -45,7 +45,8 @@ pub enum Wanted {
     /// `[1,]`.
     CommaBefore,
     Comment,
-    /// A reason why a byte of a JSON text is wrong: it begins `NaN` or `Infinity`, which are no JSON.
+    /// A reason why a byte of a JSON text is wrong: a value is expected there, and the byte is `N` or `I`, as at the
+    /// beginning of `NaN` or `Infinity`, which are no JSON. The bytes after it are not looked at.
     NotANumber,
 }
 
@@ -133,8 +134,9 @@ fn in_text(part: TextPart, is_name: bool, class: Class) -> Wanted
 
 /// The reason, for an error message, why a byte of class `class` is wrong in a JSON text: what was expected in its
 /// place, or what is wrong with it. `mode` says in what part of the text the recognizer is, and `top` what directly
-/// encloses the byte: an array, an object or nothing. Every byte that the reason names would have been accepted; others
-/// may be, too.
+/// encloses the byte: an array, an object or nothing. If the reason says what was expected, each byte that it names
+/// would have been accepted, except `[` or `{` where they would nest too deep, and the hexadecimal digits C to F after
+/// `\ud`. Bytes that the reason doesn't name may be accepted, too.
 pub fn what_was_wanted(mode: Mode, top: Top, class: Class) -> Wanted
     ensures { (c : Class) → names result c ≡ true → move mode top c ≢ Wrong }
 {
@@ -166,7 +168,7 @@ pub fn what_was_wanted(mode: Mode, top: Top, class: Class) -> Wanted
 
 /// The reason, for an error message, why `byte` is wrong in this state of the recognizer; `byte` must be wrong there.
 /// If the reason says what was expected, each byte that it names would have been accepted here, except `[` or `{` where
-/// they would nest too deep.
+/// they would nest too deep, and the hexadecimal digits C to F after `\ud`.
 pub fn wanted_at(state: &State, byte: u8) -> Wanted
     requires { state.now.depth ≤ max_depth }
     ensures { (c : Class) → names result c ≡ true → move state.now.mode (top_of (frames state.now.depth state.now.kinds)) c ≢ Wrong }

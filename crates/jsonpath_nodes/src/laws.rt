@@ -143,10 +143,10 @@ pub fn nulling_and_taking_ignore_order()
     ensures { SetsAlone }
 {}
 
-/// Lemma: what is found from a list of locations depends, as a set, only on the set of these locations, not on order or
-/// repeats. This holds for the nodes that a step or `..` selects, the values that a filter tests, the locations that
-/// meet a condition, and whether there is one. Two lists with the same set of locations become equal in document order
-/// (parents before children, members by their names' bytes, items by index), each location once.
+/// Lemma: let two lists have the same set of locations. Then a step or `..` selects the same set of nodes from both,
+/// and a filter tests the same set of values. The same set of locations in both meets a condition; so if a location of
+/// one list meets it, one of the other does. In document order (parents before children, members by their names' bytes,
+/// items by index) and with each location once, both lists are equal.
 /// ```text
 /// laws::steps_ignore_order_and_repeats();
 /// ```
@@ -229,8 +229,8 @@ pub fn apart_locations_meet_candidates_once()
 {}
 
 /// Lemma: locations are called apart if no two are equal and none can be reached from another by indexes alone. From
-/// different locations, a name or a list of different names leads to locations that are apart. So does `..` before a
-/// name from one location. From locations that are apart, an index, a slice, or a list of different non-negative
+/// different locations, a name or a list of different names leads to locations that are apart; from a single location,
+/// so does `..` before a name. From locations that are apart, an index, a slice, or a list of different non-negative
 /// indexes leads to locations that are apart. If locations are apart, so are those that meet a filter's condition.
 ///
 /// ```text

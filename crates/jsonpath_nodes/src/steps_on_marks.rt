@@ -159,8 +159,9 @@ pub fn stride_from_each<M: Mark>(
 }
 
 /// For each node in order, returns the node if it is no array, else the non-array values left if each array is replaced
-/// by its items repeatedly. A value found from two nodes is listed twice. If none is, the list has exactly the values
-/// that a filter with a relative query of at least one segment, such as `[?(@.a)]`, tests from these nodes.
+/// by its items repeatedly. A value found from two nodes is listed twice. If no value is listed twice, the list has
+/// exactly the values that a filter with a relative query of at least one segment, such as `[?(@.a)]`, tests when it is
+/// applied to these nodes.
 ///
 /// ```text
 /// let found = steps_on_marks::flattened_from_each(alloc, &[&document])?;
@@ -193,9 +194,10 @@ pub fn flattened_from_mark<M: Mark>(alloc: Global, mark: &M) -> Result<Vec<M>, N
     Ok(found)
 }
 
-/// The values that a filter after `..` with a relative query of at least one segment, such as `@.a`, tests when applied
-/// to one node: the node's descendants that are not arrays, each once, in the order of `..*` with each array replaced
-/// by its items (and these again, if arrays); of a value found twice, the first occurrence counts.
+/// Returns the values that a filter after `..` tests when it is applied to one node, if the filter has a relative query
+/// with at least one segment, such as `@.a`. These values are the node's descendants that are not arrays, each once.
+/// Their order is that of `..*`, with each array replaced by its items (and these again, if they are arrays); of a
+/// value found twice, the first occurrence counts.
 ///
 /// ```text
 /// let found = steps_on_marks::candidates_below_mark(alloc, &&document)?;

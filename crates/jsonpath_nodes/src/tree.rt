@@ -38,7 +38,7 @@ pub trait Tree: Handle {
     type MembersLeft: Drop;
     /// An associated type, chosen by the implementor: the type of the numbers that comparisons use, such as `Decimal`.
     type Number: Fraction;
-    /// The error of an evaluation: memory ran out, or a comparison got a value that can't be compared.
+    /// An associated type, chosen by the implementor: an evaluation's error: no memory, or a value can't be compared.
     type Error: Drop + From<NoMemory> + From<AllocError>;
 
     ghost content: { Self → Document };
@@ -56,8 +56,7 @@ pub trait Tree: Handle {
     fn atom(&self) -> Result<Atom<'_, Self::Number>, Self::Error>
         ensures { IfOk result (λ atom. seen_with Self.Number.fraction atom ≡ seen (content self.now)) };
 
-    /// A method that implementors provide: converts a number literal of a path to the type of the numbers that comparisons
-    /// use.
+    /// A method that implementors provide: converts a path's number literal to the number type that comparisons use.
     fn number_of_literal(
         &self,
         alloc: Global,
@@ -77,7 +76,7 @@ pub trait Tree: Handle {
         ensures some { IfSome result (λ o. content self ≡ object (members o)) }
         ensures none { IfNone result (as_object (content self) ≡ None) };
 
-    /// The number of items of an array.
+    /// A method that implementors provide: returns the number of items of an array.
     fn len(array: Self::Array) -> usize
         ensures { result ≡ items_len (items array) };
 

@@ -34,7 +34,8 @@ pub fn longest_front()
     ensures one_token { (from to other : Place) (t u : Token) → TakesToken from t to → TakesToken from u other → (t ≡ u) × (to ≡ other) }
 {}
 
-/// Lemma: if a path text begins with an unquoted name or number, but not with `$`, all of this is its first token.
+/// Lemma: if a path text begins with a word (an unquoted name or whole number) that doesn't begin with `$`, the text's
+/// first token is this whole word.
 ///
 /// ```text
 /// laws::word_is_first_token();
@@ -73,8 +74,9 @@ pub fn spelled_tree()
     ensures only { (text : List ℕ) (p : Path) → Spells text p → tree_of_text text ≡ Some p }
 {}
 
-/// Lemma: a text has its syntax error at a position exactly if `place_of_text`, a function for proofs, computes it from
-/// the text. So it has at most one, and a proof finds a constant text's just by evaluating the function.
+/// Lemma: a text has a certain syntax error (`Eof`, or `Position` with a byte position) exactly if `place_of_text`, a
+/// function for proofs, computes this error from the text. So a text has at most one syntax error, and a proof finds
+/// that of a constant text just by evaluating the function.
 ///
 /// ```text
 /// laws::error_position();

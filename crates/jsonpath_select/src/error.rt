@@ -72,9 +72,10 @@ impl fmt::Debug for JsonPathError {
 impl Error for JsonPathError {}
 
 impl JsonPathError {
-    /// Returns the byte position just after the wrong token or character of a syntax error; `None` for any other error,
-    /// and if the text ends too early or its last token or character is wrong. In the last two cases, an error of
-    /// `Parser` (for a path that owns its text) gives the text's length: that of the row of `^` in its message.
+    /// Returns the byte position just after the wrong token or character of a syntax error; `None` for any other error.
+    /// If the text ends too early, or its last token or character is wrong, the result is also `None`, unless the error
+    /// comes from `Parser`, which compiles to a path that owns its text: then the result is the text's length, which is
+    /// the length of the row of `^` in the message.
     ///
     /// ```text
     /// match compile_path(alloc, "$.a[b]") {
@@ -91,10 +92,11 @@ impl JsonPathError {
         }
     }
 
-    /// Shows where in `path` this syntax error is; `path` must be the text that was compiled, which is not tested.
-    /// Returns `path`, a line end, and a `^` for each byte of `path` up to the end of the wrong token, or for all its
-    /// bytes if the text ends too early. An error of `Parser`, which compiles to a path that owns its text, has this
-    /// text as its message. Returns `None` if this is no syntax error. The call fails only if memory runs out.
+    /// Shows where in `path` this syntax error is. `path` must be the text that was compiled; this is not checked.
+    /// Returns `path`, a line end, and a `^` for each byte of `path` up to the end of the wrong token or character, or
+    /// for each byte of `path` if the text ends too early. For an error of `Parser`, which compiles to a path that owns
+    /// its text, the returned text is equal to the error's message. Returns `None` if this is no syntax error. The call
+    /// fails only if memory runs out.
     ///
     /// ```text
     /// let refused = compile_path(alloc, "$.a[b]")
@@ -163,7 +165,7 @@ pub fn path_error(alloc: Global, error: &TokenError) -> JsonPathError
     message.map_or(JsonPathError::OutOfMemory, JsonPathError::Path)
 }
 
-/// Converts an error of `Parser`: `Text`, if memory allows, to `Path` with a copied message, else to `OutOfMemory`.
+/// Converts an error of `Parser`. `Text` becomes `Path` with a copy of the message; without memory, `OutOfMemory`.
 ///
 /// ```text
 /// match Parser::compile(alloc, "$[") {

@@ -123,7 +123,7 @@ pub fn refused_for_memory_alone()
     ensures { NeverRefused }
 {}
 
-/// Lemma: each location that a path selects in a document has a value: as many values as locations, in that order.
+/// Lemma: the values that a path selects are those at the locations that it selects, one at each, in the same order.
 ///
 /// ```text
 /// laws::each_location_has_a_value();
@@ -146,9 +146,10 @@ pub fn rooted_is_same_for_all_candidates()
     ensures kept { RootedKeepsAllOrNone }
 {}
 
-/// Lemma: to decide whether some left value and some right value satisfy a comparison other than `!=`, not all pairs
-/// have to be compared. For each kind of value, `<` and `<=` are decided by the least left and the greatest right
-/// value, `>` and `>=` by the greatest left and the least right value, and `==` by a set of the right values.
+/// Lemma: to decide whether some value of a left list and some value of a right list satisfy a comparison other than
+/// `!=`, not all pairs have to be compared. For each kind of value, such as numbers or strings, `<` and `<=` are
+/// decided by the least left and the greatest right value, `>` and `>=` by the greatest left and the least right value,
+/// and `==` by whether a left value is in the set of the right values.
 ///
 /// ```text
 /// laws::extremes_and_sets_decide_pairs();

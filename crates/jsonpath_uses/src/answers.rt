@@ -49,9 +49,9 @@ pub fn value_at<'a>(
     select(alloc, json, text.as_str())
 }
 
-/// The values that the path selects, in the order in which it finds them, with duplicates, as the text of a JSON array:
-/// for `$[*].name`, say, names. Errors: `Path` if `path` is no path; `Serde` if a selected value has a number that is
-/// neither an `i64` nor a `u64`, such as 1.5; or `OutOfMemory`.
+/// The values that the path selects, in the order in which it finds them, with duplicates, as the text of a JSON array.
+/// For example, the path `$[*].name` gives the array of all names. Errors: `Path` if `path` is no path; `Serde` if a
+/// selected value has a number that is neither an `i64` nor a `u64`, such as 1.5; or `OutOfMemory`.
 pub fn column_text(alloc: Global, json: &Value, path: &str) -> Result<String, JsonPathError>
     ensures { IfOk result (λ text. (values : List Data) × Selects path.now (document_of (view json.now)) (map document_of values) × (list_text values ≡ Some (string_bytes text))) }
 {
@@ -70,7 +70,7 @@ pub fn compile_bare_name(alloc: Global) -> Result<PathParser<'static>, TokenErro
     PathParser::compile(alloc, "$.a[b]")
 }
 
-/// Whether a path selects exactly `count` values, with duplicates. Errors: `Path` (text is no path), `OutOfMemory`.
+/// Whether a path selects exactly `count` values, each duplicate counted. Errors: `Path` (no path), `OutOfMemory`.
 pub fn selects_exactly(
     alloc: Global,
     json: &Value,

@@ -14,8 +14,9 @@ use jsonpath_lib::{
 use serde_json::Value;
 use std::alloc::Global;
 
-/// Puts null at what two paths select below the root, in two equal values: in `one` by `first` and `second`, in `other`
-/// by `second` and `first`. Returns the two results, which are equal; `None` if a text is no path or memory runs out.
+/// Replaces by null what two paths select below the root, in the equal values `one` and `other`. The paths are given as
+/// `first`, `second` for `one`, as `second`, `first` for `other`; in each value, both select before anything changes.
+/// Returns the two results, which are equal; `None` if a text is no path or memory runs out.
 pub fn mask_in_either_order(
     alloc: Global,
     one: Value,
@@ -53,7 +54,7 @@ pub fn with_log_switched_on(alloc: Global, config: Value) -> Result<Value, JsonP
 }
 
 /// Removes by `$.price`, twice: the first call removes the member `price`, if there is one, the second changes nothing.
-/// The only error is `OutOfMemory`; the first call may have removed the member before it.
+/// The only error is `OutOfMemory`; if it is the second call's, the first call has removed the member already.
 pub fn remove_price_twice(alloc: Global, json: &mut Value) -> Result<(), JsonPathError>
     ensures { OnOk result (document_of (view json.new) ≡ update (name (codes "price") ∷ []) None (document_of (view json.old))) }
 {

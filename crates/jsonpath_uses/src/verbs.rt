@@ -52,7 +52,7 @@ pub fn select_locations(
 }
 
 /// The values that the path selects, in the order in which it finds them, with duplicates, as a JSON array's text.
-/// Errors: `OutOfMemory`, or `Serde` if one contains a number that is neither an `i64` nor a `u64`, such as 1.5.
+/// Errors: `OutOfMemory`, or `Serde` if a selected value contains a number that is no `i64` and no `u64`, such as 1.5.
 pub fn select_as_str(
     alloc: Global,
     json: &Value,
@@ -183,7 +183,7 @@ pub fn try_replace_in<E, F: FnMut(&Value) -> Result<Option<Value>, E>>(
     path.try_replace_in(alloc, value, fun)
 }
 
-/// Returns the text a path was compiled from, named `spelling` in its methods' contracts (proved specifications).
+/// Returns the text from which a path was compiled. Contracts (proved specifications) call this text `spelling`.
 pub fn spelling_of<P: AnyPath>(path: &P) -> &str
     ensures { result.now ≡ P.spelling path.now }
 {

@@ -9,9 +9,9 @@ use json::Scratch;
 use std::alloc::{AllocError, Global};
 use std::str;
 
-/// What `jpath` keeps from one document of its input to the next: memory that reading the next document and its parts
-/// uses again, and a note for each edit of the command line. The note says whether the edit has changed some document,
-/// or a message has said why it changed none.
+/// What `jpath` keeps from one document of its input to the next: the memory in which it reads a document and the parts
+/// that an edit replaces, and one bool for each edit of the command line. The bool is true if the edit has changed some
+/// document so far, or if a message was printed that says why it changed none.
 #[derive(Drop)]
 pub struct Kept {
     pub scratch: Scratch,
@@ -51,9 +51,10 @@ impl Kept {
 
 /// Makes all edits in the document with the text `text`, one after another, and appends the text of the edited document
 /// to `out`. This text keeps the document's layout; but if `look`, which says how values are printed, asks for several
-/// lines, the document is printed anew in that layout, with a line end. Returns how many values, members or items the
-/// edits had to change, added up. If an edit would replace or remove the root, or if the new name of a renaming is in
-/// use already, a message is printed on standard error; this is no error.
+/// lines, the document is printed anew in that layout, with a line end. Returns a sum over all edits: how many
+/// locations below the root each selected for replacing or removing, or how many members or items it added or renamed.
+/// If an edit would replace or remove the root, the root stays; if the new name of a renaming is in use already, that
+/// edit renames nothing. In both cases a message is printed on standard error, and no error is returned.
 ///
 /// Errors: `NotADocument` if `text` is no JSON document; `HugeExponent` if a number can't be compared; `EditNests` if
 /// an edited text nests too deep; `EditDiffers` if an edited text, read again, is not the edited document, a fault of

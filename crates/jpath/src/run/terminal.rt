@@ -14,9 +14,9 @@ const COLORS: [&str; 5] = [
 ];
 
 /// Replaces each control character in a text by an escape such as `\u001b`, so that a terminal doesn't obey it. Tabs,
-/// line ends and the sequences that set colours stay. A control character inside a quoted text of a JSON document means
-/// the same when it is escaped. A text that is not UTF-8 stays as it is. The only error is that memory ran out; the
-/// text is then as it was, or empty.
+/// line ends and the five sequences with which `jpath` itself sets and resets colours stay. A control character inside
+/// a quoted text of a JSON document means the same when it is escaped. A text that is not UTF-8 stays as it is. The
+/// only error is that memory ran out; the text is then as it was, or empty.
 pub fn escape_for_terminal(alloc: Global, text: &mut Vec<u8>) -> Result<(), AllocError> {
     let shown = match str::from_utf8(text.as_slice()) {
         Ok(text) => text_for_terminal(alloc, text)?,

@@ -26,7 +26,7 @@ use std::mem;
 /// The result of evaluating a path on an exact tree, the tree of a JSON text with each number as it is written.
 #[derive(Clone, Copy, Debug, Drop)]
 pub struct ExactOutcome {
-    /// How many values the path selects in the document.
+    /// A field of the result of evaluating a path: how many values the path selects in the document.
     pub count: usize,
     /// A field of the result of evaluating a path: whether a filter compared a number that is not an integer of 64
     /// bits. Filters compare such numbers exactly, too.
@@ -34,9 +34,9 @@ pub struct ExactOutcome {
 }
 
 /// Whether a path is so simple that on most documents it can be evaluated on the exact tree, which is the tree of the
-/// JSON text with each number as it is written. Such a path begins at the root. It has only single names, `[*]`, and
-/// filters whose conditions use only literals and members of the value that the filter tests, such as `@.a`. Other paths,
-/// and this path in some documents, are for `add_lines_for_path`.
+/// JSON text with each number as it is written. Such a path begins at the root and has no `..`. It has only single
+/// names, `[*]`, and filters whose conditions use only literals and members of the value that the filter tests, such as
+/// `@.a`. For other paths, and for such a path on the other documents, use `add_lines_for_path`.
 pub fn may_answer_by_exact_tree(query: &Query<'_>) -> bool
     ensures { (p : Path) → Spells query.now.path p → result ≡ is_straight p }
 {
@@ -75,9 +75,9 @@ fn is_straight_inner(inner: &Inner) -> bool
 /// line with each selected value to `out`, in the order in which the path finds them. `line` describes these lines (its
 /// field `shown` is not used); if `line` is `None`, nothing is appended.
 ///
-/// Returns how many values there are, and whether a filter compared a number that is no integer of 64 bits. Returns
-/// `None` if this path in this document is for `add_lines_for_path`. The only error is out of memory. After `None` or the
-/// error, `out` may end with a part of the lines.
+/// Returns how many values the path selects, and whether a filter compared a number that is no integer of 64 bits.
+/// Returns `None` if this path can't be evaluated on this tree; then use `add_lines_for_path`. The only error is out of
+/// memory. After `None` or the error, `out` may end with a part of the lines.
 pub fn add_lines_by_exact_tree(
     alloc: Global,
     exact: &Exact<'_>,

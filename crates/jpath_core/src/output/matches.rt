@@ -74,10 +74,10 @@ pub(crate) fn count_matches_of_path(
 }
 
 /// Appends to `out` one JSON array of the values that the paths select: path by path, and for each path in the order in
-/// which its steps find them, with duplicates. Before the array comes the byte 30 if `line.is_record`, then the file's
-/// name and a colon if `line.name` has one. After the array comes what `line.end` says: a line feed, the byte 0 or
-/// nothing. Returns how many values there are. Errors: those of `select_in_document`; `out` may then end with a part of
-/// this output.
+/// which its steps find them, with duplicates. Before the array comes the byte 30 if `line.is_record`, then the file
+/// name in `line.name` and a colon, or nothing if `line.name` is `None`. After the array comes what `line.end` says: a
+/// line feed, the byte 0 or nothing. Returns how many values there are. Errors: those of `select_in_document`; `out`
+/// may then end with a part of this output.
 pub fn add_array(
     alloc: Global,
     document: &Document<'_>,

@@ -17,10 +17,11 @@ use jsonpath_select::select_nodes_in_tree;
 use std::alloc::Global;
 
 /// Appends to `out` a row of a table for each value that the path `rows` selects in a document, in the order in which
-/// the path's steps find them, and returns the number of rows. Each column is a path, which is applied to the row's
-/// value as its root. The column's field, in the order of `columns`, is the first value that this path selects: a text
-/// without quotes, any other value as compact JSON, or an empty field if it selects nothing. Errors: those of
-/// `select_in_document`; `out` may then end with a part of the rows, or have lost all its content.
+/// the path's steps find them, and returns the number of rows. A row has one field for each path of `columns`, in their
+/// order. Such a path is applied to the row's value as its root, and the field is the first value that it selects: a
+/// text is written without its JSON quotes and escapes, any other value as compact JSON. The field is empty if the path
+/// selects nothing. Errors: those of `select_in_document`; `out` may then end with a part of the rows, or have lost all
+/// its content.
 pub fn add_rows(
     alloc: Global,
     document: &Document<'_>,

@@ -12,8 +12,8 @@ use json::{Scratch, Value as Exact};
 use json_recognizer::first_document_len;
 use std::alloc::Global;
 
-/// Reads the parts of a text that an edit replaces. It keeps memory from one part to the next, and from one document to
-/// the next.
+/// A reader of the parts of a text that an edit replaces. It keeps its memory from one part to the next, and from one
+/// document to the next.
 #[derive(Drop)]
 pub struct PartReader {
     alloc: Global,
@@ -21,7 +21,7 @@ pub struct PartReader {
 }
 
 impl PartReader {
-    /// Makes a reader that has read no part yet.
+    /// Makes a `PartReader`, a reader of the parts of a text that an edit replaces. It has read no part yet.
     pub fn new(alloc: Global) -> PartReader
         ensures { result.alloc ≡ alloc }
     {

@@ -104,7 +104,8 @@ impl<'a> Ord for ExactNumber<'a> {
     }
 }
 
-/// Implements the trait `Fraction` (an exact number, as comparisons use it) for a number as it is written.
+/// Implements the trait `Fraction` (exact numbers, ordered by their values, which comparisons use) for `ExactNumber`, a
+/// number as a JSON text or a path writes it.
 impl<'a> Fraction for ExactNumber<'a> {
     ghost use Rattle.jpath_texts.specs.OrderedTree.{number_fraction};
 

@@ -12,8 +12,9 @@ use jsonpath_paths::Decimal;
 use std::alloc::{AllocError, Global};
 use std::cmp::Ordering;
 
-/// A key by which numbers compare: keys are ordered as their numbers are, and equal if these are equal. The number is
-/// 0.DIGITS times ten to the exponent; the digits neither begin nor end with 0. For a negative number, the stored
+/// A key by which numbers compare: keys are ordered as their numbers are, and equal if their numbers are equal. A key
+/// has the number's sign (-1, 0 or 1), an exponent and digits. The number without its sign is 0.DIGITS times ten to the
+/// exponent; the digits neither begin nor end with 0, and zero has no digits. For a negative number, the stored
 /// exponent and digits are inverted, so that keys sort as numbers do: the exponent is negated, each digit `d` becomes
 /// `9 - d`, and a value greater than 9 is appended as the end.
 #[derive(Debug, Drop, PartialEq, Eq, PartialOrd, Ord)]

@@ -15,8 +15,9 @@ use jsonpath_nodes::{LocStep, Location};
 use std::alloc::Global;
 use std::cmp::Ordering;
 
-/// A value of an exact tree, which is the tree of a JSON text with numbers as written. Paths that are run on it take the
-/// members of each object in the order of their names' bytes, each name once, with its last value.
+/// A handle to a value in an exact tree, which is the tree of a JSON text with each number as it is written. Paths that
+/// are run on the value take the members of each object in the order of their names' bytes, each name once, with its
+/// last value.
 #[derive(Clone, Copy, Drop)]
 pub struct OrderedValue<'t, 'a> {
     pub(crate) value: &'t Exact<'a>,
@@ -34,8 +35,9 @@ pub struct OrderedItems<'t, 'a> {
     ghost ordered: { is_order order.now (array (items_view items.now.items)) ≡ true },
 }
 
-/// An object in an exact tree, which is the tree of a JSON text with numbers as written. Its members are taken in the
-/// order of their names' bytes, each name once, with its last value.
+/// A handle to an object in an exact tree, which is the tree of a JSON text with each number as it is written. Paths
+/// that are run on the tree take the object's members in the order of their names' bytes, each name once, with its last
+/// value.
 #[derive(Clone, Copy, Drop)]
 pub struct OrderedMembers<'t, 'a> {
     pub(crate) members: &'t Vec<(&'a str, Exact<'a>)>,
@@ -68,9 +70,9 @@ impl<'t, 'a> OrderedValue<'t, 'a> {
         self.value
     }
 
-    /// The value at a location, which is counted from this value as the root; `None` if nothing is there. If an object
-    /// has a name several times, its last value counts. The time grows with the location's steps and with the logarithm
-    /// of how many members the objects have.
+    /// Returns the value to which the steps of `location` lead from this value, as if this value were the root; `None`
+    /// if nothing is there. If an object has a name several times, its last value counts. The time grows with the
+    /// number of steps and with the logarithm of how many members the objects have.
     pub fn value_at(&self, location: &Location) -> Option<OrderedValue<'t, 'a>>
         ensures { option_map (λ v. value_view v.value.now) result ≡ exact_at (value_view self.now.value.now) location.now }
     {

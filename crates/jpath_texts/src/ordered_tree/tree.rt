@@ -13,15 +13,15 @@ use jsonpath_paths::Decimal;
 use std::alloc::Global;
 use std::borrow::CowStr;
 
-/// An associated type, chosen by the implementor: the state of an iteration over an array's items, that is, the items
-/// not yet returned.
+/// The state of an iteration over an array's items: the items not yet returned.
 #[derive(Drop)]
 pub struct OrderedItemsLeft<'t, 'a> {
     array: OrderedItems<'t, 'a>,
     index: usize,
 }
 
-/// The state of an iteration over an object's members, in the order of their names: those not yet returned.
+/// The state of an iteration over an object's members: the members not yet returned. They are returned in the order of
+/// their names' bytes, each name once, with its last value.
 #[derive(Drop)]
 pub struct OrderedMembersLeft<'t, 'a> {
     object: OrderedMembers<'t, 'a>,

@@ -10,8 +10,8 @@ use std::mem;
 /// How the fields of a row of a table are separated: CSV or TSV.
 #[derive(Clone, Copy, Debug, Drop)]
 pub enum Separated {
-    /// A format of a table's rows: CSV. The fields are separated by commas. A field with a comma, a quote, a line end
-    /// or a carriage return is written in quotes.
+    /// A format of a table's rows: CSV. The fields are separated by commas. A field with a comma, a double quote, a
+    /// line feed or a carriage return is written between double quotes, with each double quote in it doubled.
     ByCommas,
     /// A format of a table's rows: TSV. The fields are separated by tabs. In a field, a tab is written `\t`, a line end
     /// `\n`, a carriage return `\r`, and a backslash `\\`.

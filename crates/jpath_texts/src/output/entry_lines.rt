@@ -144,9 +144,9 @@ fn add_value_behind_key(
     add_value_with_members_kept(alloc, out, value, look)
 }
 
-/// Appends a line to `out` with the length of a value: how many items an array has, members an object (a name that
-/// occurs several times is counted once) or characters a text; `null` for other values. The only error is that memory
-/// ran out; `out` may then end with a part of the line.
+/// Appends a line to `out` with the length of a value: the number of items of an array, of members of an object (a name
+/// that occurs several times is counted once) or of characters of a string; `null` for any other value. The only error
+/// is that memory ran out; `out` may then end with a part of the line.
 pub fn add_length_line(
     alloc: Global,
     value: &Exact<'_>,

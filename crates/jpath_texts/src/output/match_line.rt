@@ -7,8 +7,8 @@ ghost use Rattle.jpath_texts.specs.Lines.{named, record_start, line_end};
 use crate::output::look::Look;
 use std::alloc::AllocError;
 
-/// What `jpath` prints for a value that a path selects: the value, its location, or both; its members' names or its
-/// items' indexes; or its length.
+/// What `jpath` prints for a value that a path selects: the value, its location, or both; the names of its members or
+/// the indexes of its items, alone or with their values; or its length.
 #[derive(Clone, Copy, Debug, Drop, PartialEq, Eq)]
 pub enum Shown {
     /// A choice of what the printed lines show: the selected value itself.
@@ -41,8 +41,8 @@ pub enum LineEnd {
     Nothing,
 }
 
-/// How the lines for a selected value are printed: which file name comes before each, if any, what they show, in which
-/// layout.
+/// How the lines for a selected value are printed: what the lines show, in which layout and colours, whether the byte
+/// 30 (RS) and a file name come before each line, and what comes after it.
 #[derive(Clone, Copy, Debug, Drop)]
 pub struct Line<'n> {
     /// A field of an output line for a selected value: how the value is written. It says whether a string is written
@@ -52,8 +52,8 @@ pub struct Line<'n> {
     /// A field of an output line for a selected value: what the line shows of this value, such as the value itself or
     /// its location.
     pub shown: Shown,
-    /// A field: the name of the file that is printed, with a colon, at the front of the line; `None` if no name is
-    /// printed.
+    /// A field of an output line for a selected value: a file's name, which is printed at the front of the line, with a
+    /// colon after it; `None` if no file name is printed.
     pub name: Option<&'n str>,
     /// Whether the byte 30 (RS) is printed before the line, as before each text of a JSON text sequence.
     pub is_record: bool,
@@ -62,9 +62,9 @@ pub struct Line<'n> {
     pub end: LineEnd,
 }
 
-/// Appends to `out` what is printed before a line: the byte 30 (RS) if `line.is_record`, then the file name in
-/// `line.name` and a colon, or nothing if `line.name` is `None`. The only error is that memory ran out; `out` may then
-/// end with a part of this.
+/// Appends to `out` what is printed before a line: first the byte 30 (RS) if `line.is_record` is true; then, unless
+/// `line.name` is `None`, the file name in it and a colon. The only error is that memory ran out; `out` may then end
+/// with a part of what is printed before the line.
 #[inline(always)]
 pub fn add_line_start(out: &mut Vec<u8>, line: &Line<'_>) -> Result<(), AllocError>
     ensures { OnOk result (out.new.items ≡ out.old.items ++ (record_start line.now.is_record ++ named line.now.name)) }

@@ -9,9 +9,9 @@ pub struct Piece<'p> {
     /// the blanks at the stream's end. Wrong bytes end with the first byte with which no document can continue, or at
     /// the stream's end.
     pub bytes: &'p [u8],
-    /// The line and column at which this piece of a stream begins. A piece is a document, wrong bytes in place of one,
-    /// or the blanks at the stream's end. Blanks before a document or wrong bytes belong to the piece, so it begins
-    /// with them.
+    /// The line and column at which this piece of a stream begins, both counted from 1, the column in bytes. A piece is
+    /// a document, wrong bytes in place of one, or the blanks at the stream's end. Blanks before a document or wrong
+    /// bytes belong to the piece, so it begins with them.
     pub place: LineColumn,
     /// The kind of this piece of a stream: a document, wrong bytes in place of one, or blanks.
     pub kind: Kind,

@@ -58,7 +58,8 @@ pub trait Visitor {
 /// Why `visit_documents`, which calls a visitor for each document of a stream, has ended.
 #[derive(Clone, Copy, Debug, Drop, PartialEq, Eq)]
 pub enum How<S> {
-    /// The visits ended because the stream was read to its end, and each document was visited.
+    /// Why `visit_documents`, which calls a visitor for each document of a stream, has ended: the stream was read to
+    /// its end, and each of its documents was visited.
     Whole,
     /// Why the loop that calls a visitor for each document of a stream ended: the visitor needed no more documents.
     Enough,
@@ -85,9 +86,9 @@ pub struct Ended<S> {
 
 /// Reads a stream of documents, skipping a byte order mark at its beginning, and calls the visitor for each document,
 /// in order, as soon as its bytes are read. At the end of the stream the visitor is also called for the blanks there,
-/// even if there are none. Returns the sum of the matches that the visitor reported, and why the visits ended. A malformed
-/// document is visited, too, as soon as its first wrong byte is read; the next document is then searched for after the
-/// line on which the malformed one begins.
+/// even if there are none. Returns the sum of the numbers of matches that the visitor reported, and why the visits
+/// ended. A malformed document is visited, too, as soon as its first wrong byte is read; the next document is then
+/// searched for after the line on which the malformed one begins.
 pub fn visit_documents<R: Input, V: Visitor>(
     alloc: Global,
     reader: &mut R,

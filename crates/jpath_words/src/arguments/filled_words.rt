@@ -18,12 +18,14 @@ use std::alloc::{AllocError, Global};
 pub struct FilledPaths<'a> {
     /// A field: the texts of the options `-e`, in the order of the command line. They are paths, or with `--rows` also
     /// `NAME=PATH`. Without `-e`, this list is empty if the command line has an edit option, such as `--set`; else it
-    /// has one text, the first word that belongs to no option.
+    /// has one text, the first word that belongs to no option. In each text, the placeholders of `--arg` and
+    /// `--argjson` are already replaced.
     pub paths: Vec<String>,
-    /// A field: a list with the path text of the option `--rows` if that option is on the command line, else an empty
-    /// list.
+    /// A field: if the option `--rows` is on the command line, a list with its path text, in which the placeholders of
+    /// `--arg` and `--argjson` are already replaced; else an empty list.
     pub rows: Vec<String>,
-    /// The edit options in the order of the command line, each with its path text.
+    /// A field: the edit options in the order of the command line, each with its path text, in which the placeholders
+    /// of `--arg` and `--argjson` are already replaced.
     pub edits: Vec<FilledEdit<'a>>,
 }
 
@@ -35,10 +37,10 @@ pub struct FilledEdit<'a> {
     pub path: String,
 }
 
-/// The path texts of the command line, in which each placeholder `{NAME}` is replaced by the text or number that
-/// `--arg` or `--argjson` sets for NAME. Errors that are printed here: the name of an `--arg` or `--argjson` is empty,
-/// is used twice or is used by no path, or what `--argjson` sets is no number. Other errors: there is no path, or
-/// memory ran out.
+/// Returns the path texts of the command line `words`, in which each placeholder `{NAME}` is replaced by the text or
+/// number that `--arg` or `--argjson` sets for NAME. The call prints these errors: an `--arg` or `--argjson` has an
+/// empty name, the name of another one, or a name that no path uses; or what `--argjson` sets is no number. It does not
+/// print the other errors: there is no path, or memory ran out.
 pub fn fill_paths<'a>(
     rt: &(impl Eprint + Alloc<A = Global>),
     words: &Words<'a>,
@@ -58,10 +60,10 @@ pub fn fill_paths<'a>(
     })
 }
 
-/// Returns a copy of the parsed command line `words` in which each path text is replaced by the one that `filled` has
-/// for it: there, the placeholders `{NAME}` are already replaced. The copy has the paths and edits of `filled`, which
-/// should have been made from `words`; the call does not test that. The copy has no `--arg` and no `--argjson`, and its
-/// field `rest` has only the files. Errors: `Words` if there is no path, or `OutOfMemory`.
+/// Returns a copy of the parsed command line `words` with the paths, the path of `--rows` and the edits of `filled`, in
+/// which the placeholders `{NAME}` are already replaced. `filled` should have been made from `words`; the call does not
+/// test that. The copy has no `--arg` and no `--argjson`, and its field `rest` has only the files. Errors: `Words` if
+/// there is no path, or `OutOfMemory`.
 pub fn words_with_paths<'a>(
     alloc: Global,
     words: &Words<'a>,

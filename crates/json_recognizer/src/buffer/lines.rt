@@ -6,7 +6,7 @@ ghost use Rattle.json_recognizer.specs.Lines.{line_ends, place_behind};
 
 use crate::buffer::piece::LineColumn;
 
-/// How many blanks (spaces, tabs, line ends) are at the front of the bytes.
+/// How many bytes at the front of the given bytes are blanks (spaces, tabs, line feeds, carriage returns).
 pub fn count_blanks(bytes: &[u8]) -> usize
     ensures blanks { result ≡ blanks_len bytes.now }
     ensures within { result ≤ length bytes.now }
@@ -55,7 +55,8 @@ fn count_behind_line_end(bytes: &[u8]) -> Option<usize>
     bytes.iter().rev().position(|byte| *byte == b'\n')
 }
 
-/// Returns the line and column just after these bytes; `place` is the line and column of the first of them.
+/// Returns the line and column (both from 1, the column in bytes) just after the given bytes; `place` is the line and
+/// column of the first of these bytes.
 #[inline(always)]
 pub fn place_after(place: LineColumn, bytes: &[u8]) -> LineColumn
     ensures { (passed : List ℕ) → place ≡ place_behind passed → result ≡ place_behind (passed ++ bytes.now) }

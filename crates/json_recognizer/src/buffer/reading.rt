@@ -10,7 +10,7 @@ use jsonpath_streams::{Input, IoFailed};
 use std::alloc::AllocError;
 
 // How many bytes are asked for at a time.
-const CHUNK: usize = 131072;
+const CHUNK: usize = 65536;
 
 /// Why a stream of documents could not be read further.
 #[derive(Clone, Copy, Debug, Drop, PartialEq, Eq)]
@@ -33,8 +33,8 @@ impl From<AllocError> for ReadFailure {
 
 impl StreamBuffer {
     /// Reads the stream until its next piece is found, and returns what that is: a document, wrong bytes in place of
-    /// one, or, at the stream's end, blanks, possibly none. Errors: `Failed` if a read fails (all bytes read so far
-    /// stay), or `OutOfMemory`.
+    /// one, or, at the stream's end, blanks, possibly none. Errors: `Failed` if a read fails (all bytes that were read
+    /// before stay in the buffer), or `OutOfMemory`.
     pub fn read_next_piece<R: Input>(&mut self, reader: &mut R) -> Result<Kind, ReadFailure>
         requires { IsReady self.old }
         ensures sound { IsSound self.new }

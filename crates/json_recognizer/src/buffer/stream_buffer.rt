@@ -65,7 +65,8 @@ impl StreamBuffer {
         &self.bytes[self.start..self.end]
     }
 
-    /// The line and column in the stream where the current piece, a document or wrong bytes in place of one, begins.
+    /// The line and column (both from 1, the column in bytes) in the stream where the current piece begins. This piece
+    /// is a document or wrong bytes in place of one, with the blanks before it.
     pub fn line_and_column(&self) -> LineColumn
         ensures { result ≡ self.now.place }
     {
@@ -82,10 +83,10 @@ impl StreamBuffer {
         self.end <= self.seen
     }
 
-    /// Returns the line and column in the stream of the first wrong byte of the current piece. If the stream ends
-    /// within this piece, returns those of the piece's last byte or, if this byte is a line end, column 0 of the next
-    /// line. Only to be called if the piece is wrong bytes in place of a document; for any other piece the result has
-    /// no meaning.
+    /// Returns the line and column in the stream, both from 1 and the column in bytes, of the first wrong byte of the
+    /// current piece. If the stream ends inside the document and no byte is wrong, returns those of the piece's last
+    /// byte or, if this byte is a line end, the next line and the column 0, which is no byte's column. Only to be
+    /// called if the piece is wrong bytes in place of a document; for any other piece the result has no meaning.
     pub fn place_of_refusal(&self) -> LineColumn
         requires { IsSound self.now }
         ensures { (passed stream : List ℕ) → StandsBehind self.now passed → (wrong_in self.now ≡ Found.GoesOn → piece_of self.now ≡ stream) → ((more : List ℕ) × (stream ≡ left self.now ++ more)) → result ≡ place_of (wrong_in self.now) passed stream }
@@ -100,7 +101,7 @@ impl StreamBuffer {
         }
     }
 
-    /// The line and column just after all bytes of the stream that were read so far.
+    /// The line and column (both from 1, the column in bytes) just after all bytes of the stream that were read so far.
     pub fn place_behind_all(&self) -> LineColumn
         requires { self.now.start ≤ length self.now.bytes.items }
         ensures { (passed : List ℕ) → StandsBehind self.now passed → result ≡ place_behind (passed ++ left self.now) }

@@ -80,10 +80,11 @@ impl<P: AnyPath> KeptPath<P> {
     }
 
     /// Calls the closure once for each selected location below the root, with the value that the earlier updates left
-    /// there, and returns the changed document: `Some` replaces the value, `None` removes it. The locations come in
-    /// document order: parents before children, members by their names' bytes, items by index. They are fixed
-    /// beforehand: after an item was removed, the next item is at its location; a location that no longer exists is
-    /// skipped. The only error is `OutOfMemory`; the closure is then not called, and the document is dropped.
+    /// there, and returns the changed document. If the closure returns `Some`, the value in it replaces the old one; if
+    /// it returns `None`, the old value is removed. The locations come in document order: parents before children,
+    /// members by their names' bytes, items by index. They are fixed beforehand: after an item was removed, the next
+    /// item is at the removed item's location; a location that no longer exists is skipped. The only error is
+    /// `OutOfMemory`; the closure is then not called, and the document is dropped.
     ///
     /// ```text
     /// let document = read_document(alloc, b"[1, 2, 3]")?;

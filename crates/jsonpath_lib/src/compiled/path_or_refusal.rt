@@ -58,9 +58,9 @@ impl CompiledPath {
     }
 
     /// The values that the path selects in the document, in the order in which the path finds them, with duplicates.
-    /// They borrow the document alone. An error of compiling the path text was stored, and is returned by this call:
-    /// `Path`, if the text is no path, with a message that shows the text and a row of `^` up to its error; or
-    /// `OutOfMemory`. The error is also `OutOfMemory` if memory runs out in this call.
+    /// They borrow the document alone. If the path text could not be compiled, that error was stored, and this call
+    /// returns it: `Path`, if the text is no path, with a message that shows the text and a row of `^` up to the error
+    /// in the text; or `OutOfMemory`. The error is also `OutOfMemory` if memory runs out in this call.
     ///
     /// ```text
     /// let document = read_document(alloc, b"[1, 2, 3]")?;

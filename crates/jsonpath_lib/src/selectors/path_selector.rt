@@ -13,7 +13,7 @@ use serde_json::Value;
 use std::alloc::Global;
 use std::marker::PhantomData;
 
-/// A borrowed document in which values are selected by one path text after another.
+/// A borrowed document: each call of its method `select` returns the values that a path text selects in it.
 ///
 /// ```text
 /// let document = read_document(alloc, b"[1, 2, 3]")?;
@@ -58,7 +58,7 @@ impl<'a> PathSelector<'a> {
     }
 }
 
-/// A borrowed document in which values are selected by one path text after another, and deserialized to a `T`.
+/// A borrowed document: each call of `select` returns what a path text selects in it, each value deserialized to a `T`.
 ///
 /// ```text
 /// let document = read_document(alloc, b"[[1], [2, 3]]")?;

@@ -31,7 +31,7 @@ pub enum FaultKind {
     /// An error of reading a stream of documents: `serde_json` rejects the document, for example because a number is
     /// too large. The error's position is the one that `serde_json` reports, counted from the beginning of the stream.
     Unread,
-    /// An error of a document stream: a read of the input failed. Its position is just after the last byte read.
+    /// An error of reading documents: a read of the input failed. The error's position is after the last byte read.
     ReadFailed,
     /// An error of reading the next document of a stream: memory ran out. Its position is just after the last byte
     /// read, or, if a document was being parsed, the one from `serde_json`, counted from the stream's beginning.
@@ -65,7 +65,8 @@ pub struct DocumentFault {
     pub error: JsonPathError,
 }
 
-/// Prints an error of reading documents: its field `error`, a message with line and column, or `out of memory`.
+/// Prints an error of reading documents as its field `error` is printed: `serde error: ` and, on the next line, a
+/// message that ends with the line and column; or `out of memory`.
 impl fmt::Display for DocumentFault {
     ghost output = { λ fault. Some (error_text fault.error) };
 

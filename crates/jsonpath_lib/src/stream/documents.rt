@@ -10,11 +10,13 @@ use jsonpath_streams::{Bytes, Input};
 use serde_json::Value;
 use std::alloc::Global;
 
-/// Iterator over the JSON documents of a text or stream, separated by line ends or blanks (none needed after a closing
-/// bracket, a quote or a word such as `true`). It reads one at a time, so reading a log takes the memory of one record.
+/// Iterator over the JSON documents of a text or stream, separated by whitespace: spaces, tabs or line ends (none
+/// needed after a closing bracket, a closing quote or a word such as `true`). It reads one document at a time, so
+/// reading a log takes the memory of one record.
 ///
-/// A number ends before a blank, `[`, `{`, `"` or the stream's end; any other document is returned once its last byte
-/// is read. The first error is the last item. A syntax error is at the first byte that can continue no document.
+/// A number ends before whitespace, `[`, `{`, `"` or the stream's end; any other document is returned once its last
+/// byte is read. The first error is the last item. The position of a syntax error is that of the first byte with which
+/// no document can continue.
 ///
 /// ```text
 /// let log = b"{\"ms\": 7}\n{\"ms\": 900}\n[1][2]";

@@ -34,10 +34,9 @@ use std::fmt;
 /// ```
 #[derive(Drop)]
 pub struct MaskFault {
-    /// A field of the error of an update by several path texts: the index, from 0, of the first text that has a syntax
-    /// error. `None` if memory ran out.
+    /// A field of an update's error: the index, from 0, of the first path text that is no path; `None` for no memory.
     pub index: Option<usize>,
-    /// Why a change by path texts failed: `Path`, with a message, for the first that is no path, or `OutOfMemory`.
+    /// A field of an update's error: `Path`, with a message, for the first path text that is no path; or `OutOfMemory`.
     pub fault: JsonPathError,
     /// A field of the error of a change by several path texts: the document that was passed to the failed call in order
     /// to be changed. It is as it was before the call.

@@ -22,8 +22,8 @@ pub enum Atom<'a, N = Decimal> {
     Null,
     /// One kind of value, as comparisons see it: a boolean, `true` or `false`.
     Bool(bool),
-    /// One kind of value, as comparisons see it: a number, of the type `N`. If `N` is `Decimal`, it is an `i64`, a `u64`, or a
-    /// number literal of a path; such a literal is exact to 18 decimal places.
+    /// One kind of value, as comparisons see it: a number, of the type `N`. If `N` is `Decimal`, it is an `i64`, a
+    /// `u64`, or a number literal of a path; such a literal has at most 18 decimal places, and its number is exact.
     Number(N),
     /// One kind of value, as comparisons see it: a text, that is, a JSON string or a quoted text of a path. The field has its
     /// content, without the quotes and with the escapes resolved.

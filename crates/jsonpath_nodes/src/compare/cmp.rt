@@ -13,8 +13,9 @@ use jsonpath_paths::{Decimal, FilterToken};
 use serde_json::Value;
 use std::cmp::Ordering;
 
-/// One of the six comparisons, such as `<`, with a method for each kind of value. It is kept for code that was written
-/// for the Rust crate `jsonpath_lib`; conditions of paths are decided by `holds_atoms` instead.
+/// A trait that the types for the six comparisons implement, such as `CmpLt` for `<`. Its methods return whether the
+/// comparison holds between two booleans, numbers or texts, or between values of different kinds. It is kept for code
+/// written for the Rust crate `jsonpath_lib`; conditions of paths are decided by `holds_by_fractions` or `holds_atoms`.
 ///
 /// ```text
 /// assert!(rt; CmpLt.cmp_bool(false, true));
@@ -104,7 +105,7 @@ impl Compares for CmpNe {
     }
 }
 
-/// The comparison `>`.
+/// A type for the comparison `>`, with the trait `Cmp`'s methods: `cmp_string` compares two texts by their bytes.
 ///
 /// ```text
 /// assert!(rt; CmpGt.cmp_string("b", "a"));
@@ -121,7 +122,7 @@ impl Compares for CmpGt {
     }
 }
 
-/// The comparison `>=`.
+/// A type for the comparison `>=`, with the trait `Cmp`'s methods: `cmp_bool` has true greater than false.
 ///
 /// ```text
 /// assert!(rt; CmpGe.cmp_bool(true, true));
@@ -155,7 +156,7 @@ impl Compares for CmpLt {
     }
 }
 
-/// The comparison `<=`.
+/// A type for the comparison `<=`, with the trait `Cmp`'s methods: `cmp_string` compares two texts by their bytes.
 ///
 /// ```text
 /// assert!(rt; CmpLe.cmp_string("a", "b"));

@@ -25,12 +25,13 @@ use crate::tree::Tree;
 use jsonpath_paths::Decimal;
 use std::alloc::{AllocError, Global};
 
-/// A trait of nodes (see `Mark`) that an evaluation passes from step to step of a path. Of nodes without locations, that
-/// is, of values of a `Tree`, it is not known which are at the same location: a method that needs to know it then returns
-/// the error `Halt::NeedsLocations`.
+/// A trait of nodes (see `Mark`) that an evaluation passes from step to step of a path. Its implementors are each
+/// `TreeNode`, a node with its location, and each `Tree`, such as `&Value`, a node without its location. Of nodes
+/// without locations, it is not known which are at the same location: a method that needs to know this returns the
+/// error `Halt::NeedsLocations`.
 ///
-/// The candidates of a filter with a relative query of at least one segment, such as `@.a`, are the non-array values that
-/// are left after each array is replaced by its items again and again.
+/// The candidates of a filter with a relative query of at least one segment, such as `@.a`, are the values that it
+/// tests: those of the nodes to which it is applied, each array replaced by its items until no array is left.
 ///
 /// ```text
 /// let document = Value::Null;
@@ -40,40 +41,40 @@ use std::alloc::{AllocError, Global};
 pub trait Carried: Mark {
     /// An associated type, chosen by the implementor: the type of the numbers that comparisons use, such as `Decimal`.
     type Number: Fraction;
-    /// An associated type, chosen by the implementor: the error of an evaluation over such nodes, such as `NoMemory`.
+    /// An associated type, chosen by the implementor: the error of evaluating over its nodes, such as `NoMemory`.
     type Stop: From<NoMemory> + From<AllocError>;
 
-    /// A method that implementors provide: returns what comparisons use of this node's value: its kind, and the content
-    /// of a boolean, a number or a text.
+    /// A method that implementors provide: the value's kind, with the content of a boolean, a number or a text.
     fn atom(&self) -> Result<Atom<'_, Self::Number>, Self::Stop>
         ensures { IfOk result (λ atom. seen_with Self.Number.fraction atom ≡ seen (Self.content self.now)) };
 
-    /// A method that implementors provide: converts a number literal of a path to the type of the numbers that comparisons
-    /// use.
+    /// A method that implementors provide: converts a path's number literal to the number type that comparisons use.
     fn number_of_literal(&self, alloc: Global, literal: Decimal) -> Result<Self::Number, Self::Stop>
         ensures { IfOk result (λ number. Self.Number.fraction number ≡ (decimal_units literal, 18)) };
 
-    /// A method that implementors provide: returns the candidates of a filter with a relative query of at least one
-    /// segment, found from these nodes, each location once.
+    /// A method that implementors provide: returns the candidates, that is, the nodes that a filter tests if it is
+    /// applied to these nodes and has a relative query of at least one segment, such as `@.a`: these nodes, each array
+    /// replaced by its items, again and again until no array is left. Each location is returned once.
     fn flattened_once(alloc: Global, marks: &[Self]) -> Result<Vec<Self>, Self::Stop>
         ensures { IfOk result (λ found. MarksLeadBy Self.located Self.stand Self.content flattened marks.now found.items) };
 
-    /// A method that implementors provide: returns the candidates of a filter after `..` with a relative query of at least
-    /// one segment, found from these nodes, each location once.
+    /// A method that implementors provide: returns the candidates, that is, the nodes that a filter after `..` tests if
+    /// it is applied to these nodes and has a relative query of at least one segment, as in `..[?(@.a)]`: the
+    /// descendants of these nodes that are no arrays. Each location is returned once.
     fn candidates_below_once(alloc: Global, marks: &[Self]) -> Result<Vec<Self>, Self::Stop>
         ensures { IfOk result (λ found. MarksLeadBy Self.located Self.stand Self.content (λ doc ls. flattened doc (step doc every (all_below doc ls))) marks.now found.items) };
 
-    /// A method that implementors provide: returns the nodes in document order, each location once.
+    /// A method that implementors provide: returns the nodes in document order (parents before children, members by
+    /// their names' bytes, items by index), each location once.
     fn marks_in_document_order(alloc: Global, marks: &[Self]) -> Result<Vec<Self>, Self::Stop>
         ensures { IfOk result (λ found. MarksLeadBy Self.located Self.stand Self.content (λ _ ls. once_in_order ls) marks.now found.items) };
 
-    /// A method that implementors provide: goes through the nodes in order, and returns them without each node that is at
-    /// or below the node kept last.
+    /// A method that implementors provide: in order, returns each node that isn't at or below the last one returned.
     fn topmost_marks(alloc: Global, marks: &[Self]) -> Result<Vec<Self>, Self::Stop>
         ensures { IfOk result (λ found. MarksLeadBy Self.located Self.stand Self.content (λ _ ls. topmost ls) marks.now found.items) };
 
-    /// A method that implementors provide: returns the ascending indexes, from 0, of the nodes whose location one of
-    /// `others` has.
+    /// A method that implementors provide: returns the indexes, from 0 and ascending, of those of the nodes that have
+    /// the same location as a node of `others`.
     fn indexes_standing_among(
         alloc: Global,
         marks: &[Self],
@@ -83,7 +84,7 @@ pub trait Carried: Mark {
             → numbers.items ≡ numbers_where (λ l. list_any (is_same l) (once_in_order ms)) 0 ls) };
 }
 
-/// Implements the trait `Carried` (a node that is passed from step to step) for the values of each `Tree`.
+/// Implements `Carried` (nodes passed from step to step) for each type that is a `Tree`: nodes without their locations.
 impl<T: Tree> Carried for T {
     type Number = T::Number;
 

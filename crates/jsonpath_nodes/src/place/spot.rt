@@ -1,5 +1,4 @@
-//! `TreeNode`, a node: a value of a document with its location; `Spot`, one of a `serde_json` value. Children of one value
-//! share its location.
+//! `TreeNode`, a value of a document with its location, which siblings share; `Spot`, one of a `serde_json` value.
 
 ghost use Rattle.std.specs.Prelude.{◌≡◌, ◌↔◌, [], ◌∷◌, ◌++◌, ◌^◌, ◌-◌, length, min, pos, true, IsTrue, IfOk, OnOk, IfSome, IfNone, option_to_list};
 ghost use Rattle.serde_json.specs.View.{view};
@@ -55,8 +54,8 @@ pub enum PathStep<'a> {
 /// ```
 pub type Spot<'a> = TreeNode<&'a Value>;
 
-/// A node of a document of any `Tree`: `T`, the handle to its value, with its location. `Spot` is the node of a
-/// `serde_json` value.
+/// A node of a document: a handle to a value, with the value's location. The handle's type `T` can be any type that
+/// implements `Tree`, the trait of such handles. `Spot` is `TreeNode<&Value>`, the node of a `serde_json` value.
 ///
 /// ```text
 /// let root = TreeNode::at_root(&document);
@@ -220,7 +219,7 @@ impl<T: Tree> TreeNode<T> {
         }
     }
 
-    /// The value of the node: of a `Spot` a reference into the document, of a node of another tree its handle.
+    /// Returns a handle to the node's value. If the node is a `Spot`, the handle is a reference into the document.
     ///
     /// ```text
     /// let root = Spot::root(alloc, &document);

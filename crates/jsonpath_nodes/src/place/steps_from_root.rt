@@ -8,7 +8,7 @@ ghost use Rattle.jsonpath_nodes.specs.place.SpotPlace.{key_bytes, location_at, p
 use crate::place::spot::{PathStep, Steps};
 use crate::place::trail::{PathTo, Trail};
 
-/// Iterator over the steps from the root to a node. Allocates no memory: finds each by going back from the last.
+/// Iterator over the steps from the root to a node. Allocates nothing: to find one, it goes back from the last step.
 ///
 /// ```text
 /// for list in root.children(alloc)?.as_slice() {

@@ -180,7 +180,8 @@ impl ValueWalker {
         plain_step_from_all_below(alloc, spots, &PlainStep::Nth(n))
     }
 
-    /// Returns each given node and its descendants in preorder: parents first, items by index, members by name.
+    /// Returns each given node and all its descendants, node after node, in preorder: each value before its children,
+    /// items by index, members by their names' bytes.
     ///
     /// ```text
     /// let found = ValueWalker::below(alloc, &root)?;
@@ -196,10 +197,10 @@ impl ValueWalker {
         Ok(found)
     }
 
-    /// The values that a filter tests when it is applied to the given nodes, if the filter has a relative query with at
-    /// least one segment, such as `@.a`. A node that is no array is tested itself. In place of an array its items are
-    /// tested, and in place of an item that is an array again its items, until no array is left. Each location is
-    /// returned once, at its first occurrence. Named as in the Rust crate `jsonpath_lib`.
+    /// Returns the values that a filter tests when it is applied to the given nodes, if the filter has a relative query
+    /// with at least one segment, such as `@.a`. A node that is no array is tested itself. An array is replaced by its
+    /// items, and each item that is an array by its items in turn, until no array is left. Each location is returned
+    /// once, at its first occurrence. Named as in the Rust crate `jsonpath_lib`.
     ///
     /// ```text
     /// let candidates = ValueWalker::walk_dedup_all(alloc, &root)?;

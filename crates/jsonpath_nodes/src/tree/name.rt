@@ -26,7 +26,7 @@ impl<'a> Name for &'a String {
     }
 }
 
-/// Implements `Name` (a member's name) for texts, as exact trees have them.
+/// Implements `Name` (a member's name) for `&str`, the names in a JSON text's tree with numbers as written.
 impl<'a> Name for &'a str {
     ghost bytes = { λ name. name.now };
 
@@ -36,8 +36,7 @@ impl<'a> Name for &'a str {
     }
 }
 
-/// A trait: a small handle to a value of a document, which can be copied, such as `&Value`. `Tree` says what can be read
-/// through it.
+/// A trait: a small handle to a value of a document, such as `&Value`; it can be copied. `Tree` says what can be read.
 ///
 /// ```text
 /// let handle = &document;

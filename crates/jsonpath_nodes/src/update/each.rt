@@ -34,8 +34,9 @@ pub fn replace_at<F: FnMut(Value) -> Option<Value>>(
     }
 }
 
-/// Puts null, in a document, at each location of a list. Skips the root, and each location that doesn't exist, or that
-/// is below another location of the list, other than the root. The locations may come in any order and repeat.
+/// Replaces, in a document, the value at each location of a list by null. The root and locations that don't exist are
+/// skipped. A location that is below another one of the list is skipped, too, unless that other one is the root. The
+/// locations may come in any order and repeat.
 ///
 /// ```text
 /// let mut document = read_document(alloc, b"[1, [2, 3]]")?;

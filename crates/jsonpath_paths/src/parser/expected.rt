@@ -31,7 +31,8 @@ pub enum Expected {
     /// What a path could go on with at a syntax error: a word (an unquoted token) that is `true` or `false` (in any
     /// letter case), an integer, or the part of a number before its decimal point.
     Literal,
-    /// What a path could go on with at a syntax error: a number's digits after the decimal point, an unquoted token.
+    /// What a path could go on with at a syntax error: the digits after a number's decimal point, such as the `5` of
+    /// `2.5`. They are an unquoted token of their own.
     Fraction,
 }
 
@@ -174,8 +175,8 @@ fn longest_front(alloc: Global, text: &str) -> Result<Option<Vec<Lexeme>>, Alloc
     Ok(Some(found))
 }
 
-/// What would have been allowed at the position of a path text's syntax error: each token that can follow, in some
-/// path, the tokens before the error. `None` for a text that is a path. The only error is that memory runs out.
+/// What could follow, in some path, the tokens before a path text's syntax error: each kind of token, and whether the
+/// path could end there. `None` for a text that is a path. The only error is that memory runs out.
 ///
 /// ```text
 /// let expected = expected_tokens(alloc, "$.a[?(@.b) x]")?;

@@ -113,8 +113,8 @@ impl<'a> PathParser<'a> {
 
     /// Passes this path's token list, which is its syntax tree written out as a list, to `handler`, token by token.
     /// With each token it passes a function that returns the part of the path text at a span. Always returns `Ok`, also
-    /// if the handler could not receive some token; the handler's `failed` then returns true. The call parses nothing:
-    /// its name is that of the Rust crate `jsonpath_lib`.
+    /// if the handler could not receive some token; the handler's `failed` then returns true. The call parses nothing;
+    /// it is named as in the Rust crate `jsonpath_lib`.
     ///
     /// ```text
     /// let path = PathParser::compile(alloc, "$..a")?;
@@ -184,7 +184,7 @@ impl<'a> PathParser<'a> {
         tree
     }
 
-    /// Turns the path into the syntax tree of its text and its token list, which is that tree written out as a list.
+    /// Turns the path into a pair: the syntax tree of its text, and its token list, that tree written out as a list.
     ///
     /// ```text
     /// let (tree, tokens) = PathParser::compile(alloc, "$.a[0]")?.into_tree_and_tokens();

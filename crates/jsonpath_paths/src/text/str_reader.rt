@@ -14,7 +14,7 @@ use std::error::Error;
 use std::fmt;
 use std::marker::Model;
 
-/// The error of reading a character at the end of a text. `Display` prints `Eof`.
+/// The error of reading a character when none is left in the text. `Display` prints `Eof`.
 ///
 /// ```text
 /// let mut reader = StrReader::new("");
@@ -54,7 +54,7 @@ pub struct StrRange {
 }
 
 impl StrRange {
-    /// The span that begins at byte `pos` and has `offset` bytes. Named as in the Rust crate `jsonpath_lib`.
+    /// The span of `offset` bytes after the first `pos` bytes of a text. Named as in the Rust crate `jsonpath_lib`.
     ///
     /// ```text
     /// let word = StrRange::new(2, 3);
@@ -215,7 +215,7 @@ impl<'a> StrReader<'a> {
         self.pos
     }
 
-    /// The whole text that is read, from its beginning.
+    /// The reader's whole text: what it has taken and what is left.
     ///
     /// ```text
     /// let mut reader = StrReader::new("가b");

@@ -76,7 +76,7 @@ impl<'a> TokenReader<'a> {
 
     /// Takes the next token. If none begins at the reader's position, returns an error and keeps the position, so that
     /// each later call returns the same error: `Eof` at the end of the text, at a quoted text that is not closed, or if
-    /// the character at the position is the text's last; else `Position` with the reader's position.
+    /// the character at the position is the text's last; else `Position` with the number of bytes before the position.
     ///
     /// ```text
     /// let mut reader = TokenReader::new("@ ");
@@ -95,7 +95,7 @@ impl<'a> TokenReader<'a> {
         found
     }
 
-    /// The syntax error at the end of what was read or peeked: `Eof` if the text ends there, else its `Position`.
+    /// Makes a syntax error after what was read or peeked: `Eof` at the text's end, else `Position`, in bytes.
     ///
     /// ```text
     /// let mut reader = TokenReader::new("$[a]");
@@ -129,7 +129,7 @@ impl<'a> TokenReader<'a> {
     }
 }
 
-/// Clones a reader: the clone has the same text and position. `clone` allocates no memory and always returns `Ok`.
+/// Clones a token reader: both have read, and peeked, up to the same positions. `clone` always returns `Ok`.
 impl<'a> Clone for TokenReader<'a> {
     ghost use Rattle.std.specs.Prelude.{⊤};
 

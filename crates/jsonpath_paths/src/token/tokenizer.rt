@@ -365,7 +365,7 @@ impl<'a> Tokenizer<'a> {
 
     /// Takes the next token. If none begins at the tokenizer's position, returns an error, and the position stays, so
     /// each later call returns the same error. It is `Eof` at the text's end, at an unclosed quoted text, or if the
-    /// character at the position is the text's last one. Else it is `Position` with the tokenizer's position.
+    /// character at the position is the text's last one; else `Position` with the number of bytes before the position.
     ///
     /// ```text
     /// let mut tokenizer = Tokenizer::new("=1");

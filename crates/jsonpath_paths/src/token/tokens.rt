@@ -12,8 +12,7 @@ use std::alloc::AllocError;
 use std::error::Error;
 use std::fmt;
 
-/// The error of reading a path text: a syntax error with its position, a text that ends too early, or out of memory.
-/// `Display` prints `Eof`, `out of memory`, or `Position:` with the byte position that the variant has.
+/// The error of reading a path text: a syntax error at a position, a syntax error at the text's end, or out of memory.
 ///
 /// ```text
 /// let error = PathParser::compile(alloc, "$[a]")
@@ -89,7 +88,7 @@ pub enum Kind {
     OpenParenthesis,
     /// The kind of the token `)` in a path.
     CloseParenthesis,
-    /// The kind of a token that is a word: a run of characters without quotes, such as a name or a number.
+    /// The kind of a token that is a word: an unquoted run of characters, such as a name or a number.
     Key,
     /// The kind of a token that is a text in double quotes.
     DoubleQuoted,
@@ -111,7 +110,7 @@ pub enum Kind {
     And,
     /// The kind of the token `||` in a path.
     Or,
-    /// The kind of a token that is a run of blanks.
+    /// The kind of a token that is a run of whitespace characters.
     Whitespace,
 }
 
@@ -152,7 +151,7 @@ pub enum Token {
     OpenParenthesis(StrRange),
     /// The token `)`, with its span.
     CloseParenthesis(StrRange),
-    /// A token that is a word (a run of characters without quotes, such as a name or a number), with its span.
+    /// A token that is a word (an unquoted run of characters, such as a name or a number), with its span.
     Key(StrRange),
     /// A token that is a text in double quotes, with its span, quotes included.
     DoubleQuoted(StrRange),
@@ -174,7 +173,7 @@ pub enum Token {
     And(StrRange),
     /// The token `||`, with its span.
     Or(StrRange),
-    /// A token that is a run of blanks between other tokens, as long as possible, with its span.
+    /// A token that is a run of whitespace characters outside quoted texts, as long as possible, with its span.
     Whitespace(StrRange),
 }
 
@@ -291,8 +290,8 @@ impl Token {
         self.kind() == other.kind()
     }
 
-    /// Returns a token of the same kind with another span. This token itself stays as it is, in spite of the name,
-    /// which is that of the Rust crate `jsonpath_lib`.
+    /// Returns a token of the same kind with the given span. This token itself stays as it is, in spite of the method's
+    /// name, which is the same as in the Rust crate `jsonpath_lib`.
     ///
     /// ```text
     /// let mut dot = Token::Dot(StrRange::new(1, 1));
@@ -307,7 +306,7 @@ impl Token {
     }
 }
 
-/// The operator of a filter between two sides: one of six comparisons, or of the two connectives.
+/// An operator of a filter, written between its two sides: `&&`, `||`, or one of six comparisons, such as `<`.
 ///
 /// ```text
 /// let path = PathParser::compile(alloc, "$[?(@.a || @.b)]")?;
@@ -323,11 +322,11 @@ pub enum FilterToken {
     Equal,
     /// An operator of a filter: the comparison `!=`.
     NotEqual,
-    /// The comparison `<`.
+    /// An operator of a filter: the comparison `<`.
     Little,
     /// An operator of a filter: the comparison `<=`.
     LittleOrEqual,
-    /// The comparison `>`.
+    /// An operator of a filter: the comparison `>`.
     Greater,
     /// An operator of a filter: the comparison `>=`.
     GreaterOrEqual,
@@ -368,8 +367,9 @@ pub enum ParseToken {
     Absolute,
     /// The token that begins a path from the value that a filter tests, `@`.
     Relative,
-    /// A token of a path's token list (the syntax tree written out as a list): it begins a step after a single dot,
-    /// such as `.a`. The step selects among the children of each node.
+    /// A token of a path's token list (the syntax tree written out as a list): it begins a step with a single dot and
+    /// no brackets, such as `.a`. The step selects among the children of each node that the steps before it have
+    /// selected.
     In,
     /// The token that begins a step after `..`: the step selects among the children of each node that the steps before
     /// it have selected, and among the children of all descendants of these nodes.
@@ -394,7 +394,7 @@ pub enum ParseToken {
     Range(Option<i64>, Option<i64>, Option<u64>),
     /// A token of a path's token list (its written-out syntax tree): two or more indexes of one step, in text order.
     Union(Items<i64>),
-    /// A token: the single index that a step selects, or a number literal that is a side of a comparison.
+    /// A token of a path's token list (the syntax tree as a list): a step's single index, or a number to compare with.
     Number(Decimal),
     /// A token of a path's token list (the syntax tree written out): a boolean literal compared in a filter.
     Bool(bool),

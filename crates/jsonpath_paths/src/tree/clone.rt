@@ -32,7 +32,7 @@ impl Clone for ParseToken {
     }
 }
 
-/// Clones a syntax tree: the clone is the same tree. `clone` returns a `Result`; its only error is out of memory.
+/// Clones a syntax tree: the clone is an equal tree. `clone` returns a `Result`; its only error is out of memory.
 impl Clone for ParserNode {
     ghost is_clone = { λ node copy. path_of copy ≡ path_of node };
 

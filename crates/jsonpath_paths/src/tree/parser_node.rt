@@ -32,7 +32,8 @@ pub struct ParserNode {
 #[cycle(tree)]
 #[derive(Drop)]
 pub struct ParserStep {
-    /// Whether `..` begins the step, so that it selects among the children of each node and of all its descendants.
+    /// A field of a path's step: whether the step begins with `..`. Such a step selects among the children of each node
+    /// that the part of the path before it selects, and among the children of all descendants of these nodes.
     pub leaves: bool,
     /// A field of a path's step in the syntax tree: whether the step is written in brackets, such as `['a']`.
     pub bracket: bool,
@@ -53,10 +54,11 @@ pub enum Inner {
     /// What a step of a path selects, given as one token: one name or several, one index or several, a slice, or all
     /// children. A step that is a filter is not given so.
     Token(ParseToken),
-    /// A filter as what a step selects: of the values that it tests, the step selects those that meet this condition.
-    /// It tests the values that the steps before it have selected or, after `..`, what `..*` selects from them. But if
-    /// the condition has a path that begins with `@` and has a step, as in `@.a`, the filter does not test arrays: in
-    /// place of an array it tests its items, and in place of an item that is an array that array's items, and so on.
+    /// What a step of a path selects, if it is a filter: those of the tested values that meet this condition. Without
+    /// `..` before the filter, the tested values are those that the steps before it selected; with `..`, they are what
+    /// `..*` selects from those. But if the condition has a path (inner filters don't count) that begins with `@` and
+    /// has a step, such as `@.a`, arrays are not tested. In place of an array its items are tested; in place of an item
+    /// that is an array, the items of that item are tested, and so on. Each location is then tested only once.
     Filter(Condition),
 }
 
@@ -74,7 +76,7 @@ pub enum Condition {
     Lone(ParserNode),
     /// A condition of a filter: a comparison, given by its left side, its operator and its right side.
     Compare(Term, FilterToken, Term),
-    /// A filter's condition: two, joined by `&&` or `||`, of equal precedence: `a && b || c` is `a && (b || c)`.
+    /// A filter's condition: two joined by `&&` or `||`. Both group to the right: `a && b || c` is `a && (b || c)`.
     Join(FilterToken, Box<Condition>, Box<Condition>),
 }
 

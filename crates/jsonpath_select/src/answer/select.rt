@@ -69,8 +69,9 @@ pub fn select_tokens<'a>(
 }
 
 /// The nodes that the path selects in the value: the same set as from `select_path`, in any order, with or without
-/// duplicates. The time is at most the path's length times the document's size times its depth (its depth squared, if a
-/// filter's condition has `..`), even if several `..` reach a node in many ways. The only error: `OutOfMemory`.
+/// duplicates. Up to constant and logarithmic factors, the time is at most the path's length times the document's size
+/// times the document's depth (times the square of this depth instead, if a filter's condition has `..`), even if
+/// several `..` reach a node in many ways. The only error: `OutOfMemory`.
 ///
 /// ```text
 /// let document = read_document(alloc, b"[[[1]]]")?;
@@ -88,9 +89,10 @@ pub fn select_path_in_any_order<'a>(
     spot_set_by_parts(alloc, json, path.parts())
 }
 
-/// The values that the path selects in a document of any `Tree`, such as one with its numbers as a text writes them, in
-/// the order in which the path finds them, with duplicates. The error is the tree's (`Tree::Error`): a number can't be
-/// compared, or memory ran out.
+/// The values that the path selects in a document, in the order in which the path finds them, with duplicates. The
+/// document is given by its root value, of any type that implements the trait `Tree`, such as `&Value` or a type whose
+/// numbers are as a JSON text writes them. The error is that type's `Tree::Error`: a number can't be compared, or
+/// memory ran out.
 ///
 /// ```text
 /// let document = read_document(alloc, b"[1, 2, 3]")?;
@@ -107,8 +109,9 @@ pub fn select_in_tree<T: Tree>(
     values_in_tree(alloc, root, path.parts())
 }
 
-/// The nodes that the path selects in a document of any `Tree`, in the order in which the path finds them, with
-/// duplicates. The error is the tree's (`Tree::Error`): a number can't be compared, or memory ran out.
+/// The nodes (values with their locations) that the path selects in a document, in the order in which the path finds
+/// them, with duplicates. The document is given by its root value, of any type that implements the trait `Tree`, such
+/// as `&Value`. The error is that type's `Tree::Error`: a number can't be compared, or memory ran out.
 ///
 /// ```text
 /// let document = read_document(alloc, b"[1, 2, 3]")?;

@@ -43,9 +43,9 @@ pub struct PathParts<'p> {
     pub tokens: &'p [ParseToken],
 }
 
-/// Any compiled path: a `PathParser`, which borrows its text, a `Node`, which owns it, one of these behind an `Rc`, or
-/// a `Compiled` or `PathCompiled` of this library's crate `jsonpath_lib`. Methods with a `&Value` select in that
-/// document; those with a `&mut Value` change the document at the selected values.
+/// A trait of compiled paths. Its implementors: `PathParser`, which borrows its text; `Node`, which owns its text;
+/// `Compiled` and `PathCompiled` of this library's crate `jsonpath_lib`; and an `Rc` of any of these. Methods with a
+/// `&Value` select in that document; those with a `&mut Value` change the document at the selected values.
 ///
 /// ```text
 /// let mut document = read_document(alloc, b"[1, 2, 3]")?;

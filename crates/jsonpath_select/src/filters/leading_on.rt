@@ -18,8 +18,7 @@ use jsonpath_nodes::{Carried, NoMemory};
 use std::alloc::Global;
 
 impl<'r, 't, M: Carried> Machine<'r, 't, M> {
-    // Marks at where these instructions, with which a path ends, lead from places, step by step. Nothing goes on from no
-    // places.
+    // Marks at where these instructions, with which a path ends, lead from places, step by step; from none, nowhere.
     pub(crate) fn lead_on_to_end(
         &self,
         left: &[Instruction<'_>],

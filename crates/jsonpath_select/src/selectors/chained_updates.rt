@@ -84,10 +84,11 @@ impl<P: AnyPath> HeldPair<P, Value> {
     }
 
     /// Calls the closure once for each selected location below the root, with the value that the earlier updates left
-    /// there: `Some` replaces the value, `None` removes it. The locations come in document order: parents before
-    /// children, members by their names' bytes, items by index. They are found beforehand and stay fixed: after an item
-    /// was removed, the next item is at its location; a location that no longer exists is skipped. Errors, before the
-    /// closure is called: `EmptyPath` (no path), `EmptyValue` (a path, no document), `OutOfMemory`.
+    /// there: if the closure returns `Some`, this replaces the value; if `None`, the value is removed. The locations
+    /// come in document order: parents before children, members by their names' bytes, items by index. They are found
+    /// beforehand and stay fixed: if the item at `$[0]` is removed, the next item is then at `$[0]`, no longer at
+    /// `$[1]`. A location that no longer exists is skipped. Errors, before the closure is called: `EmptyPath` (no
+    /// path), `EmptyValue` (a path, no document), `OutOfMemory`.
     ///
     /// ```text
     /// let mut held = SelectorMut::new();

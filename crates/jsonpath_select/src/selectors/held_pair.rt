@@ -14,7 +14,7 @@ use serde_json::Value;
 use std::alloc::Global;
 use std::marker::Model;
 
-/// What a selector type, such as `Selector`, stores to search: an owned, changeable `Value` or a reference to one.
+/// A trait of what a selector can store to search: `Value`, which it owns and can change, and `&Value`, a borrowed one.
 ///
 /// ```text
 /// let document = read_document(alloc, b"7")?;

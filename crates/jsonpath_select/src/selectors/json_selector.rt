@@ -35,8 +35,7 @@ pub type JsonSelector<'a> = HeldPair<Rc<PathParser<'a>>, &'a Value>;
 pub type JsonSelectorMut<'a> = HeldPair<Rc<PathParser<'a>>, Value>;
 
 impl<'p, V: HeldValue> HeldPair<Rc<PathParser<'p>>, V> {
-    /// Makes a `JsonSelector` or `JsonSelectorMut` with this path, without a value. The only error is `OutOfMemory`;
-    /// the path is then dropped.
+    /// Makes a selector with this path, without a value. The only error is `OutOfMemory`; the path is then dropped.
     ///
     /// ```text
     /// let held = JsonSelector::new(alloc, compile_path(alloc, "$[0]")?)?;

@@ -42,8 +42,9 @@ pub type SelectorMut = HeldPair<Node, Value>;
 
 impl<P: OfNode + Drop, V: HeldValue> HeldPair<P, V> {
     /// Compiles a path text, replaces the selector's path by it, and returns the selector. Errors: `Path` exactly if
-    /// the text is outside the grammar, with a message that shows the text and a row of `^` up to its error; or
-    /// `OutOfMemory`. The selector is then unchanged. Named as in the Rust crate `jsonpath_lib`.
+    /// the text is outside the grammar, or `OutOfMemory`; the selector is unchanged after either. The message of `Path`
+    /// is the text, a line end and a `^` for each byte of the text up to the end of the wrong token, or for each of its
+    /// bytes if the text ends too early. Named as in the Rust crate `jsonpath_lib`.
     ///
     /// ```text
     /// let document = read_document(alloc, b"[1, 2, 3]")?;

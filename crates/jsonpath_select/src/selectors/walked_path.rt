@@ -19,7 +19,7 @@ use std::alloc::Global;
 /// ```
 #[derive(Drop)]
 pub enum WalkedPath<'b> {
-    /// The compiled path of a `Selector`: one that the `Selector` owns.
+    /// One of the two forms in which a `Selector` has its path: a compiled path that it owns.
     Own(Node),
     /// One of the two forms in which a `Selector` has its path: a compiled path that it borrows.
     Lent(&'b Node),

@@ -74,8 +74,9 @@ fn inside_quotes(text: &str) -> Option<&str>
     }
 }
 
-/// Borrows the name or quoted text at a span of a path text, without its quotes; `None` if a quoted text has a
-/// backslash, as in `'a\'b'`. If the span cuts a character or exceeds the text, the name is empty.
+/// Borrows the name or quoted text at a span of a path text, without its quotes. The span is a byte position, from 0,
+/// and a length in bytes. `None` if a quoted text has a backslash, as in `'a\'b'`. If the span begins or ends inside a
+/// character, or exceeds the text, the result is `Some("")`.
 ///
 /// ```text
 /// let name = borrowed_name_at("$['a']", StrRange::new(2, 3));

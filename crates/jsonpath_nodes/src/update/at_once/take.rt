@@ -13,8 +13,9 @@ use crate::memory::NoMemory;
 use crate::place::location::{LocStep, Location};
 use serde_json::{Map, Value};
 
-/// Removes the values at all locations of a list. The locations are those before the call: removing an item moves none
-/// of the others. An array's remaining items keep their order; the root and nonexistent locations are skipped.
+/// Removes the values at all locations of a list. Each location is that of a value before the call, even if an earlier
+/// item of the same array is removed, too. An array's remaining items keep their order and close the gaps; the root and
+/// nonexistent locations are skipped.
 ///
 /// Precondition: the list is in document order (parents before children, members by their names' bytes, items by
 /// index), each location once, as `compute_paths` returns it. Removing allocates no memory and always returns `Ok`.
