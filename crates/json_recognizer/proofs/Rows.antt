@@ -1,5 +1,5 @@
 -- The table is held against the machine by computing.
-use Rattle.std.proofs.Common.{rules, ◌≡◌, ℕ, zero, suc, ◌+◌, ◌-◌, ◌<◌, ◌≤◌, ◌==◌, ◌||◌, ◌&&◌, nat_le, nat_lt, List, [], ◌∷◌, length, get_or, map, Bool, true, false, refl, sym, ap, ◌∙◌, arith}
+use Rattle.std.proofs.Common.{rules, ◌≡◌, ℕ, zero, suc, ◌+◌, ◌-◌, ◌<◌, ◌≤◌, ◌==◌, ◌||◌, ◌&&◌, nat_le, nat_lt, List, [], ◌∷◌, length, get_or, map, Bool, true, false, refl, sym, ap, subst, ◌∙◌, ◌⊎◌, inl, inr, arith}
 use Rattle.std.proofs.lemmas.List.{get_or-map, length-map}
 use Rattle.std.proofs.lemmas.List.FromFn.{get_or-map-range_with_len, get_or-range_with_len}
 use Rattle.std.specs.List.{range_with_len}
@@ -150,6 +150,38 @@ module _ (row byte : ℕ) (is_row : IsRow row) (lt : byte < 256) where
       let within = (column_within byte lt).1 in
       let here = same_at (told (mode_at row)) meant classes letters column Never 0 within (omega (arith, long, within)) row_means in
       by_meaning (mode_at row) (class_of byte) _ (ap (told (mode_at row)) (sym (class_at byte lt)) ∙ here)
+
+letter_of : ℕ → ℕ → ℕ
+letter_of row byte = get_or (get_or TABLE.letters (row - 48) []) (get_or TABLE.columns byte 0 - 35) 0
+
+digit_stays : (row byte : ℕ) → IsRow row → map (letter_of row) (range_with_len 48 10) ≡ map (λ digit. row) (range_with_len 48 10) → 48 ≤ byte → byte < 58 → IsLetter (mode_at row) (class_of byte) row
+unfolding letter_of
+digit_stays row byte is_row stay lo hi =
+    let lt : byte - 48 < 10 = omega (arith, lo, hi) in
+    let is : 48 + (byte - 48) ≡ byte = omega (arith, lo) in
+    let letter : letter_of row byte ≡ row =
+    sym (get_or-map-range_with_len (letter_of row) 48 10 (byte - 48) byte 0 lt is) ∙ ap (λ letters. get_or letters (byte - 48) 0) stay ∙ get_or-map-range_with_len (λ digit. row) 48 10 (byte - 48) byte 0 lt is
+    in
+    subst (IsLetter (mode_at row) (class_of byte)) letter (is_letter row byte is_row (omega (arith, hi)))
+
+-- one more blank before or behind a value or name leaves the row
+pub blank_letter : (row : ℕ) → IsRow row → row ≤ 53 → IsLetter (mode_at row) (class_of 32) row
+unfolding letter_of
+blank_letter row is_row le =
+    let lt : row - 48 < 6 = omega (arith, is_row, le) in
+    let is : 48 + (row - 48) ≡ row = omega (arith, is_row) in
+    let rows : map (λ row. letter_of row 32) (range_with_len 48 6) ≡ map (λ row. row) (range_with_len 48 6) = refl in
+    let letter : letter_of row 32 ≡ row =
+    sym (get_or-map-range_with_len (λ row. letter_of row 32) 48 6 (row - 48) row 0 lt is) ∙ ap (λ letters. get_or letters (row - 48) 0) rows ∙ get_or-map-range_with_len (λ row. row) 48 6 (row - 48) row 0 lt is
+    in
+    subst (IsLetter (mode_at row) (class_of 32)) letter (is_letter row 32 is_row (omega arith))
+
+-- one more digit leaves a number in its row
+pub digit_letter : (row byte : ℕ) → (row ≡ 56) ⊎ (row ≡ 58) ⊎ (row ≡ 61) → 48 ≤ byte → byte < 58 → IsLetter (mode_at row) (class_of byte) row
+unfolding letter_of
+digit_letter row byte (inl is) lo hi = subst (λ row. IsLetter (mode_at row) (class_of byte) row) (sym is) (digit_stays 56 byte (omega arith, omega arith) refl lo hi)
+digit_letter row byte (inr (inl is)) lo hi = subst (λ row. IsLetter (mode_at row) (class_of byte) row) (sym is) (digit_stays 58 byte (omega arith, omega arith) refl lo hi)
+digit_letter row byte (inr (inr is)) lo hi = subst (λ row. IsLetter (mode_at row) (class_of byte) row) (sym is) (digit_stays 61 byte (omega arith, omega arith) refl lo hi)
 
 rows_over : map (λ m. is_over_in m []) MODES ≡ map (λ row. row == 50) (range_with_len 48 64)
 rows_over = refl

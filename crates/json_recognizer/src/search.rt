@@ -8,7 +8,10 @@ ghost use Rattle.json_recognizer.specs.plan.Rows.{IsRow, IsOpen, IsLetter, mode_
 use crate::state::State;
 use crate::steps::take_letter;
 use crate::stream::Found;
-use crate::table::{AFTER_NAME, BEHIND, FIRST, FIRST_NAME, NAME_CHARS, VALUE_CHARS, letter_at};
+use crate::table::{
+    AFTER_NAME, BEHIND, FIRST, FIRST_NAME, IN_EXPONENT, IN_FRACTION, IN_WHOLE, NAME, NAME_CHARS,
+    VALUE, VALUE_CHARS, letter_at,
+};
 use crate::text::{count_text, has_quote};
 
 // Closes the text that is being read, and returns true; false if the document would end with it.
@@ -57,7 +60,47 @@ fn pass_text(state: &State, row: &mut usize, piece: &[u8], at: usize) -> usize
     behind
 }
 
-// The letter of the byte, for the quotes, commas, colons and brackets that come most often, without the table.
+// Passes over blanks before or behind a value or name, if the row is there. Returns where the next byte is.
+#[inline(always)]
+fn pass_blanks(row: usize, piece: &[u8], at: usize) -> usize
+    requires { at ≤ length piece.now }
+    ensures found { (s₀ s : State) → IsOpen s row → Reaches s₀ piece.now at (at_row s row) → Reaches s₀ piece.now result (at_row s row) }
+    ensures within { (at ≤ result) × (result ≤ length piece.now) }
+{
+    let mut next = at;
+    if row <= AFTER_NAME {
+        while next < piece.len() && piece[next] == b' ' {
+            next += 1;
+        }
+    }
+    next
+}
+
+// Whether one more digit leaves a number in this row.
+#[inline(always)]
+fn takes_digits(row: usize) -> bool
+    ensures { result ≡ true → (row ≡ 56) ⊎ (row ≡ 58) ⊎ (row ≡ 61) }
+{
+    row == IN_WHOLE || row == IN_FRACTION || row == IN_EXPONENT
+}
+
+// Passes over further digits of the number that is being read, if one is. Returns where the next byte is.
+#[inline(always)]
+fn pass_digits(row: usize, piece: &[u8], at: usize) -> usize
+    requires { at ≤ length piece.now }
+    ensures found { (s₀ s : State) → IsOpen s row → Reaches s₀ piece.now at (at_row s row) → Reaches s₀ piece.now result (at_row s row) }
+    ensures within { (at ≤ result) × (result ≤ length piece.now) }
+{
+    let mut next = at;
+    if takes_digits(row) {
+        while next < piece.len() && piece[next].is_ascii_digit() {
+            next += 1;
+        }
+    }
+    next
+}
+
+// The letter of the byte, for the quotes, commas, colons, brackets and blanks that come most often, without the table.
 #[inline(always)]
 fn likely_letter(row: usize, byte: u8) -> Option<u8>
     requires { IsRow row }
@@ -68,6 +111,7 @@ fn likely_letter(row: usize, byte: u8) -> Option<u8>
             b'"' => Some(b'\''),
             b'[' => Some(b'('),
             b'{' => Some(b'+'),
+            b' ' if row == VALUE => Some(b'0'),
             b']' if row == FIRST => Some(b')'),
             _ => None,
         }
@@ -81,6 +125,7 @@ fn likely_letter(row: usize, byte: u8) -> Option<u8>
     } else if row <= FIRST_NAME {
         match byte {
             b'"' => Some(b'#'),
+            b' ' if row == NAME => Some(b'3'),
             b'}' if row == FIRST_NAME => Some(b'-'),
             _ => None,
         }
@@ -114,7 +159,7 @@ fn advance(state: &mut State, row: &mut usize, letter: u8, piece: &[u8], index: 
     }
 }
 
-// Takes the next bytes, as long as they are characters of a text, or such quotes, commas, colons and brackets.
+// Takes the next bytes, as long as they are characters of a text, or such quotes, commas, colons, brackets and blanks.
 #[inline(always)]
 fn advance_likely(state: &mut State, row: &mut usize, piece: &[u8], index: &mut usize) -> Found
     requires open { IsOpen state.old row.old }
@@ -140,8 +185,8 @@ fn advance_likely(state: &mut State, row: &mut usize, piece: &[u8], index: &mut 
     Found::GoesOn
 }
 
-// Searches the piece. A byte that only leads to another row is taken at once; behind any other, but a number's comma,
-// another such byte is likely.
+// Searches the piece. A byte that only leads to another row is taken at once, with blanks or digits behind it; behind
+// any other, but a number's comma, another such byte is likely.
 #[inline(always)]
 pub(crate) fn find_by_rows(state: &mut State, row: &mut usize, piece: &[u8]) -> Found
     requires open { IsOpen state.old row.old }
@@ -156,7 +201,8 @@ pub(crate) fn find_by_rows(state: &mut State, row: &mut usize, piece: &[u8]) -> 
         let letter = letter_at(*row, piece[index]);
         if letter >= 48 {
             *row = letter as usize;
-            index += 1;
+            index = pass_blanks(*row, piece, index + 1);
+            index = pass_digits(*row, piece, index);
             continue;
         }
         match advance(state, row, letter, piece, &mut index) {

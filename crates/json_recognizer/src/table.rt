@@ -18,6 +18,12 @@ pub(crate) const FIRST_NAME: usize = 52;
 
 pub(crate) const AFTER_NAME: usize = 53;
 
+pub(crate) const IN_WHOLE: usize = 56;
+
+pub(crate) const IN_FRACTION: usize = 58;
+
+pub(crate) const IN_EXPONENT: usize = 61;
+
 pub(crate) const VALUE_CHARS: usize = 72;
 
 pub(crate) const NAME_CHARS: usize = 73;

@@ -1,0 +1,19 @@
+use Rattle.std.proofs.Common.{get_or, sym, subst, arith}
+use Rattle.json_recognizer.specs.Classes.{class_of}
+use Rattle.json_recognizer.specs.plan.Rows.{at_row, mode_at, IsLetter}
+use Rattle.json_recognizer.proofs.Letters.{to_row, reaches_one}
+use Rattle.json_recognizer.proofs.Rows.{blank_letter}
+use Rattle.json_recognizer.proofs.search.pass_blanks.Goals as goal
+
+pub loop-next-preserved : goal.loop-next-preserved
+loop-next-preserved c =
+    let row = c.args.row in
+    let piece = c.args.piece.now in
+    let next = c.loop-next.next in
+    record {
+      found = λ s₀ s ready so_far.
+          let letter = subst (λ x. IsLetter (mode_at row) (class_of x) row) (sym c.if-piece-next-eq32.true) (blank_letter row ready.is_row c.if-row-le-AFTER_NAME.true) in
+          reaches_one s₀ (at_row s row) (at_row s row) piece next (c.loop-next.invariant.found s₀ s ready so_far) c.loop-next-test.true (to_row s row (get_or piece next 0) row letter ready ready.is_row.0);
+      from = omega arith;
+      within = omega arith;
+    }
