@@ -24,7 +24,8 @@ pub enum Way {
     IntoFile,
 }
 
-/// A regular file that is open to be edited in place. While it is open, it is locked against other edits.
+/// A regular file that is open to be edited in place: the edited text is to be written into it, or into a new file that
+/// then takes its place. While it is open, it is locked against other edits.
 #[derive(Drop)]
 pub struct FileToEdit<'r> {
     pub disk: HostDisk<'r>,

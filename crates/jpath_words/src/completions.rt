@@ -98,7 +98,11 @@ fn add_fish(options: &[Described], out: &mut String) -> Result<(), AllocError> {
 
 // The end of an option's line for fish: whether it takes a value, and what this may be.
 fn add_fish_values(option: &Described, out: &mut String) -> Result<(), AllocError> {
-    out.push_str(if option.values.is_empty() { "'" } else { "' -x" })?;
+    out.push_str(if option.values.is_empty() {
+        "'"
+    } else {
+        "' -x"
+    })?;
     if !option.choices.is_empty() {
         out.push_str(" -a '")?;
         add_words(option.choices, out)?;

@@ -100,6 +100,19 @@ fn pass_digits(row: usize, piece: &[u8], at: usize) -> usize
     next
 }
 
+// Passes over blanks, or over further digits, that leave the row. Returns where the next byte is.
+#[inline(always)]
+fn pass_run(row: usize, piece: &[u8], at: usize) -> usize
+    requires { at ≤ length piece.now }
+    ensures found { (s₀ s : State) → IsOpen s row → Reaches s₀ piece.now at (at_row s row) → Reaches s₀ piece.now result (at_row s row) }
+    ensures within { (at ≤ result) × (result ≤ length piece.now) }
+{
+    if row > IN_EXPONENT {
+        return at;
+    }
+    pass_digits(row, piece, pass_blanks(row, piece, at))
+}
+
 // The letter of the byte, for the quotes, commas, colons, brackets and blanks that come most often, without the table.
 #[inline(always)]
 fn likely_letter(row: usize, byte: u8) -> Option<u8>
@@ -201,8 +214,7 @@ pub(crate) fn find_by_rows(state: &mut State, row: &mut usize, piece: &[u8]) -> 
         let letter = letter_at(*row, piece[index]);
         if letter >= 48 {
             *row = letter as usize;
-            index = pass_blanks(*row, piece, index + 1);
-            index = pass_digits(*row, piece, index);
+            index = pass_run(*row, piece, index + 1);
             continue;
         }
         match advance(state, row, letter, piece, &mut index) {

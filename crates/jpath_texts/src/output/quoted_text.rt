@@ -54,13 +54,12 @@ fn add_escaped_byte(out: &mut Vec<u8>, byte: u8) -> Result<(), AllocError>
     ensures { OnOk result (out.new.items ≡ out.old.items ++ escape_byte byte) }
 {
     match byte {
-        b'"' => out.extend_from_slice(b"\\\""),
-        b'\\' => out.extend_from_slice(b"\\\\"),
-        8 => out.extend_from_slice(b"\\b"),
-        12 => out.extend_from_slice(b"\\f"),
-        b'\n' => out.extend_from_slice(b"\\n"),
-        b'\r' => out.extend_from_slice(b"\\r"),
-        b'\t' => out.extend_from_slice(b"\\t"),
+        b'"' | b'\\' => add_escape(out, byte),
+        8 => add_escape(out, b'b'),
+        12 => add_escape(out, b'f'),
+        b'\n' => add_escape(out, b'n'),
+        b'\r' => add_escape(out, b'r'),
+        b'\t' => add_escape(out, b't'),
         0..=31 => {
             out.extend_from_slice(b"\\u00")?;
             out.push(hex_digit(byte / 16))?;
@@ -68,6 +67,14 @@ fn add_escaped_byte(out: &mut Vec<u8>, byte: u8) -> Result<(), AllocError>
         }
         _ => Ok(out.push(byte)?),
     }
+}
+
+// Writes an escape of one letter, behind its backslash.
+fn add_escape(out: &mut Vec<u8>, letter: u8) -> Result<(), AllocError>
+    ensures { OnOk result (out.new.items ≡ out.old.items ++ 92 ∷ letter ∷ []) }
+{
+    out.push(b'\\')?;
+    Ok(out.push(letter)?)
 }
 
 // A digit of a number in base 16.

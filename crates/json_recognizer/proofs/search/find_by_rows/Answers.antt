@@ -19,9 +19,9 @@ loop-index-preserved-then-letter-ge48 c =
     let is_open = to_row_open l.state l.row x letter.result letter.ensures l.invariant.open_ c.if-letter-ge48.true in
     let one = reaches_one _ (at_row l.state l.row) next c.args.piece.now l.index l.invariant.found (omega arith) (to_row l.state l.row x letter.result letter.ensures l.invariant.open_ c.if-letter-ge48.true) in
     record {
-      found = c.pass_digits-index.ensures.found _ l.state is_open (c.pass_blanks-index.ensures.found _ l.state is_open one);
+      found = c.pass_run-index.ensures.found _ l.state is_open one;
       open_ = is_open;
-      within = c.pass_digits-index.ensures.within.1;
+      within = c.pass_run-index.ensures.within.1;
     }
 
 pub returns-in_default : goal.returns-in_default
