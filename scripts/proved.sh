@@ -88,7 +88,7 @@ answer_proved() {
     if is_current "$crate"; then
         keep
     else
-        are_words_of_run "$@" || refuse 2 "$usage_of_run"
+        needs_words_of_run "$@"
         build check '$'
     fi
     exec "./$crate" "$@"
