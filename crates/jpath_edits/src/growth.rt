@@ -37,7 +37,7 @@ pub enum Growth<'c, 'v> {
     Name(&'c str, &'c str),
 }
 
-/// The text of a document in which members or items were added or members renamed, and how many of them there were.
+/// The text of an edited document, and how many members or items were added to it, or members renamed in it.
 #[derive(Drop)]
 pub struct Grown {
     /// A field of the result of an edit that adds or renames: the text of the edited document.

@@ -71,10 +71,10 @@ impl Display for RefusedDocument<'_> {
 
 impl<'n> RefusedDocument<'n> {
     /// Makes the error for a document of a file. `bytes` is the document, or wrong bytes in place of one, and begins at
-    /// `place` in the file; `refusal` is the cause. If `refusal` is `NotADocument` because a byte is wrong or `bytes`
-    /// ends too early, the error's position is that of the first wrong byte, or the end of `bytes`. In every other
-    /// case, such as an edited document that nests too deep, the error's position is that of the first byte of `bytes`
-    /// that is no blank.
+    /// the line and column `place` in the file; `refusal` is the cause. If it is `NotADocument` because a byte is wrong
+    /// or `bytes` ends too early, the error's position is that of the first wrong byte, or the end of `bytes`. In every
+    /// other case, such as an edited document that nests too deep, the error's position is that of the first byte of
+    /// `bytes` that is no blank.
     pub fn of_piece(
         name: &'n str,
         bytes: &[u8],

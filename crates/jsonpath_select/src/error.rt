@@ -165,7 +165,7 @@ pub fn path_error(alloc: Global, error: &TokenError) -> JsonPathError
     message.map_or(JsonPathError::OutOfMemory, JsonPathError::Path)
 }
 
-/// Converts an error of `Parser`. `Text` becomes `Path` with a copy of the message; without memory, `OutOfMemory`.
+/// Converts an error of `Parser`: `Text` to `Path` with a copied message, or to `OutOfMemory` if it can't be copied.
 ///
 /// ```text
 /// match Parser::compile(alloc, "$[") {

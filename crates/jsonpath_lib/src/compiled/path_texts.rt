@@ -21,7 +21,7 @@ use std::fmt;
 /// ```
 #[derive(Drop)]
 pub struct PathsFault {
-    /// A field of the error of compiling texts: the index, from 0, of the first that is no path; `None` for no memory.
+    /// A field of the error of compiling texts: the index, from 0, of the first that is no path; `None`: out of memory.
     pub index: Option<usize>,
     /// Why compiling path texts failed: `OutOfMemory`, or `Path` with a message for the first text that is no path.
     pub fault: JsonPathError,

@@ -96,13 +96,13 @@ pub trait Mark: Drop + Sized {
     /// non-array descendants, each once. For their order, take what `..*` selects from the node, replace each array by
     /// its items again and again, until no array is left, and keep only each value's first occurrence.
     ///
-    /// For proofs, the contract also says that each object's names at or below this node ascend by bytes.
+    /// For proofs, the contract also guarantees that each object's names at or below this node ascend by bytes.
     fn add_candidates_below(&self, alloc: Global, out: &mut Vec<Self>) -> Result<(), NoMemory>
         ensures gains { OnOk result (MarksGain located stand content candidates_below (stand self.now) (content self.now) out.old.items out.new.items) }
         ensures document { OnOk result (IsOrderedDocument (content self.now)) };
 }
 
-/// Implements `Mark` (a node of a document) for each type that is a `Tree` (a handle to a value): without its location.
+/// Implements `Mark` (a document's node) for each `Tree` (a handle to a value), as a node without its location.
 impl<T: Tree> Mark for T {
     ghost located = { false };
 

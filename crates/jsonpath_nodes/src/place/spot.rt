@@ -1,4 +1,4 @@
-//! `TreeNode`, a value of a document with its location, which siblings share; `Spot`, one of a `serde_json` value.
+//! `TreeNode`, a value of a document with its location; `Spot`, one of a `serde_json` value.
 
 ghost use Rattle.std.specs.Prelude.{◌≡◌, ◌↔◌, [], ◌∷◌, ◌++◌, ◌^◌, ◌-◌, length, min, pos, true, IsTrue, IfOk, OnOk, IfSome, IfNone, option_to_list};
 ghost use Rattle.serde_json.specs.View.{view};

@@ -36,7 +36,7 @@ impl<'a> Name for &'a str {
     }
 }
 
-/// A trait: a small handle to a value of a document, such as `&Value`; it can be copied. `Tree` says what can be read.
+/// A trait of small handles to values, which can be copied, such as `&Value`. Its subtrait `Tree` reads through them.
 ///
 /// ```text
 /// let handle = &document;

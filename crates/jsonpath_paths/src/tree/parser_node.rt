@@ -76,7 +76,8 @@ pub enum Condition {
     Lone(ParserNode),
     /// A condition of a filter: a comparison, given by its left side, its operator and its right side.
     Compare(Term, FilterToken, Term),
-    /// A filter's condition: two joined by `&&` or `||`. Both group to the right: `a && b || c` is `a && (b || c)`.
+    /// A filter's condition: two conditions, joined by `&&` or `||`. Both group to the right: `a && b || c` means
+    /// `a && (b || c)`.
     Join(FilterToken, Box<Condition>, Box<Condition>),
 }
 

@@ -57,7 +57,7 @@ pub trait ParserTokenHandler<V> {
         ensures given { has_failed self.new ≡ false → tokens self.new ≡ tokens self.old ++ token.now ∷ [] }
         ensures still_takes { (s : StrRange) (v : V) → takes self.old s v → takes self.new s v };
 
-    /// A method that implementors provide: whether this token receiver has failed to receive a token (memory ran out).
+    /// A method that implementors provide: whether this token receiver failed to receive a token (out of memory).
     fn failed(&self) -> bool
         ensures { result ≡ has_failed self.now };
 }
