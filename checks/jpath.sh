@@ -313,7 +313,7 @@ for path, caret, hint in [(".a[]", 0, "write $.a[*]"), (".users[].n", 0, "write 
                           ("$.a, .b", 3, "-e '$.a' -e '$.b'"), (".a, .b", 0, "-e '$.a' -e '$.b'"), ("$[?(@.a in ['x'])]", 8, "no `in`"), ("books.json", 0, "comes before the FILE"),
                           ("$[?(@.t == cod)].x", 11, "$[?(@.t == 'cod')].x"), ("$[?(@.t > 10.day && @.b)]", 13, "$[?(@.t > '10.day' && @.b)]"), (".[] | select(.a == 1)", 0, "$[?(")]:
     refused(path, caret, hint)
-for path, caret, hint in [("$.my key", 5, "$['first name']"), ("$[?(@.a > .5)]", 10, "0.5, 100"), ("$[?(@.a == 1e2)]", 11, "0.5, 100"), ("$[?(@.d > 2024-01-01)]", 10, "'2024-01-01'"), ("$[?(@.ip == 10.0.0.1)]", 16, "'10.0.0.1'"),
+for path, caret, hint in [("$.my key", 5, "quotes: $['my key']\n"), ("$.x[*].a b.c", 9, "quotes: $.x[*]['a b'].c\n"), ("$..a b", 5, "quotes: $..['a b']\n"), ("$.a b c", 4, "quotes: $['a b c']\n"), ("$.book[?(@.price < 10].title", 21, "closed by )]: $.book[?(@.price < 10)].title\n"), ("$[?(@.price].t", 11, "closed by )]: $[?(@.price)].t\n"), ("$[?(@.a > .5)]", 10, "0.5, 100"), ("$[?(@.a == 1e2)]", 11, "0.5, 100"), ("$[?(@.d > 2024-01-01)]", 10, "'2024-01-01'"), ("$[?(@.ip == 10.0.0.1)]", 16, "'10.0.0.1'"),
                           ("$[?(@.a > 1.5e3)]", 12, "0.5, 100"), ("$[?(@.a > 5.)]", 12, "0.5, 100"),
                           ("$[?(@.t == Moby Dick)]", 11, "needs quotes"), ("$[?(@.a == {x})]", 11, "--arg NAME TEXT"), ("$[{x}]", 2, "--arg NAME TEXT")]:
     refused(path, caret, hint)
@@ -334,9 +334,9 @@ for path, caret, hint in [("//book/title", 0, "write $..book..title; [*] behind 
                           ("$[?(@.a OR @.b)]", 8, "||: $[?(@.a || @.b)]\n"), ("$[?(@.a > 1 AND @.b LIKE 'x')]", 12, "joined by && and ||: [?(@.a && @.b)]\n"), ("$[?(@.a == \"it's\" AND @.b)]", 18, "joined by && and ||: [?(@.a && @.b)]\n"), ("$[?(@.a IN ('x','y'))]", 8, "no `in`"), ("$[?(@.a NOT IN ('x'))]", 8, "no `!`"),
                           ("$[?(@.a LIKE 'x%')]", 8, "regular"), ("$[?(@.a is null)]", 8, "can't ask for null"), ("$[?(@.a IS NOT NULL)]", 8, "can't ask for null"), ("$[?(@.a BETWEEN 1 AND 2)]", 8, "@.a >= 1 && @.a <= 9"),
                           ("$[?(@.a == undefined)]", 11, "can't ask for null"), ("$[?(@.a == NULL)]", 11, "can't ask for null"), ("$[?(@.a == undefinedly)]", 11, "quotes: $[?(@.a == 'undefinedly')]\n"),
-                          ("$[?(@.a < 8,95)]", 11, "no comma"), ("$[?(@.a == 1,000 && @.b)]", 12, "no comma"), ("$[?(@.my key > 1)]", 9, "$['first name']"),
+                          ("$[?(@.a < 8,95)]", 11, "no comma"), ("$[?(@.a == 1,000 && @.b)]", 12, "no comma"), ("$[?(@.my key > 1)]", 9, "quotes: $[?(@['my key'] > 1)]\n"),
                           ("$[?(@.a.includes('x'))]", 16, "no functions in a filter"), ("$[?(@.a.contains('x'))]", 16, "no functions in a filter"), ("$[?(@.a contains 'x')]", 8, "no functions in a filter"), ("$.a.includes('x')", 12, "no functions in a path"),
-                          ("$[?(@.a === 'x === y')]", 10, "written ==: $[?(@.a == 'x === y')]\n"), ("$/a['b/c']/d", 0, "dots: $.a['b/c'].d\n"), ("$['=~'].b c", 10, "$['first name']"), ("$[?(@.a = 'it ‘is’ AND')]", 8, "signs: $[?(@.a == 'it ‘is’ AND')]\n"),
+                          ("$[?(@.a === 'x === y')]", 10, "written ==: $[?(@.a == 'x === y')]\n"), ("$/a['b/c']/d", 0, "dots: $.a['b/c'].d\n"), ("$['=~'].b c", 10, "quotes: $['=~']['b c']\n"), ("$[?(@.a = 'it ‘is’ AND')]", 8, "signs: $[?(@.a == 'it ‘is’ AND')]\n"),
                           ("$[?(@.a == ‘x’)]", 11, "sides: $[?(@.a == 'x')]\n"), ("$[?(@.a == “x y”)]", 11, 'sides: $[?(@.a == "x y")]\n'), ("$[`a`]", 2, "sides: $['a']\n"), ("$[?(@.a == ‘b AND c’ AND @.d)]", 11, "&&: $[?(@.a == 'b AND c' && @.d)]\n")]:
     refused(path, caret, hint)
 for path in ["$[?(@.a == “it's”)]", "$[‘it's’]"]:

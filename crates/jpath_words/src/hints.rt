@@ -100,13 +100,14 @@ const WORDS: [(&str, &str); 10] = [
 ];
 
 // What is written instead of a wrong text at the error, and why.
-const REPLACEMENTS: [(&str, &str, &str); 14] = [
+const REPLACEMENTS: [(&str, &str, &str); 15] = [
     ("=>", ">=", "greater or equal is >="),
     ("=<", "<=", "less or equal is <="),
     ("=", "==", "a comparison has two equals signs"),
     ("&", "&&", "conditions are joined by &&"),
     ("|", "||", "conditions are joined by ||"),
     ("]", "*]", "all children are [*]"),
+    ("]", ")]", "a [?( is closed by )]"),
     (
         "?",
         "",
@@ -161,6 +162,9 @@ fn hint_with_path(
         return Ok(Some(hint));
     }
     if let Some(hint) = hint_to_quote_text(alloc, path, before, rest)? {
+        return Ok(Some(hint));
+    }
+    if let Some(hint) = hint_to_quote_name_with_blank(alloc, before, rest)? {
         return Ok(Some(hint));
     }
     let front = before.trim_end();
@@ -232,6 +236,39 @@ fn hint_to_quote_names(
         before,
         quoted.as_str(),
         tail,
+    )
+}
+
+// The hint for a name with blanks behind a dot: to write it in brackets and quotes.
+fn hint_to_quote_name_with_blank(
+    alloc: Global,
+    before: &str,
+    rest: &str,
+) -> Result<Option<String>, AllocError>
+    ensures { IfOk result (λ o. IfSome o (λ hint. EndsWithPath (string_bytes hint))) }
+{
+    let at = before.rfind(".").unwrap_or(0);
+    let front = before.get(..at).unwrap_or("");
+    let begun = before.get(at..).unwrap_or("").trim_start_matches('.');
+    if !is_name_with_blank(before, rest) || !begun.chars().all(|c| is_of_name(c) || c == ' ') {
+        return Ok(None);
+    }
+    let behind = rest.trim_start_matches(|c: char| is_of_name(c) || c == ' ');
+    let length = rest.len().saturating_sub(behind.len());
+    let named = rest.get(..length).unwrap_or("");
+    let ended = named.trim_end();
+    let end = ended.len();
+    let dot = if front.ends_with('.') { "." } else { "" };
+    let fixed = format!(in alloc;
+        "{front}{dot}['{begun}{ended}']{}",
+        rest.get(end..).unwrap_or("")
+    )?;
+    hint_if_path(
+        alloc,
+        "a name with a blank needs brackets and quotes",
+        fixed.as_str(),
+        "",
+        "",
     )
 }
 
