@@ -140,9 +140,15 @@ pub fn hint_for_refused_path(alloc: Global, path: &str, at: usize) -> Result<Str
     if let Some(hint) = hint_with_path(alloc, path, before, rest)? {
         return Ok(hint);
     }
-    match hint_for_unsupported_syntax(path, before, rest) {
-        Some(sentence) => String::from_str(alloc, sentence),
-        None => Ok(String::new(alloc)),
+    if let Some(sentence) = hint_for_unsupported_syntax(path, before, rest) {
+        return String::from_str(alloc, sentence);
+    }
+    if !is_name_with_blank(before, rest) {
+        return Ok(String::new(alloc));
+    }
+    match hint_to_quote_name_with_blank(alloc, before, rest)? {
+        Some(hint) => Ok(hint),
+        None => String::from_str(alloc, NO_BRACKETS),
     }
 }
 
@@ -162,9 +168,6 @@ fn hint_with_path(
         return Ok(Some(hint));
     }
     if let Some(hint) = hint_to_quote_text(alloc, path, before, rest)? {
-        return Ok(Some(hint));
-    }
-    if let Some(hint) = hint_to_quote_name_with_blank(alloc, before, rest)? {
         return Ok(Some(hint));
     }
     let front = before.trim_end();
@@ -250,7 +253,7 @@ fn hint_to_quote_name_with_blank(
     let at = before.rfind(".").unwrap_or(0);
     let front = before.get(..at).unwrap_or("");
     let begun = before.get(at..).unwrap_or("").trim_start_matches('.');
-    if !is_name_with_blank(before, rest) || !begun.chars().all(|c| is_of_name(c) || c == ' ') {
+    if !begun.chars().all(|c| is_of_name(c) || c == ' ') {
         return Ok(None);
     }
     let behind = rest.trim_start_matches(|c: char| is_of_name(c) || c == ' ');
@@ -465,9 +468,6 @@ fn hint_for_unsupported_syntax(path: &str, before: &str, rest: &str) -> Option<&
     }
     if let Some(compared) = compared_text(path, before) {
         return sentence_for_compared(compared.text, rest);
-    }
-    if is_name_with_blank(before, rest) {
-        return Some(NO_BRACKETS);
     }
     if before.ends_with('[') && rest.starts_with(|c: char| c.is_ascii_digit() || c == '-') {
         return Some(NO_SUCH_INDEX);
