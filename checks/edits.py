@@ -7,7 +7,8 @@ calls. The others of these have to be proved, so that what is refused is the edi
 the edit; where GATE_LOG names its log, an edit is tried once that says so.
 
 Edits of different functions of a crate stand in one copy: who calls a function goes by its clauses, whatever its body. Of
-such a caller the prover says that it calls what is not proved, which is no fault.
+such a caller the prover says that it calls what is not proved, which is no fault. The copies of a crate are checked one
+after the other, and each begins with what the checks before it kept of the functions that are not edited.
 
 What is read off a run is first tried on runs that are made up here.
 """
@@ -56,7 +57,7 @@ def batched(edits):
     return batches
 
 
-def check(batch, uses):
+def check(batch, uses, kept):
     """What the prover says of the edited functions, and of what they call."""
     crate = batch[0].crate
     libraries = above.below(crate, uses)
@@ -67,7 +68,8 @@ def check(batch, uses):
         for edit in batch:
             edit.apply(room)
         own = [it for it in libraries if it in uses]
-        return above.check(room, crate, libraries, own, [it for edit in batch for it in ("--only", edit.function)])
+        flags = ["--incremental", kept, *(it for edit in batch for it in ("--only", edit.function))]
+        return above.check(room, crate, libraries, own, flags)
 
 
 def callers_of(edited, verdicts):
@@ -139,15 +141,21 @@ def tries():
     return len(MADE_UP) + 2 - len(wrong), len(wrong)
 
 
-def tried(batch, uses):
+def tried(batch, uses, kept):
     """Why each edit of a batch is not refused as it must be, and what the run said."""
     if not is_proved(batch[0].crate):
         return [["the crate is not proved"]] * len(batch), ""
     try:
-        said = check(batch, uses)
+        said = check(batch, uses, kept)
     except (OSError, ValueError) as why:
         return [[str(why)]] * len(batch), ""
     return [faults(it, said, [other for other in batch if other is not it]) for it in batch], said
+
+
+def tried_in_turn(batches, uses):
+    """The same for each batch of one crate."""
+    with tempfile.TemporaryDirectory() as kept:
+        return [(batch, *tried(batch, uses, kept)) for batch in batches]
 
 
 def main():
@@ -155,9 +163,12 @@ def main():
     files = above.mutants(sys.argv[1:], of_one_function=True)
     passed, failed = tries()
     made_up = passed
-    batches = batched([Edit(it) for it in files])
+    by_crate = {}
+    for batch in batched([Edit(it) for it in files]):
+        by_crate.setdefault(batch[0].crate, []).append(batch)
     with concurrent.futures.ThreadPoolExecutor(side_by_side()) as pool:
-        for batch, (whys, said) in zip(batches, pool.map(lambda it: tried(it, uses), batches)):
+        runs = pool.map(lambda it: tried_in_turn(it, uses), by_crate.values())
+        for batch, whys, said in (run for crate in runs for run in crate):
             passed, failed = passed + whys.count([]), failed + len(whys) - whys.count([])
             if any(whys):
                 print(said[-6000:])
