@@ -55,9 +55,8 @@ fault_of_run_words() {
 
 # Ends with the usage where jsonpath_run takes no such words.
 needs_words_of_run() {
-    case ${1-},${2-} in
-        select,-h | delete,-h | remove,-h | mask,-h | check,-h) print_help ;;
-        select,--help | delete,--help | remove,--help | mask,--help | check,--help) print_help ;;
+    case ${2-} in
+        -h | --help) case $1 in select | delete | remove | mask | check) print_help ;; esac ;;
     esac
     fault=$(fault_of_run_words "$@")
     [ -z "$fault" ] || refuse 2 "$fault" "$usage_of_run"

@@ -164,18 +164,6 @@ digit_stays row byte is_row stay lo hi =
     in
     subst (IsLetter (mode_at row) (class_of byte)) letter (is_letter row byte is_row (omega (arith, hi)))
 
--- one more blank before or behind a value or name leaves the row
-pub blank_letter : (row : ℕ) → IsRow row → row ≤ 53 → IsLetter (mode_at row) (class_of 32) row
-unfolding letter_of
-blank_letter row is_row le =
-    let lt : row - 48 < 6 = omega (arith, is_row, le) in
-    let is : 48 + (row - 48) ≡ row = omega (arith, is_row) in
-    let rows : map (λ row. letter_of row 32) (range_with_len 48 6) ≡ map (λ row. row) (range_with_len 48 6) = refl in
-    let letter : letter_of row 32 ≡ row =
-    sym (get_or-map-range_with_len (λ row. letter_of row 32) 48 6 (row - 48) row 0 lt is) ∙ ap (λ letters. get_or letters (row - 48) 0) rows ∙ get_or-map-range_with_len (λ row. row) 48 6 (row - 48) row 0 lt is
-    in
-    subst (IsLetter (mode_at row) (class_of 32)) letter (is_letter row 32 is_row (omega arith))
-
 -- one more digit leaves a number in its row
 pub digit_letter : (row byte : ℕ) → (row ≡ 56) ⊎ (row ≡ 58) ⊎ (row ≡ 61) → 48 ≤ byte → byte < 58 → IsLetter (mode_at row) (class_of byte) row
 unfolding letter_of

@@ -60,22 +60,6 @@ fn pass_text(state: &State, row: &mut usize, piece: &[u8], at: usize) -> usize
     behind
 }
 
-// Passes over blanks before or behind a value or name, if the row is there. Returns where the next byte is.
-#[inline(always)]
-fn pass_blanks(row: usize, piece: &[u8], at: usize) -> usize
-    requires { at ≤ length piece.now }
-    ensures found { (s₀ s : State) → IsOpen s row → Reaches s₀ piece.now at (at_row s row) → Reaches s₀ piece.now result (at_row s row) }
-    ensures within { (at ≤ result) × (result ≤ length piece.now) }
-{
-    let mut next = at;
-    if row <= AFTER_NAME {
-        while next < piece.len() && piece[next] == b' ' {
-            next += 1;
-        }
-    }
-    next
-}
-
 // Whether one more digit leaves a number in this row.
 #[inline(always)]
 fn takes_digits(row: usize) -> bool
@@ -84,33 +68,33 @@ fn takes_digits(row: usize) -> bool
     row == IN_WHOLE || row == IN_FRACTION || row == IN_EXPONENT
 }
 
-// Passes over further digits of the number that is being read, if one is. Returns where the next byte is.
+// Whether the byte leaves the row: a blank before or behind a value or name, or one more digit of a number.
 #[inline(always)]
-fn pass_digits(row: usize, piece: &[u8], at: usize) -> usize
-    requires { at ≤ length piece.now }
+fn stays_in(row: usize, byte: u8) -> bool
+    requires { IsRow row }
+    ensures { result ≡ true → IsLetter (mode_at row) (class_of byte) row }
+{
+    if row <= AFTER_NAME {
+        return byte == b' ';
+    }
+    takes_digits(row) && byte.is_ascii_digit()
+}
+
+// Passes over the bytes that leave the row. Returns where the next byte is.
+#[inline(always)]
+fn pass_run(row: usize, piece: &[u8], at: usize) -> usize
+    requires row { IsRow row }
+    requires within { at ≤ length piece.now }
     ensures found { (s₀ s : State) → IsOpen s row → Reaches s₀ piece.now at (at_row s row) → Reaches s₀ piece.now result (at_row s row) }
     ensures within { (at ≤ result) × (result ≤ length piece.now) }
 {
     let mut next = at;
-    if takes_digits(row) {
-        while next < piece.len() && piece[next].is_ascii_digit() {
+    if row <= IN_EXPONENT {
+        while next < piece.len() && stays_in(row, piece[next]) {
             next += 1;
         }
     }
     next
-}
-
-// Passes over blanks, or over further digits, that leave the row. Returns where the next byte is.
-#[inline(always)]
-fn pass_run(row: usize, piece: &[u8], at: usize) -> usize
-    requires { at ≤ length piece.now }
-    ensures found { (s₀ s : State) → IsOpen s row → Reaches s₀ piece.now at (at_row s row) → Reaches s₀ piece.now result (at_row s row) }
-    ensures within { (at ≤ result) × (result ≤ length piece.now) }
-{
-    if row > IN_EXPONENT {
-        return at;
-    }
-    pass_digits(row, piece, pass_blanks(row, piece, at))
 }
 
 // The letter of the byte, for the quotes, commas, colons, brackets and blanks that come most often, without the table.

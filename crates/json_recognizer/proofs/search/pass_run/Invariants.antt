@@ -1,7 +1,7 @@
 use Rattle.std.proofs.Common.{length, ◌-◌, ◌≤◌}
 use Rattle.json_recognizer.specs.plan.Rows.{IsOpen, at_row, Reaches}
 use Rattle.json_recognizer.specs.declared.state.State.{State}
-use Rattle.json_recognizer.proofs.search.pass_digits.Given as goal
+use Rattle.json_recognizer.proofs.search.pass_run.Given as goal
 
 abbrev pub invariant-loop-next : goal.invariant-loop-next
 invariant-loop-next l = record {
