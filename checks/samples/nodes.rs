@@ -262,6 +262,12 @@ fn samples_of_steps_of_spots(rt: HostRuntime) -> Result<(), Fail> {
             }
         }
     }
+    {
+        let children = root.children(alloc)?;
+        let mut steps = Vec::new(alloc);
+        children[0].add_steps(&mut steps)?;
+        assert_eq!(rt; steps.len(), 1);
+    }
     Ok(())
 }
 

@@ -1,16 +1,17 @@
 //! `TreeNode`, a value of a document with its location; `Spot`, one of a `serde_json` value.
 
-ghost use Rattle.std.specs.Prelude.{◌≡◌, ◌↔◌, [], ◌∷◌, ◌++◌, ◌^◌, ◌-◌, length, min, pos, true, IsTrue, IfOk, OnOk, IfSome, IfNone, option_to_list};
+ghost use Rattle.std.specs.Prelude.{◌≡◌, ◌↔◌, [], ◌∷◌, ◌++◌, ◌^◌, ◌-◌, length, map, min, pos, true, IsTrue, IfOk, OnOk, IfSome, IfNone, option_to_list};
 ghost use Rattle.serde_json.specs.View.{view};
 ghost use Rattle.jsonpath_nodes.specs.document.OfData.{document_of};
 ghost use Rattle.jsonpath_nodes.specs.place.Location.{below};
 ghost use Rattle.jsonpath_nodes.specs.place.Mark.{MarksGain};
+ghost use Rattle.jsonpath_nodes.specs.place.Owned.{owned_step};
 ghost use Rattle.jsonpath_nodes.specs.place.SpotPlace.{key_bytes, step_of, steps_of, path_location, place_location, place_value, location_of, value_of, LeadsBy, place_sight};
 ghost use Rattle.jsonpath_nodes.specs.plan.Way.{down_step};
 ghost use Rattle.jsonpath_nodes.specs.step.Steps.{step, all_below, every, named, nth};
 
 use crate::memory::NoMemory;
-use crate::place::location::Location;
+use crate::place::location::{LocStep, Location};
 use crate::place::mark::Mark;
 use crate::place::reversed_steps::split_last_step;
 use crate::place::trail::{PathTo, Trail, add_steps_of_path_to_value, clone_trail, shared_trail};
@@ -247,6 +248,21 @@ impl<T: Tree> TreeNode<T> {
     {
         location_of_path(alloc, PathTo::Whole(&self.trail))
     }
+
+    /// Appends the steps from the root to the node to `steps`. They borrow from the node, so that one list can serve many
+    /// nodes, one after the other, and no name is copied. The only error is `NoMemory`; `steps` may then end with a part.
+    ///
+    /// ```text
+    /// let children = root.children(alloc)?;
+    /// let mut steps = Vec::new(alloc);
+    /// children[0].add_steps(&mut steps)?;
+    /// assert_eq!(rt; steps.len(), 1);
+    /// ```
+    pub fn add_steps<'b>(&'b self, steps: &mut Vec<PathStep<'b>>) -> Result<(), NoMemory>
+        ensures { OnOk result (map step_of steps.new.items ≡ map step_of steps.old.items ++ place_location T.Name.bytes self.now) }
+    {
+        add_steps_of_path_to_value(PathTo::Whole(&self.trail), steps)
+    }
 }
 
 impl<'b, 'a> Steps<'b, 'a> {
@@ -313,9 +329,23 @@ impl<'b, 'a> Steps<'b, 'a> {
 fn location_of_path<N: Name>(alloc: Global, path_to: PathTo<'_, N>) -> Result<Location, NoMemory>
     ensures { IfOk result (λ location. location ≡ path_location N.bytes path_to.entry) }
 {
-    let mut steps = Vec::new(alloc);
-    add_steps_of_path_to_value(alloc, path_to, &mut steps)?;
+    let mut borrowed = Vec::new(alloc);
+    add_steps_of_path_to_value(path_to, &mut borrowed)?;
+    let mut steps = Vec::with_capacity(alloc, borrowed.len())?;
+    for step in borrowed.iter() {
+        steps.push(copied_step(alloc, *step)?)?;
+    }
     Ok(Location::from_steps(steps))
+}
+
+// A step, copied.
+fn copied_step(alloc: Global, step: PathStep<'_>) -> Result<LocStep, AllocError>
+    ensures { IfOk result (λ copy. owned_step copy ≡ step_of step.entry) }
+{
+    match step {
+        PathStep::Name(name) => Ok(LocStep::Name(String::from_str(alloc, name)?)),
+        PathStep::Index(i) => Ok(LocStep::Index(i)),
+    }
 }
 
 // A step down, by a name borrowed from the document.

@@ -1,12 +1,11 @@
 //! Trails: the locations of nodes, as linked lists. All nodes below a container share its trail.
 
-ghost use Rattle.std.specs.Prelude.{◌≡◌, [], ◌∷◌, ◌++◌, IfOk, OnOk};
+ghost use Rattle.std.specs.Prelude.{◌≡◌, [], ◌∷◌, ◌++◌, map, IfOk, OnOk};
 ghost use Rattle.jsonpath_nodes.specs.place.Location.{name as by_name, index as by_index};
-ghost use Rattle.jsonpath_nodes.specs.place.Owned.{owned_steps};
-ghost use Rattle.jsonpath_nodes.specs.place.SpotPlace.{location_at, path_location, held_path_location};
+ghost use Rattle.jsonpath_nodes.specs.place.SpotPlace.{location_at, path_location, held_path_location, step_of};
 
 use crate::memory::NoMemory;
-use crate::place::location::LocStep;
+use crate::place::spot::PathStep;
 use crate::tree::name::Name;
 use std::alloc::{AllocError, Global};
 use std::rc::Rc;
@@ -126,46 +125,44 @@ pub(crate) fn member_trail<N: Name>(held: HeldPathToContainer<N>, key: N) -> Tra
     }
 }
 
-// Adds the steps of a path to a value, from the root down, to a list of owned ones.
-pub(crate) fn add_steps_of_path_to_value<N: Name>(
-    alloc: Global,
-    path_to: PathTo<'_, N>,
-    steps: &mut Vec<LocStep>,
+// Adds the steps of a path to a value, from the root down, to a list of steps that borrow from the trail.
+pub(crate) fn add_steps_of_path_to_value<'b, N: Name>(
+    path_to: PathTo<'b, N>,
+    steps: &mut Vec<PathStep<'b>>,
 ) -> Result<(), NoMemory>
-    ensures { OnOk result (owned_steps steps.new.items ≡ owned_steps steps.old.items ++ path_location N.bytes path_to.entry) }
+    ensures { OnOk result (map step_of steps.new.items ≡ map step_of steps.old.items ++ path_location N.bytes path_to.entry) }
 {
     match path_to {
-        PathTo::Whole(trail) => add_steps_of_trail(alloc, trail, steps)?,
+        PathTo::Whole(trail) => add_steps_of_trail(trail, steps)?,
         PathTo::Item(parent, i) => {
-            add_steps_of_trail(alloc, parent, steps)?;
-            steps.push(LocStep::Index(i))?;
+            add_steps_of_trail(parent, steps)?;
+            steps.push(PathStep::Index(i))?;
         }
     }
     Ok(())
 }
 
-// Adds the steps of a trail, from the root down, to a list of owned ones.
-fn add_steps_of_trail<N: Name>(
-    alloc: Global,
-    trail: &Trail<N>,
-    steps: &mut Vec<LocStep>,
+// Adds the steps of a trail, from the root down, to a list of steps that borrow from it.
+fn add_steps_of_trail<'b, N: Name>(
+    trail: &'b Trail<N>,
+    steps: &mut Vec<PathStep<'b>>,
 ) -> Result<(), NoMemory>
-    ensures { OnOk result (owned_steps steps.new.items ≡ owned_steps steps.old.items ++ location_at N.bytes trail.now) }
+    ensures { OnOk result (map step_of steps.new.items ≡ map step_of steps.old.items ++ location_at N.bytes trail.now) }
 {
     match trail {
         Trail::Root => {}
         Trail::Member(parent, key) => {
-            add_steps_of_trail(alloc, parent, steps)?;
-            steps.push(LocStep::Name(String::from_str(alloc, key.as_text())?))?;
+            add_steps_of_trail(parent, steps)?;
+            steps.push(PathStep::Name(key.as_text()))?;
         }
         Trail::Item(parent, i) => {
-            add_steps_of_trail(alloc, parent, steps)?;
-            steps.push(LocStep::Index(*i))?;
+            add_steps_of_trail(parent, steps)?;
+            steps.push(PathStep::Index(*i))?;
         }
         Trail::ItemMember(i, parent, key) => {
-            add_steps_of_trail(alloc, parent, steps)?;
-            steps.push(LocStep::Index(*i as usize))?;
-            steps.push(LocStep::Name(String::from_str(alloc, key.as_text())?))?;
+            add_steps_of_trail(parent, steps)?;
+            steps.push(PathStep::Index(*i as usize))?;
+            steps.push(PathStep::Name(key.as_text()))?;
         }
     }
     Ok(())
