@@ -7,3 +7,4 @@ pub mod OrderLemmas
 pub mod OrderedTreeLemmas
 pub mod PlacesLemmas
 pub mod StreamLemmas
+pub mod WayLemmas

@@ -11,3 +11,4 @@ pub mod OrderedTree
 pub mod Rows
 pub mod Stream
 pub mod TreeOrder
+pub mod Way

@@ -4,3 +4,4 @@ pub(crate) mod handle;
 pub(crate) mod in_order;
 pub(crate) mod order;
 pub(crate) mod tree;
+pub(crate) mod way;

@@ -5,13 +5,14 @@ ghost use Rattle.json.specs.Find.{as_array, as_object, get_item, get_member};
 ghost use Rattle.json.specs.Json.{array, object};
 ghost use Rattle.json.specs.Value.{value_view, items_view, members_view};
 ghost use Rattle.jsonpath_nodes.specs.place.Owned.{owned_step, owned_steps};
+ghost use Rattle.jsonpath_nodes.specs.place.SpotPlace.{step_of};
 ghost use Rattle.jpath_texts.specs.ExactAt.{exact_child, exact_at};
 ghost use Rattle.jpath_texts.specs.OrderedTree.{member_at, places, taken};
 ghost use Rattle.jpath_texts.specs.TreeOrder.{is_order};
 
 use crate::ordered_tree::order::Order;
 use json::Value as Exact;
-use jsonpath_nodes::{LocStep, Location};
+use jsonpath_nodes::{LocStep, Location, PathStep};
 use std::alloc::Global;
 use std::cmp::Ordering;
 
@@ -85,21 +86,21 @@ impl<'t, 'a> OrderedValue<'t, 'a> {
         ensures { option_map (λ v. value_view v.value.now) result ≡ exact_at (value_view self.entry.value.now) (owned_steps steps.now) }
     {
         match steps.split_first() {
-            Some((step, rest)) => self.child(step)?.value_below(rest),
+            Some((step, rest)) => self.child(lent_step(step))?.value_below(rest),
             None => Some(self),
         }
     }
 
     // The member or item that one step of a location leads to, if there is one.
-    fn child(self, step: &LocStep) -> Option<OrderedValue<'t, 'a>>
-        ensures { option_map (λ v. value_view v.value.now) result ≡ exact_child (owned_step step.now) (value_view self.entry.value.now) }
+    pub(crate) fn child(self, step: PathStep<'_>) -> Option<OrderedValue<'t, 'a>>
+        ensures { option_map (λ v. value_view v.value.now) result ≡ exact_child (step_of step.entry) (value_view self.entry.value.now) }
     {
         match step {
-            LocStep::Name(name) => {
-                let member = self.members()?.member(name.as_str())?;
+            PathStep::Name(name) => {
+                let member = self.members()?.member(name)?;
                 Some(member.1)
             }
-            LocStep::Index(index) => self.items()?.item(*index),
+            PathStep::Index(index) => self.items()?.item(index),
         }
     }
 
@@ -131,6 +132,16 @@ impl<'t, 'a> OrderedValue<'t, 'a> {
             }),
             _ => None,
         }
+    }
+}
+
+// A step of a location, lent.
+fn lent_step(step: &LocStep) -> PathStep<'_>
+    ensures { step_of result ≡ owned_step step.now }
+{
+    match step {
+        LocStep::Name(name) => PathStep::Name(name.as_str()),
+        LocStep::Index(index) => PathStep::Index(*index),
     }
 }
 
