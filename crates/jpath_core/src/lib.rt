@@ -2,11 +2,11 @@
 #![tactic(auto)]
 
 mod edit;
-mod exact_at_location;
 mod exact_tree;
 mod grow;
 pub mod laws;
 mod output;
+mod printable_value;
 mod selection;
 
 pub use edit::{Edited, edit_text};

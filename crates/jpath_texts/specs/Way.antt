@@ -18,6 +18,12 @@ values_along (Some j) (s ∷ l) = exact_child s j ∷ values_along (exact_child 
 abbrev pub Leads : Json → List (Step × Json) → Type 0
 Leads j ps = values_along (Some j) (map (λ p. p.0) ps) ≡ map (λ p. Some p.1) ps
 
+-- the last of the first values, so many, or `j` where there are none
+abbrev pub last_of : Json → List (Step × Json) → ℕ → Json
+last_of j ps zero = j
+last_of j [] (suc n) = j
+last_of j (p ∷ ps) (suc n) = last_of p.1 ps n
+
 -- the same, where the first values, so many, lead to `here`
 abbrev pub LeadsTo : Json → List (Step × Json) → ℕ → Json → Type 0
 LeadsTo j ps zero here = (j ≡ here) × Leads j ps

@@ -12,16 +12,16 @@ ghost use Rattle.jpath_core.specs.Matches.{lines_text, match_text, items_text, i
 ghost use Rattle.jpath_core.specs.Nodes.{location_of};
 ghost use Rattle.jpath_core.specs.AlongExactTree.{value_line};
 
-use crate::exact_at_location::printable_value_at_location;
 use crate::output::places::{add_place_and_value_line, add_place_line};
+use crate::printable_value::printable_value_at_node;
 use crate::selection::select_in_document;
 use jpath_texts::{
-    Document, DocumentRefusal, Line, Look, OrderedValue, Query, Shown, add_array_end,
+    Document, DocumentRefusal, Line, Look, OrderedValue, Query, Shown, Way, add_array_end,
     add_array_item, add_entry_lines, add_length_line, add_line_end, add_line_start,
     add_value_in_look,
 };
 use json::Value as Exact;
-use jsonpath_nodes::{Location, TreeNode};
+use jsonpath_nodes::{NoMemory, TreeNode};
 use jsonpath_paths::laws::one_tree_per_text;
 use std::alloc::{AllocError, Global};
 
@@ -132,9 +132,9 @@ fn add_values_at_nodes<'v, 'a>(
         ≡ map (λ v. value_view v.value.now) values.old.items ++ filter_map (exact_at (value_view root.entry.value.now)) (map location_of nodes.now)) }
     ensures writable { All (λ v. HasNumbers (value_view v.value.now)) values.old.items → All (λ v. HasNumbers (value_view v.value.now)) values.new.items }
 {
+    let mut way = Way::new(alloc);
     for node in nodes {
-        let location = node.location(alloc)?;
-        if let Some(found) = printable_value_at_location(root, &location) {
+        if let Some(found) = printable_value_at_node(root, &mut way, node)? {
             values.push(Selected {
                 value: found.value(),
             })?;
@@ -200,10 +200,10 @@ fn add_lines_of_nodes(
     requires { HasNumbers (value_view root.value.now) }
     ensures { OnOk result (out.new.items ≡ out.old.items ++ lines_text line.now (value_view root.entry.value.now) (map location_of nodes.now)) }
 {
+    let mut way = Way::new(alloc);
     for node in nodes {
-        let location = node.location(alloc)?;
-        if let Some(found) = printable_value_at_location(root, &location) {
-            add_lines_of_match(alloc, &location, found.value(), line, out)?;
+        if let Some(found) = printable_value_at_node(root, &mut way, node)? {
+            add_lines_of_match(alloc, node, found.value(), line, out)?;
         }
     }
     Ok(())
@@ -212,22 +212,25 @@ fn add_lines_of_nodes(
 // Writes the lines of one match: one with its place, its value or both, or its length; or one for each of its members.
 fn add_lines_of_match(
     alloc: Global,
-    location: &Location,
+    node: &TreeNode<OrderedValue<'_, '_>>,
     value: &Exact<'_>,
     line: &Line<'_>,
     out: &mut Vec<u8>,
-) -> Result<(), AllocError>
+) -> Result<(), NoMemory>
     requires { HasNumbers (value_view value.now) }
-    ensures { OnOk result (out.new.items ≡ out.old.items ++ match_text line.now location.now (value_view value.now)) }
+    ensures { OnOk result (out.new.items ≡ out.old.items ++ match_text line.now (location_of node.now) (value_view value.now)) }
 {
     match line.shown {
-        Shown::Values => add_value_line(alloc, value, line, out),
-        Shown::Places => add_place_line(alloc, location, line, out),
-        Shown::PlacesAndValues => add_place_and_value_line(alloc, location, value, line, out),
-        Shown::Keys => add_entry_lines(alloc, value, false, line, out),
-        Shown::Entries => add_entry_lines(alloc, value, true, line, out),
-        Shown::Lengths => add_length_line(alloc, value, line, out),
+        Shown::Values => add_value_line(alloc, value, line, out)?,
+        Shown::Places => add_place_line(alloc, &node.location(alloc)?, line, out)?,
+        Shown::PlacesAndValues => {
+            add_place_and_value_line(alloc, &node.location(alloc)?, value, line, out)?
+        }
+        Shown::Keys => add_entry_lines(alloc, value, false, line, out)?,
+        Shown::Entries => add_entry_lines(alloc, value, true, line, out)?,
+        Shown::Lengths => add_length_line(alloc, value, line, out)?,
     }
+    Ok(())
 }
 
 // Writes a value on a line of its own, whatever the line is to show of matches.

@@ -6,10 +6,10 @@ ghost use Rattle.json.specs.Value.{value_view};
 ghost use Rattle.jpath_core.specs.Nodes.{location_of};
 ghost use Rattle.jpath_core.specs.Rows.{first_field, AddsRow, AddsRows, AreFields, IsField};
 
-use crate::exact_at_location::printable_value_at_location;
+use crate::printable_value::printable_value_at_node;
 use crate::selection::select_in_document;
 use jpath_texts::{
-    Document, DocumentRefusal, Layout, Look, OrderedValue, Query, Separated, add_row,
+    Document, DocumentRefusal, Layout, Look, OrderedValue, Query, Separated, Way, add_row,
     add_value_in_look,
 };
 use jsonpath_nodes::TreeNode;
@@ -52,8 +52,8 @@ fn add_row_of_node(
     requires { HasNumbers (value_view root.value.now) }
     ensures { OnOk result (AddsRow (value_view root.entry.value.now) columns.now separated (location_of node.now) out.old.items out.new.items) }
 {
-    let location = node.location(alloc)?;
-    let Some(value) = printable_value_at_location(root, &location) else {
+    let mut way = Way::new(alloc);
+    let Some(value) = printable_value_at_node(root, &mut way, node)? else {
         return Ok(());
     };
     let fields = row_fields(alloc, value, columns)?;
@@ -104,8 +104,8 @@ fn field_of_first(
     let Some(node) = nodes.first() else {
         return Ok(field);
     };
-    let location = node.location(alloc)?;
-    let Some(value) = printable_value_at_location(root, &location) else {
+    let mut way = Way::new(alloc);
+    let Some(value) = printable_value_at_node(root, &mut way, node)? else {
         return Ok(field);
     };
     let look = Look {

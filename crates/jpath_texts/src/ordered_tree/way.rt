@@ -1,13 +1,12 @@
 //! The way along a tree's values from its root, kept from one look-up to the next.
 
-ghost use Rattle.std.specs.Prelude.{◌≡◌, ◌↔◌, suc, Some, ◌++◌, [], ◌∷◌, map, option_map, IfOk, IsTrue, take, IfSome, OnOk, OnErr};
-ghost use Rattle.std.specs.List.{slice_get};
+ghost use Rattle.std.specs.Prelude.{◌≡◌, ◌↔◌, ◌≤◌, suc, ◌++◌, [], ◌∷◌, length, map, option_map, IfOk, IsTrue, take, IfSome, OnOk, OnErr};
 ghost use Rattle.json.specs.Json.{Json};
 ghost use Rattle.json.specs.Value.{value_view};
 ghost use Rattle.jsonpath_nodes.specs.place.SpotPlace.{place_location, step_of};
 ghost use Rattle.jpath_texts.specs.ExactAt.{exact_child, exact_at};
 ghost use Rattle.jpath_texts.specs.ExactDocument.{name_bytes};
-ghost use Rattle.jpath_texts.specs.Way.{Leads, LeadsTo, IsWayFrom, passed_view};
+ghost use Rattle.jpath_texts.specs.Way.{Leads, LeadsTo, IsWayFrom, last_of, passed_view};
 
 use crate::ordered_tree::handle::OrderedValue;
 use jsonpath_nodes::{NoMemory, PathStep, TreeNode};
@@ -53,7 +52,58 @@ impl<'s, 'v, 'a> Way<'s, 'v, 'a> {
     {
         self.steps.clear();
         node.add_steps(&mut self.steps)?;
-        value_from(root, &mut self.passed, root, 0, self.steps.as_slice())
+        value_by_steps(root, &mut self.passed, self.steps.as_slice())
+    }
+}
+
+// The value to which the steps lead from the root. The values passed lead to it then.
+fn value_by_steps<'s, 'v, 'a>(
+    root: OrderedValue<'v, 'a>,
+    passed: &mut Vec<Passed<'s, 'v, 'a>>,
+    steps: &[PathStep<'s>],
+) -> Result<Option<OrderedValue<'v, 'a>>, NoMemory>
+    requires { Leads (value_view root.value.now) (map passed_view passed.now.items) }
+    ensures leads { Leads (value_view root.entry.value.now) (map passed_view passed.new.items) }
+    ensures value { IfOk result (λ found. option_map (λ v. value_view v.value.now) found ≡ exact_at (value_view root.entry.value.now) (map step_of steps.now)) }
+{
+    let shared = count_shared(passed.as_slice(), steps);
+    let here = value_behind(root, passed.as_slice(), shared);
+    let (_, rest) = steps.split_at(shared);
+    value_from(root, passed, here, shared, rest)
+}
+
+// How many of the values passed, from the first on, lie on the way of these steps.
+fn count_shared(passed: &[Passed<'_, '_, '_>], steps: &[PathStep<'_>]) -> usize
+    ensures few { result ≤ length (map passed_view passed.now) }
+    ensures within { result ≤ length steps.now }
+    ensures same { take result (map (λ p. p.0) (map passed_view passed.now)) ≡ take result (map step_of steps.now) }
+{
+    match passed.split_first() {
+        Some((first, others)) => match steps.split_first() {
+            Some((step, rest)) => if are_same(first.step, *step) {
+                1 + count_shared(others, rest)
+            } else {
+                0
+            },
+            None => 0,
+        },
+        None => 0,
+    }
+}
+
+// The last of the first values passed, so many; the root if there are none.
+fn value_behind<'v, 'a>(
+    root: OrderedValue<'v, 'a>,
+    passed: &[Passed<'_, 'v, 'a>],
+    count: usize,
+) -> OrderedValue<'v, 'a>
+    requires { count ≤ length passed.now }
+    ensures { value_view result.value.now ≡ last_of (value_view root.entry.value.now) (map passed_view passed.now) count }
+{
+    if count == 0 {
+        root
+    } else {
+        passed[count - 1].value
     }
 }
 
@@ -78,8 +128,7 @@ fn value_from<'s, 'v, 'a>(
     }
 }
 
-// The value to which a step leads from `here`: the next one that was passed, if the step is the same; else it is found, and
-// passed in place of those.
+// The value to which a step leads from `here`. It is passed behind the first values, as many as `depth`.
 fn next_value<'s, 'v, 'a>(
     root: OrderedValue<'v, 'a>,
     passed: &mut Vec<Passed<'s, 'v, 'a>>,
@@ -92,30 +141,11 @@ fn next_value<'s, 'v, 'a>(
     ensures value { IfOk result (λ found. option_map (λ v. value_view v.value.now) found ≡ exact_child (step_of step.entry) (value_view here.entry.value.now)) }
     ensures next { IfOk result (λ found. IfSome found (λ v. LeadsTo (value_view root.entry.value.now) (map passed_view passed.new.items) (suc depth) (value_view v.value.now))) }
 {
-    if let Some(value) = value_passed(passed.as_slice(), depth, step) {
-        return Ok(Some(value));
-    }
     let Some(value) = here.child(step) else {
         return Ok(None);
     };
     pass(passed, depth, step, value)?;
     Ok(Some(value))
-}
-
-// The next value that was passed behind the first ones, as many as `depth`, if this step led to it.
-fn value_passed<'v, 'a>(
-    passed: &[Passed<'_, 'v, 'a>],
-    depth: usize,
-    step: PathStep<'_>,
-) -> Option<OrderedValue<'v, 'a>>
-    ensures { IfSome result (λ v. slice_get (map passed_view passed.now) depth ≡ Some (step_of step.entry, value_view v.value.now)) }
-{
-    let next = passed.get(depth)?;
-    if are_same(next.step, step) {
-        Some(next.value)
-    } else {
-        None
-    }
 }
 
 // Keeps as many of the values that were passed as `depth`, and adds one behind them.
