@@ -7,7 +7,7 @@ mod row;
 mod selected;
 
 use anyhow::{Context, Result};
-use row::{Row, outcome_of};
+use row::{Row, runs_as_told};
 use selected::{Method, is_selected};
 use std::alloc::Global;
 use std::process::ExitCode;
@@ -27,7 +27,7 @@ fn main(rt: HostRuntime) -> Result<ExitCode> {
 fn replay(rt: &HostRuntime, file: &str) -> Result<bool> {
     let text = fs::read_to_string(rt, file).context("reading the rows")?;
     let rows = rows_of_lines(rt.alloc(), text.as_str())?;
-    let mut holds = replay_run(rt, file, rows.as_slice())?;
+    let mut holds = replay_by(rt, file, rows.as_slice(), None)?;
     for way in [
         Method::JsonSelector,
         Method::Selector,
@@ -35,7 +35,7 @@ fn replay(rt: &HostRuntime, file: &str) -> Result<bool> {
         Method::TokenList,
         Method::Set,
     ] {
-        holds = replay_selecting(rt, file, rows.as_slice(), way)? && holds;
+        holds = replay_by(rt, file, rows.as_slice(), Some(way))? && holds;
     }
     Ok(holds)
 }
@@ -50,38 +50,26 @@ fn rows_of_lines(alloc: Global, text: &str) -> Result<Vec<Row>> {
     Ok(rows)
 }
 
-// Replays each row through `run`, prints each that doesn't hold, and the counts. Answers whether all hold.
-fn replay_run(rt: &HostRuntime, file: &str, rows: &[Row]) -> Result<bool> {
+// Replays each row through `run`, or each that selects by a way; prints each that doesn't hold, and the counts. Answers
+// whether all hold.
+fn replay_by(rt: &HostRuntime, file: &str, rows: &[Row], way: Option<Method>) -> Result<bool> {
     let alloc = rt.alloc();
-    let mut holding = 0usize;
+    let name = way.map_or("run", |way| way.name());
+    let mut replayed = 0u64;
+    let mut holding = 0u64;
     for row in rows {
-        let outcome = outcome_of(alloc, row)?;
-        if outcome.is_of(row) {
-            holding = holding.saturating_add(1);
-        } else {
-            println!(rt; "{file}: {row}\n  came: {outcome}")?;
-        }
-    }
-    println!(rt; "{file}: {} rows: {holding} hold", rows.len())?;
-    Ok(holding == rows.len())
-}
-
-// Answers each row that selects by a way, prints each that doesn't hold, and the counts. Answers whether all hold.
-fn replay_selecting(rt: &HostRuntime, file: &str, rows: &[Row], way: Method) -> Result<bool> {
-    let alloc = rt.alloc();
-    let name = way.name();
-    let mut selecting = 0u64;
-    let mut selected = 0u64;
-    for row in rows {
-        if let Some(is_same) = is_selected(alloc, row, way)? {
-            selecting = selecting.saturating_add(1);
-            if is_same {
-                selected = selected.saturating_add(1);
-            } else {
+        let answer = match way {
+            Some(way) => is_selected(alloc, row, way)?,
+            None => Some(runs_as_told(alloc, row)?),
+        };
+        if let Some(holds) = answer {
+            replayed = replayed.saturating_add(1);
+            holding = holding.saturating_add(u64::from(holds));
+            if !holds {
                 println!(rt; "{file}: {row}\n  another answer by {name}")?;
             }
         }
     }
-    println!(rt; "{file}: {selecting} rows select: {selected} hold by {name}")?;
-    Ok(selected == selecting)
+    println!(rt; "{file}: {replayed} rows, {holding} hold by {name}")?;
+    Ok(holding == replayed)
 }

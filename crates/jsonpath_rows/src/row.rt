@@ -17,6 +17,16 @@ pub struct Row {
     pub error: Option<String>,
 }
 
+impl Row {
+    /// Whether `printed` is the error text that this test case expects.
+    pub fn tells(&self, printed: &str) -> bool {
+        match &self.error {
+            Some(error) => error.as_str() == printed,
+            None => printed.lines().next() == Some("serde error: "),
+        }
+    }
+}
+
 impl fmt::Display for Row {
     fn fmt<W: fmt::Write>(&self, f: &mut fmt::Formatter<W>) -> fmt::Result {
         for word in self.words.iter() {
@@ -27,38 +37,10 @@ impl fmt::Display for Row {
     }
 }
 
-/// What a run of a program wrote on standard output and standard error, and its exit status.
-#[derive(Drop)]
-pub struct Outcome {
-    status: u8,
-    output: Vec<u8>,
-    error: String,
-}
-
-impl Outcome {
-    /// Whether a run of `jsonpath_run` has the exit status, output and error text that the test case `row` expects.
-    pub fn is_of(&self, row: &Row) -> bool {
-        let is_error = match &row.error {
-            Some(error) => self.error.as_str() == error.as_str(),
-            None => self.error.as_str().lines().next() == Some("serde error: "),
-        };
-        self.status == row.status && self.output.as_slice() == row.output.as_bytes() && is_error
-    }
-}
-
-impl fmt::Display for Outcome {
-    fn fmt<W: fmt::Write>(&self, f: &mut fmt::Formatter<W>) -> fmt::Result {
-        let status = self.status;
-        let output = str::from_utf8(self.output.as_slice()).unwrap_or("no text");
-        let error = self.error.as_str();
-        write!(f, "status {status}, output {output:?}, error {error:?}")
-    }
-}
-
 /// Runs a test case of the program `jsonpath_run`: calls the program's function `run` with the arguments and the input
-/// of `row`. Returns what `run` wrote and the exit status, also if `run` returns an error, which is then part of the
-/// result. This call itself fails only if it runs out of memory.
-pub fn outcome_of(alloc: Global, row: &Row) -> Result<Outcome, AllocError> {
+/// of `row`. Returns whether the exit status, the standard output and the error text are those that the case expects.
+/// The call itself fails only if it runs out of memory.
+pub fn runs_as_told(alloc: Global, row: &Row) -> Result<bool, AllocError> {
     let words = row
         .words
         .iter()
@@ -72,16 +54,13 @@ pub fn outcome_of(alloc: Global, row: &Row) -> Result<Outcome, AllocError> {
         &mut reader,
         &mut Checked::new(&mut output),
     );
-    Ok(match result {
-        Ok(status) => Outcome {
-            status,
-            output,
-            error: String::new(alloc),
-        },
-        Err(fault) => Outcome {
-            status: fault.status(),
-            output,
-            error: format!(in alloc; "{fault}\n")?,
-        },
-    })
+    let (status, error) = match result {
+        Ok(status) => (status, String::new(alloc)),
+        Err(fault) => (fault.status(), format!(in alloc; "{fault}\n")?),
+    };
+    Ok(
+        status == row.status
+            && output.as_slice() == row.output.as_bytes()
+            && row.tells(error.as_str()),
+    )
 }

@@ -53,7 +53,7 @@ pub fn is_selected(alloc: Global, row: &Row, way: Method) -> Result<Option<bool>
         Ok(text) => row.status == 0
             && row.output.as_str() == format!(in alloc; "{text}\n")?.as_str(),
         Err(JsonPathError::Path(message)) => is_refused(alloc, path, message, row, way)?,
-        Err(error) => row.status == 1 && is_told(row, format!(in alloc; "{error}\n")?.as_str()),
+        Err(error) => row.status == 1 && row.tells(format!(in alloc; "{error}\n")?.as_str()),
     };
     Ok(Some(holds))
 }
@@ -139,14 +139,6 @@ fn text_of(alloc: Global, spots: &[Spot<'_>]) -> Result<String, JsonPathError> {
     list_to_text(alloc, values.as_slice())
 }
 
-// The message of the reader of JSON is not named in a row.
-fn is_told(row: &Row, printed: &str) -> bool {
-    match &row.error {
-        Some(error) => error.as_str() == printed,
-        None => printed.lines().next() == Some("serde error: "),
-    }
-}
-
 // Whether the row names the place of a refused path: `Selector` shows it by carets, the others tell it.
 fn is_refused(
     alloc: Global,
@@ -159,7 +151,7 @@ fn is_refused(
         is_marked(alloc, path, message.as_str(), row)
     } else {
         let error = JsonPathError::Path(message);
-        Ok(row.status == 1 && is_told(row, format!(in alloc; "{error}\n")?.as_str()))
+        Ok(row.status == 1 && row.tells(format!(in alloc; "{error}\n")?.as_str()))
     }
 }
 
@@ -174,5 +166,5 @@ fn is_marked(alloc: Global, path: &str, message: &str, row: &Row) -> Result<bool
     } else {
         format!(in alloc; "path error: \nPosition:{carets}\n\n")?
     };
-    Ok(marks == format!(in alloc; "\n{:^<carets$}", "")?.as_str() && is_told(row, told.as_str()))
+    Ok(marks == format!(in alloc; "\n{:^<carets$}", "")?.as_str() && row.tells(told.as_str()))
 }
