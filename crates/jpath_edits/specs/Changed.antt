@@ -1,10 +1,7 @@
 -- A text of which some parts have given way to other bytes, and that these are what stands at the targets.
-use Rattle.std.specs.Prelude.{◌≡◌, ℕ, ◌-◌, ◌≤◌, List, [], ◌∷◌, ◌++◌, length, map, flat_map, count_by, slice_index, slice_range, false, ◌==◌, ◌||◌, if◌then◌else◌, Some, IsPermutation}
+use Rattle.std.specs.Prelude.{◌≡◌, ℕ, ◌-◌, ◌≤◌, List, [], ◌∷◌, ◌++◌, length, map, flat_map, count_by, slice_index, slice_range, false, ◌==◌, ◌||◌, Some, IsPermutation}
 use Rattle.std.specs.List.{AllPass}
-use Rattle.std.specs.Option.{option_to_list}
-use Rattle.std.specs.Str.{bytes_eq}
-use Rattle.json.specs.Json.{Json, null, boolean, number, string, array, object, Members, no_members, member}
-use Rattle.json.specs.Find.{at as item_at}
+use Rattle.json.specs.Json.{Json, string}
 use Rattle.json.specs.Word.{is_space}
 use Rattle.serde_json.specs.Data.{Data}
 use Rattle.serde_json.specs.Read.{read}
@@ -13,7 +10,7 @@ use Rattle.jsonpath_nodes.specs.place.Location.{Step, name, index, Location}
 use Rattle.jsonpath_nodes.specs.step.SameMembers.{topmost}
 use Rattle.jsonpath_nodes.specs.update.Topmost.{put, taken}
 use Rattle.jpath_texts.specs.Exact.{exact_of}
-use Rattle.jpath_texts.specs.ExactAt.{exact_at}
+use Rattle.jpath_texts.specs.ExactAt.{exact_at, values_by}
 use Rattle.jpath_edits.specs.declared.change.Change.{Change}
 use Rattle.jpath_edits.specs.declared.change.Change.TheVariants.{Put, Take}
 use Rattle.jpath_edits.specs.declared.parts.part.Part.{Part}
@@ -101,21 +98,6 @@ abbrev pub AreChildrenBefore : Step → List Json → List (List ℕ) → List (
 AreChildrenBefore step [] texts others = texts ≡ others
 AreChildrenBefore step (j ∷ js) [] others = ⊥
 AreChildrenBefore step (j ∷ js) (text ∷ texts) others = IsChildText step j text × AreChildrenBefore step js texts others
-
--- the values of the members of a name, which may come again
-abbrev pub values_named : List ℕ → Members → List Json
-values_named key no_members = []
-values_named key (member k j ms) = if bytes_eq k key then j ∷ values_named key ms else values_named key ms
-
--- the values that a step leads to: that item, or each member of that name
-abbrev pub values_by : Step → Json → List Json
-values_by (name k) null = []
-values_by (name k) (boolean b) = []
-values_by (name k) (number s) = []
-values_by (name k) (string s) = []
-values_by (name k) (array js) = []
-values_by (name k) (object ms) = values_named k ms
-values_by (index i) j = option_to_list (item_at i j)
 
 -- The texts begin with the members or the item at the location; the others stand behind these.
 pub record IsTakenBefore (tree : Json) (l : Location) (texts others : List (List ℕ)) : Type 0 where

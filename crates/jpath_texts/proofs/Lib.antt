@@ -1,5 +1,6 @@
 pub mod ArrangedLemmas
 pub mod DocumentLemmas
+pub mod EachNameOnceLemmas
 pub mod LineLemmas
 pub mod MemberSearchLemmas
 pub mod OnceLemmas

@@ -30,7 +30,7 @@ differ k q true e other = absurd (other ((bytes_eq-Decides k q).0 e))
 differ k q false e other = refl
 
 -- a name that isn't equal to another by their order is another name
-other_name : (q k : List ℕ) → (compare q k ≡ Equal → ⊥) → bytes_eq k q ≡ false
+pub other_name : (q k : List ℕ) → (compare q k ≡ Equal → ⊥) → bytes_eq k q ≡ false
 other_name q k not = differ k q (bytes_eq k q) refl (λ same. not (equal (compare q k) (is_eq-slice_cmp q k ∙ (bytes_eq-Decides q k).1 (sym same))))
 
 less_not_equal : (o : Ordering) → o ≡ Less → o ≡ Equal → ⊥
@@ -38,7 +38,7 @@ less_not_equal Less h i = absurd (cc)
 less_not_equal Equal h i = absurd (cc)
 less_not_equal Greater h i = absurd (cc)
 
-greater_not_equal : (o : Ordering) → o ≡ Greater → o ≡ Equal → ⊥
+pub greater_not_equal : (o : Ordering) → o ≡ Greater → o ≡ Equal → ⊥
 greater_not_equal Less h i = absurd (cc)
 greater_not_equal Equal h i = absurd (cc)
 greater_not_equal Greater h i = absurd (cc)
@@ -70,7 +70,7 @@ name_found ms q [] i d h o is = absurd (omega arith)
 name_found ms q (e ∷ es) zero d h o is = rw ((bytes_eq-Decides e.0 q).1 (sym (same_name q e.0 is))) refl
 name_found ms q (e ∷ es) (suc i) d h o is = rw (past_first q e es i d Equal (omega arith) o.0 is (λ e. absurd (cc))) (name_found ms q es i d (omega arith) o.1 is)
 
-none_above : (ms : json.Members) (q : List ℕ) (es : Places) → AreAbove q es → found ms q es ≡ None
+pub none_above : (ms : json.Members) (q : List ℕ) (es : Places) → AreAbove q es → found ms q es ≡ None
 none_above ms q [] a = refl
 none_above ms q (e ∷ es) a = rw (other_name q e.0 (less_not_equal (compare q e.0) a.0)) (none_above ms q es a.1)
 

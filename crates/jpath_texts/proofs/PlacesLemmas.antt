@@ -98,7 +98,7 @@ swap true false x y z apart = refl
 swap false true x y z apart = refl
 swap false false x y z apart = refl
 
-put_found : (ms : json.Members) (q k : List ℕ) (n : ℕ) (es : Places) → found ms q (put es k n) ≡ cond (bytes_eq k q) (Some (value_at ms n)) (found ms q es)
+pub put_found : (ms : json.Members) (q k : List ℕ) (n : ℕ) (es : Places) → found ms q (put es k n) ≡ cond (bytes_eq k q) (Some (value_at ms n)) (found ms q es)
 put_found ms q k n [] = refl
 put_found ms q k n (e ∷ es) = by (compare k e.0) refl (put_found ms q k n es)
   where
@@ -178,7 +178,7 @@ put_above l k n (e ∷ es) h hs = by (compare k e.0) (put_above l k n es h hs.1)
     by Equal later = hs
     by Greater later = (hs.0, later)
 
-put_ascends : (k : List ℕ) (n : ℕ) (es : Places) → Ascend es → Ascend (put es k n)
+pub put_ascends : (k : List ℕ) (n : ℕ) (es : Places) → Ascend es → Ascend (put es k n)
 put_ascends k n [] h = (tt, tt)
 put_ascends k n (e ∷ es) h = by (compare k e.0) refl (put_ascends k n es h.1)
   where

@@ -6,9 +6,6 @@ use Rattle.jsonpath_nodes.specs.place.Location.{Step}
 use Rattle.jpath_texts.specs.ExactAt.{exact_child, exact_at}
 use Rattle.jpath_texts.specs.Way.{values_along, Leads, LeadsTo, last_of}
 
-some_same : (a b : Json) → Some a ≡ Some b → a ≡ b
-some_same a b h = cc
-
 first_leads : (j : Json) (p : Step × Json) (ps : List (Step × Json)) → Leads j (p ∷ ps) → exact_child p.0 j ≡ Some p.1
 first_leads j p ps h = cc
 

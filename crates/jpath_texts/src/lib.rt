@@ -17,7 +17,7 @@ pub use exact_tree::read_exact_tree;
 pub use json_recognizer::{Kind, LineColumn, MARK, ReadFailure};
 pub use numbers::number_key::NumberKey;
 pub use numbers::written_number::has_minus;
-pub use ordered_tree::handle::OrderedValue;
+pub use ordered_tree::handle::{MemberValue, OrderedValue};
 pub use ordered_tree::way::Way;
 pub use output::array_items::{add_array_end, add_array_item};
 pub use output::csv_and_tsv::{Separated, add_header, add_row};

@@ -1,13 +1,14 @@
 //! Whether the parts to be removed are the members and items at the locations that the edit changes.
 
 ghost use Rattle.std.specs.Prelude.{[], ◌∷◌, map, IfOk, IfSome, IsTrue};
-ghost use Rattle.json.specs.Value.{value_view, members_view};
+ghost use Rattle.json.specs.Value.{value_view};
 ghost use Rattle.jsonpath_nodes.specs.place.Owned.{owned_step};
-ghost use Rattle.jpath_edits.specs.Changed.{part_text, values_named, values_by, IsLabel, IsChildText, AreChildrenBefore, IsTakenBefore, AreTakenAt};
+ghost use Rattle.jpath_texts.specs.ExactAt.{values_by};
+ghost use Rattle.jpath_edits.specs.Changed.{part_text, IsLabel, IsChildText, AreChildrenBefore, IsTakenBefore, AreTakenAt};
 
 use crate::parts::part::Part;
 use crate::parts::part_texts::{PartReader, is_blank_with_optional_comma};
-use jpath_texts::{DocumentRefusal, OrderedValue};
+use jpath_texts::{DocumentRefusal, MemberValue, OrderedValue};
 use json::Value as Exact;
 use jsonpath_nodes::{LocStep, Location};
 
@@ -44,7 +45,7 @@ fn strip_parts_of_location<'p>(
 {
     match location.steps().split_last() {
         Some((step, above)) => match root.value_below(above) {
-            Some(parent) => strip_parts_of_children(reader, text, parent.value(), step, parts),
+            Some(parent) => strip_parts_of_children(reader, text, parent, step, parts),
             None => Ok(None),
         },
         None => Ok(None),
@@ -56,45 +57,40 @@ fn strip_parts_of_location<'p>(
 fn strip_parts_of_children<'p>(
     reader: &mut PartReader,
     text: &str,
-    parent: &Exact<'_>,
+    parent: OrderedValue<'_, '_>,
     step: &LocStep,
     parts: &'p [Part],
 ) -> Result<Option<&'p [Part]>, DocumentRefusal>
-    ensures { IfOk result (λ found. IfSome found (λ behind. AreChildrenBefore (owned_step step.now) (values_by (owned_step step.now) (value_view parent.now)) (map (part_text text.now) parts.entry.now) (map (part_text text.now) behind.now))) }
+    ensures { IfOk result (λ found. IfSome found (λ behind. AreChildrenBefore (owned_step step.now) (values_by (owned_step step.now) (value_view parent.entry.value.now)) (map (part_text text.now) parts.entry.now) (map (part_text text.now) behind.now))) }
 {
     match step {
-        LocStep::Name(name) => match parent {
-            Exact::Object(members) => {
-                strip_parts_of_members(reader, text, members, step, name.as_str(), parts)
-            }
-            _ => Ok(Some(parts)),
-        },
-        LocStep::Index(index) => match parent.at(*index) {
+        LocStep::Name(name) => {
+            let values = parent.values_named(name.as_str())?;
+            strip_parts_of_values(reader, text, values.as_slice(), step, parts)
+        }
+        LocStep::Index(index) => match parent.value().at(*index) {
             Some(item) => strip_part_of_child(reader, text, item, step, parts),
             None => Ok(Some(parts)),
         },
     }
 }
 
-// The rest of the parts, without those of all members of this name, with which they have to begin; None where they
-// don't.
-fn strip_parts_of_members<'p>(
+// The rest of the parts, without those of the members or the item that have these values, with which they have to begin;
+// None where they don't.
+fn strip_parts_of_values<'p>(
     reader: &mut PartReader,
     text: &str,
-    members: &Vec<(&str, Exact<'_>)>,
+    values: &[MemberValue<'_, '_>],
     step: &LocStep,
-    name: &str,
     parts: &'p [Part],
 ) -> Result<Option<&'p [Part]>, DocumentRefusal>
-    ensures { IfOk result (λ found. IfSome found (λ behind. AreChildrenBefore (owned_step step.now) (values_named name.now (members_view members.now.items)) (map (part_text text.now) parts.entry.now) (map (part_text text.now) behind.now))) }
+    ensures { IfOk result (λ found. IfSome found (λ behind. AreChildrenBefore (owned_step step.now) (map (λ m. value_view m.value.now) values.now) (map (part_text text.now) parts.entry.now) (map (part_text text.now) behind.now))) }
 {
     let mut left = parts;
-    for member in members {
-        if member.0 == name {
-            match strip_part_of_child(reader, text, &member.1, step, left)? {
-                Some(behind) => left = behind,
-                None => return Ok(None),
-            }
+    for member in values {
+        match strip_part_of_child(reader, text, member.value, step, left)? {
+            Some(behind) => left = behind,
+            None => return Ok(None),
         }
     }
     Ok(Some(left))

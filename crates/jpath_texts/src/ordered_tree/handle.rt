@@ -1,19 +1,20 @@
 //! Handles that lead to the values of an exact tree, the members of each object in the order of their names.
 
-ghost use Rattle.std.specs.Prelude.{◌≡◌, true, length, option_map, IfSome};
+ghost use Rattle.std.specs.Prelude.{◌≡◌, true, length, map, option_map, option_to_list, IfOk, IfSome};
 ghost use Rattle.json.specs.Find.{as_array, as_object, get_item, get_member};
 ghost use Rattle.json.specs.Json.{array, object};
 ghost use Rattle.json.specs.Value.{value_view, items_view, members_view};
+ghost use Rattle.jsonpath_nodes.specs.place.Location.{name};
 ghost use Rattle.jsonpath_nodes.specs.place.Owned.{owned_step, owned_steps};
 ghost use Rattle.jsonpath_nodes.specs.place.SpotPlace.{step_of};
-ghost use Rattle.jpath_texts.specs.ExactAt.{exact_child, exact_at};
+ghost use Rattle.jpath_texts.specs.ExactAt.{exact_child, exact_at, values_named, values_by};
 ghost use Rattle.jpath_texts.specs.OrderedTree.{member_at, places, taken};
 ghost use Rattle.jpath_texts.specs.TreeOrder.{is_order};
 
 use crate::ordered_tree::order::Order;
 use json::Value as Exact;
 use jsonpath_nodes::{LocStep, Location, PathStep};
-use std::alloc::Global;
+use std::alloc::{AllocError, Global};
 use std::cmp::Ordering;
 
 /// A handle to a value in an exact tree, which is the tree of a JSON text with each number as it is written. Paths that
@@ -45,6 +46,12 @@ pub struct OrderedMembers<'t, 'a> {
     pub(crate) order: &'t Order,
     pub(crate) alloc: Global,
     ghost ordered: { is_order order.now (object (members_view members.now.items)) ≡ true },
+}
+
+/// The value of a member of an object in an exact tree.
+#[derive(Clone, Copy, Drop)]
+pub struct MemberValue<'t, 'a> {
+    pub value: &'t Exact<'a>,
 }
 
 impl<'t, 'a> OrderedValue<'t, 'a> {
@@ -86,8 +93,20 @@ impl<'t, 'a> OrderedValue<'t, 'a> {
         ensures { option_map (λ v. value_view v.value.now) result ≡ exact_at (value_view self.entry.value.now) (owned_steps steps.now) }
     {
         match steps.split_first() {
-            Some((step, rest)) => self.child(lent_step(step))?.value_below(rest),
+            Some((step, rest)) => self.child(borrowed_step(step))?.value_below(rest),
             None => Some(self),
+        }
+    }
+
+    /// The values of all members of this name, in the order of the text, if this is an object; else none. The time grows
+    /// with the number of members where a name comes again in the object, else with its logarithm. The only error is
+    /// that memory ran out.
+    pub fn values_named(self, key: &str) -> Result<Vec<MemberValue<'t, 'a>>, AllocError>
+        ensures { IfOk result (λ values. map (λ m. value_view m.value.now) values.items ≡ values_by (name key.now) (value_view self.entry.value.now)) }
+    {
+        match self.members() {
+            Some(members) => members.values_named(key),
+            None => Ok(Vec::new(self.alloc)),
         }
     }
 
@@ -135,8 +154,8 @@ impl<'t, 'a> OrderedValue<'t, 'a> {
     }
 }
 
-// A step of a location, lent.
-fn lent_step(step: &LocStep) -> PathStep<'_>
+// A step of a location, borrowed from it.
+fn borrowed_step(step: &LocStep) -> PathStep<'_>
     ensures { step_of result ≡ owned_step step.now }
 {
     match step {
@@ -230,5 +249,42 @@ impl<'t, 'a> OrderedMembers<'t, 'a> {
             }
         }
         None
+    }
+
+    // The values of all members of this name. Where no name comes again, there is at most one.
+    fn values_named(self, name: &str) -> Result<Vec<MemberValue<'t, 'a>>, AllocError>
+        ensures { IfOk result (λ values. map (λ m. value_view m.value.now) values.items ≡ values_named name.now (members_view self.entry.members.now.items)) }
+    {
+        if self.len() == self.members.len() {
+            self.last_value(name)
+        } else {
+            self.each_value(name)
+        }
+    }
+
+    // The value of the last member of this name, if there is one.
+    fn last_value(self, name: &str) -> Result<Vec<MemberValue<'t, 'a>>, AllocError>
+        ensures { IfOk result (λ values. map (λ m. value_view m.value.now) values.items ≡ option_to_list (get_member name.now (members_view self.entry.members.now.items))) }
+    {
+        let mut values = Vec::new(self.alloc);
+        if let Some(member) = self.member(name) {
+            values.push(MemberValue {
+                value: member.1.value,
+            })?;
+        }
+        Ok(values)
+    }
+
+    // The values of all members of this name, found by going over the members.
+    fn each_value(self, name: &str) -> Result<Vec<MemberValue<'t, 'a>>, AllocError>
+        ensures { IfOk result (λ values. map (λ m. value_view m.value.now) values.items ≡ values_named name.now (members_view self.entry.members.now.items)) }
+    {
+        let mut values = Vec::new(self.alloc);
+        for member in self.members {
+            if member.0 == name {
+                values.push(MemberValue { value: &member.1 })?;
+            }
+        }
+        Ok(values)
     }
 }
