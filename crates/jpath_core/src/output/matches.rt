@@ -222,10 +222,8 @@ fn add_lines_of_match(
 {
     match line.shown {
         Shown::Values => add_value_line(alloc, value, line, out)?,
-        Shown::Places => add_place_line(alloc, &node.location(alloc)?, line, out)?,
-        Shown::PlacesAndValues => {
-            add_place_and_value_line(alloc, &node.location(alloc)?, value, line, out)?
-        }
+        Shown::Places => add_place_line(alloc, node, line, out)?,
+        Shown::PlacesAndValues => add_place_and_value_line(alloc, node, value, line, out)?,
         Shown::Keys => add_entry_lines(alloc, value, false, line, out)?,
         Shown::Entries => add_entry_lines(alloc, value, true, line, out)?,
         Shown::Lengths => add_length_line(alloc, value, line, out)?,

@@ -1,58 +1,100 @@
 //! The locations of matches, as paths on lines, alone or in a column before the values.
 
-ghost use Rattle.std.specs.Prelude.{◌≡◌, ◌%◌, ◌∷◌, ◌++◌, IfOk, OnOk, string_bytes};
+ghost use Rattle.std.specs.Prelude.{◌≡◌, ◌%◌, ◌∷◌, ◌++◌, map, IfOk, OnOk, string_bytes};
 ghost use Rattle.std.specs.Char.{digit_char};
 ghost use Rattle.std.specs.Str.{chars, encode_utf8_all};
 ghost use Rattle.json.specs.Tree.{HasNumbers};
 ghost use Rattle.json.specs.Value.{value_view};
-ghost use Rattle.jsonpath_nodes.specs.place.LocationText.{location_text};
+ghost use Rattle.jsonpath_nodes.specs.place.LocationText.{location_text, step_chars};
+ghost use Rattle.jsonpath_nodes.specs.place.Owned.{owned_step};
+ghost use Rattle.jsonpath_nodes.specs.place.SpotPlace.{step_of};
 ghost use Rattle.jpath_texts.specs.Lines.{on_line, shown};
+ghost use Rattle.jpath_core.specs.Nodes.{location_of};
 ghost use Rattle.jpath_core.specs.Printable.{escape, has_control, is_control, printable, printable_char};
 
 use crate::laws::escapes_hold;
-use jpath_texts::{Line, add_line_end, add_line_start, add_value_in_look};
+use jpath_texts::{Line, OrderedValue, add_line_end, add_line_start, add_value_in_look};
 use json::Value as Exact;
-use jsonpath_nodes::Location;
+use jsonpath_nodes::{LocStep, NoMemory, PathStep, TreeNode};
 use std::alloc::{AllocError, Global};
 
 // Writes the place of a match on a line, as the path that selects just that; a control character of a name is escaped.
 pub(crate) fn add_place_line(
     alloc: Global,
-    location: &Location,
+    node: &TreeNode<OrderedValue<'_, '_>>,
     line: &Line<'_>,
     out: &mut Vec<u8>,
-) -> Result<(), AllocError>
-    ensures { OnOk result (out.new.items ≡ out.old.items ++ on_line line.now (printable (location_text location.now))) }
+) -> Result<(), NoMemory>
+    ensures { OnOk result (out.new.items ≡ out.old.items ++ on_line line.now (printable (location_text (location_of node.now)))) }
 {
     add_line_start(out, line)?;
-    add_location(alloc, location, out)?;
-    add_line_end(out, line.end)
+    add_location(alloc, node, out)?;
+    add_line_end(out, line.end)?;
+    Ok(())
 }
 
 // Writes the place of a match, a tab and its value on a line. No tab or line end of a name breaks the two columns.
 pub(crate) fn add_place_and_value_line(
     alloc: Global,
-    location: &Location,
+    node: &TreeNode<OrderedValue<'_, '_>>,
     value: &Exact<'_>,
     line: &Line<'_>,
     out: &mut Vec<u8>,
-) -> Result<(), AllocError>
+) -> Result<(), NoMemory>
     requires { HasNumbers (value_view value.now) }
-    ensures { OnOk result (out.new.items ≡ out.old.items ++ on_line line.now (printable (location_text location.now) ++ 9 ∷ shown line.now.look (value_view value.now))) }
+    ensures { OnOk result (out.new.items ≡ out.old.items ++ on_line line.now (printable (location_text (location_of node.now)) ++ 9 ∷ shown line.now.look (value_view value.now))) }
 {
     add_line_start(out, line)?;
-    add_location(alloc, location, out)?;
+    add_location(alloc, node, out)?;
     out.push(b'\t')?;
     add_value_in_look(alloc, out, value, line.look)?;
-    add_line_end(out, line.end)
+    add_line_end(out, line.end)?;
+    Ok(())
 }
 
-// Writes a location as a path whose control characters are escaped.
-fn add_location(alloc: Global, location: &Location, out: &mut Vec<u8>) -> Result<(), AllocError>
-    ensures { OnOk result (out.new.items ≡ out.old.items ++ printable (location_text location.now)) }
+// Writes a node's location as a path whose control characters are escaped.
+fn add_location(
+    alloc: Global,
+    node: &TreeNode<OrderedValue<'_, '_>>,
+    out: &mut Vec<u8>,
+) -> Result<(), NoMemory>
+    ensures { OnOk result (out.new.items ≡ out.old.items ++ printable (location_text (location_of node.now))) }
 {
-    let text = format!(in alloc; "{location}")?;
-    add_printable_text(alloc, text.as_str(), out)
+    let mut steps = Vec::new(alloc);
+    node.add_steps(&mut steps)?;
+    let text = text_of_steps(alloc, steps.as_slice())?;
+    add_printable_text(alloc, text.as_str(), out)?;
+    Ok(())
+}
+
+// The text of the location with these steps.
+fn text_of_steps(alloc: Global, steps: &[PathStep<'_>]) -> Result<String, AllocError>
+    ensures { IfOk result (λ text. string_bytes text ≡ location_text (map step_of steps.now)) }
+{
+    let mut text = String::from_str(alloc, "$")?;
+    for step in steps {
+        add_step(alloc, step, &mut text)?;
+    }
+    Ok(text)
+}
+
+// Adds the text of a step, in brackets.
+fn add_step(alloc: Global, step: &PathStep<'_>, text: &mut String) -> Result<(), AllocError>
+    ensures { OnOk result (string_bytes text.new ≡ string_bytes text.old ++ encode_utf8_all (step_chars (step_of step.now))) }
+{
+    let copy = copied_step(alloc, *step)?;
+    write!(text, "{copy}")?;
+    Ok(())
+}
+
+// A step, copied.
+fn copied_step(alloc: Global, step: PathStep<'_>) -> Result<LocStep, AllocError>
+    ensures { IfOk result (λ copy. owned_step copy ≡ step_of step.entry) }
+{
+    match step {
+        PathStep::Name(name) => Ok(LocStep::Name(String::from_str(alloc, name)?)),
+        PathStep::Index(index) => Ok(LocStep::Index(index)),
+    }
 }
 
 // Writes a text whose control characters are escaped. Without them it is written as it is (`escapes_hold`).
