@@ -7,7 +7,7 @@ mod row;
 mod selected;
 
 use anyhow::{Context, Result};
-use row::{Row, runs_as_told};
+use row::{Row, what_else_came};
 use selected::{Method, is_selected};
 use std::alloc::Global;
 use std::process::ExitCode;
@@ -53,23 +53,31 @@ fn rows_of_lines(alloc: Global, text: &str) -> Result<Vec<Row>> {
 // Replays each row through `run`, or each that selects by a way; prints each that doesn't hold, and the counts. Answers
 // whether all hold.
 fn replay_by(rt: &HostRuntime, file: &str, rows: &[Row], way: Option<Method>) -> Result<bool> {
-    let alloc = rt.alloc();
     let name = way.map_or("run", |way| way.name());
     let mut replayed = 0u64;
     let mut holding = 0u64;
     for row in rows {
-        let answer = match way {
-            Some(way) => is_selected(alloc, row, way)?,
-            None => Some(runs_as_told(alloc, row)?),
-        };
-        if let Some(holds) = answer {
+        if let Some(holds) = row_holds(rt, file, row, way)? {
             replayed = replayed.saturating_add(1);
             holding = holding.saturating_add(u64::from(holds));
-            if !holds {
-                println!(rt; "{file}: {row}\n  another answer by {name}")?;
-            }
         }
     }
     println!(rt; "{file}: {replayed} rows, {holding} hold by {name}")?;
     Ok(holding == replayed)
+}
+
+// Whether a row holds by a way, or through `run`; what came in its place is printed. None if the way doesn't serve it.
+fn row_holds(rt: &HostRuntime, file: &str, row: &Row, way: Option<Method>) -> Result<Option<bool>> {
+    let Some(way) = way else {
+        let came = what_else_came(rt.alloc(), row)?;
+        if let Some(came) = &came {
+            println!(rt; "{file}: {row}\n  came: {came}")?;
+        }
+        return Ok(Some(came.is_none()));
+    };
+    let holds = is_selected(rt.alloc(), row, way)?;
+    if holds == Some(false) {
+        println!(rt; "{file}: {row}\n  another answer by {}", way.name())?;
+    }
+    Ok(holds)
 }

@@ -38,9 +38,9 @@ impl fmt::Display for Row {
 }
 
 /// Runs a test case of the program `jsonpath_run`: calls the program's function `run` with the arguments and the input
-/// of `row`. Returns whether the exit status, the standard output and the error text are those that the case expects.
-/// The call itself fails only if it runs out of memory.
-pub fn runs_as_told(alloc: Global, row: &Row) -> Result<bool, AllocError> {
+/// of `row`. Returns `None` if the exit status, the standard output and the error text are those that the case expects,
+/// else a text that shows what came in their place. The call itself fails only if it runs out of memory.
+pub fn what_else_came(alloc: Global, row: &Row) -> Result<Option<String>, AllocError> {
     let words = row
         .words
         .iter()
@@ -58,9 +58,11 @@ pub fn runs_as_told(alloc: Global, row: &Row) -> Result<bool, AllocError> {
         Ok(status) => (status, String::new(alloc)),
         Err(fault) => (fault.status(), format!(in alloc; "{fault}\n")?),
     };
-    Ok(
-        status == row.status
-            && output.as_slice() == row.output.as_bytes()
-            && row.tells(error.as_str()),
-    )
+    let (output, error) = (output.as_slice(), error.as_str());
+    if status == row.status && output == row.output.as_bytes() && row.tells(error) {
+        return Ok(None);
+    }
+    let output = str::from_utf8(output).unwrap_or("no text");
+    let came = format!(in alloc; "status {status}, output {output:?}, error {error:?}")?;
+    Ok(Some(came))
 }
