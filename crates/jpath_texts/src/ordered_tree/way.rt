@@ -1,8 +1,9 @@
 //! The way along a tree's values from its root, kept from one look-up to the next.
 
-ghost use Rattle.std.specs.Prelude.{◌≡◌, ◌↔◌, ◌≤◌, suc, ◌++◌, [], ◌∷◌, length, map, option_map, IfOk, IsTrue, take, IfSome, OnOk, OnErr};
+ghost use Rattle.std.specs.Prelude.{◌≡◌, ◌≢◌, ◌↔◌, ◌≤◌, suc, Some, slice_get, ◌++◌, [], ◌∷◌, length, map, option_map, IfOk, IsTrue, take, IfSome, OnOk, OnErr};
 ghost use Rattle.json.specs.Json.{Json};
 ghost use Rattle.json.specs.Value.{value_view};
+ghost use Rattle.jsonpath_nodes.specs.place.Location.{Step};
 ghost use Rattle.jsonpath_nodes.specs.place.SpotPlace.{place_location, step_of};
 ghost use Rattle.jpath_texts.specs.ExactAt.{exact_child, exact_at};
 ghost use Rattle.jpath_texts.specs.ExactDocument.{name_bytes};
@@ -77,6 +78,7 @@ fn count_shared(passed: &[Passed<'_, '_, '_>], steps: &[PathStep<'_>]) -> usize
     ensures few { result ≤ length (map passed_view passed.now) }
     ensures within { result ≤ length steps.now }
     ensures same { take result (map (λ p. p.0) (map passed_view passed.now)) ≡ take result (map step_of steps.now) }
+    ensures no_more { (p : Step × Json) (s : Step) → slice_get (map passed_view passed.now) result ≡ Some p → slice_get (map step_of steps.now) result ≡ Some s → p.0 ≢ s }
 {
     match passed.split_first() {
         Some((first, others)) => match steps.split_first() {
