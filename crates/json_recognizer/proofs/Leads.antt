@@ -1,7 +1,7 @@
 -- Where bytes lead, one after the other.
 use Rattle.std.proofs.Common.{rules, ◌≡◌, ℕ, zero, suc, ◌+◌, ◌<◌, ◌≤◌, List, [], ◌∷◌, ◌++◌, length, get_or, take, drop, Bool, true, map, refl, sym, ap, subst, ◌∙◌, arith, inl, inr}
 use Rattle.std.proofs.lemmas.Bool.{cases_lt}
-use Rattle.std.proofs.lemmas.List.{map-append, take-append-drop, drop-take, take-take}
+use Rattle.std.proofs.lemmas.List.{map-append, append_assoc, take-append-drop, drop-take, take-take}
 use Rattle.std.proofs.Math.Seq.{drop-cons}
 use Rattle.json_recognizer.specs.Classes.{class_of, is_plain, is_tail, is_hex, is_high, is_low, is_short_escape}
 use Rattle.json_recognizer.specs.Machine.{Next, goes, refused, goes_from, step, after_all}
@@ -46,6 +46,14 @@ further_in p q e xs a b j first second is is_name = further (InText p is_name) (
 
 pub chars_further : (xs behind : List ℕ) (a b j : ℕ) → behind ≡ drop a xs → AreChars (take a xs) → AreChars (take b behind) → j ≡ a + b → AreChars (take j xs)
 chars_further xs behind a b j lies first second is = further_in InChars InChars InChars xs a b j first (subst (λ ys. AreChars (take b ys)) lies second) is
+
+-- the characters before the rest of a list, and those at its front
+pub chars_and_more : (xs front rest behind : List ℕ) (n : ℕ) → behind ≡ drop n rest → xs ≡ front ++ rest → AreChars front → AreChars (take n rest) → (more : List ℕ) × AreChars more × (xs ≡ more ++ behind)
+chars_and_more xs front rest behind n lies is first second = (
+  front ++ take n rest,
+  (λ is_name. by_both (InText InChars is_name) (InText InChars is_name) (InText InChars is_name) front (take n rest) (first is_name) (second is_name)),
+  is ∙ ap (λ ys. front ++ ys) (sym (take-append-drop n rest)) ∙ sym (append_assoc front (take n rest) (drop n rest)) ∙ ap (λ ys. (front ++ take n rest) ++ ys) (sym lies),
+)
 
 -- each of them leaves the mode as it is
 pub by_each : (m : Mode) (xs : List ℕ) (n : ℕ) → n ≤ length xs → ((k : ℕ) → k < n → (st : List Bool) (r : ℕ) → step m st r (class_of (get_or xs k 0)) ≡ goes m st r) → Leads m (take n xs) m
@@ -179,9 +187,6 @@ escapes x is is_name st r = ap (λ y. step (InText InChars is_name) st r (class_
 escapes_unit : (x : ℕ) → x ≡ 117 → StepsTo AfterBackslash x Unit4
 escapes_unit x is is_name st r = ap (λ y. step (InText AfterBackslash is_name) st r (class_of y)) is
 
-spaces : (x : ℕ) → x ≡ 32 → StepsTo InChars x InChars
-spaces x is is_name st r = ap (λ y. step (InText InChars is_name) st r (class_of y)) is
-
 high_second : (x : ℕ) → is_high (class_of x) ≡ true → StepsTo UnitD x High2
 high_second x h is_name st r = search rules
 
@@ -250,5 +255,5 @@ module _ (xs : List ℕ) (six : 6 ≤ length xs) where
       let four : LeadsIn InChars (take 4 xs) Unit2 = further_in InChars Unit4 Unit2 xs 2 2 4 front (two_at Unit4 Unit2 xs 2 3 refl (omega (arith, six)) first) refl in
       further_in InChars Unit2 InChars xs 4 2 6 four (two_at Unit2 InChars xs 4 5 refl (omega (arith, six)) (two Unit2 Unit1 InChars (get_or xs 4 0) (get_or xs 5 0) (hex_first (get_or xs 4 0) a) (hex_second (get_or xs 5 0) b))) refl
 
-  pub has_space : get_or xs 0 0 ≡ 32 → AreChars (take 1 xs)
-  has_space is = one_at InChars InChars xs 0 (omega (arith, six)) (at_byte InChars InChars InChars (get_or xs 0 0) [] (spaces (get_or xs 0 0) is) (at_end InChars))
+  pub has_plain : is_plain (class_of (get_or xs 0 0)) ≡ true → AreChars (take 1 xs)
+  has_plain plain = one_at InChars InChars xs 0 (omega (arith, six)) (at_byte InChars InChars InChars (get_or xs 0 0) [] (λ is_name. plain_stays is_name (class_of (get_or xs 0 0)) plain) (at_end InChars))

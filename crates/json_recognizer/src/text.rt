@@ -175,8 +175,24 @@ fn escape_len(bytes: &[u8]) -> usize
     }
 }
 
-// How many bytes the first character has if it is an escape, beyond ASCII, or a space; else how many at the front stand
-// for themselves.
+// Whether the byte is ASCII and stands for itself in a text.
+#[inline(always)]
+fn is_plain(byte: u8) -> bool
+    ensures { result ≡ is_plain (class_of byte) }
+{
+    matches!(byte, b' '..=b'!' | b'#'..=b'[' | b']'..=127)
+}
+
+// Whether the first stands for itself and is taken alone: a space, or what has a backslash right behind it.
+#[inline(always)]
+fn is_alone(first: u8, second: u8) -> bool
+    ensures { result ≡ true → is_plain (class_of first) ≡ true }
+{
+    first == b' ' || second == b'\\' && is_plain(first)
+}
+
+// How many bytes the first character has if it is an escape, beyond ASCII, a space, or right before a backslash; else
+// how many at the front stand for themselves.
 #[inline(always)]
 fn front_len(bytes: &[u8]) -> usize
     requires { 6 ≤ length bytes.now }
@@ -185,16 +201,22 @@ fn front_len(bytes: &[u8]) -> usize
 {
     if bytes[0] == b'\\' {
         escape_len(bytes)
+    } else if bytes[0] < 128 {
+        if is_alone(bytes[0], bytes[1]) {
+            1
+        } else {
+            count_chars(bytes)
+        }
+    } else if !is_tail(bytes[1]) {
+        0
     } else if are_two(bytes[0], bytes[1]) {
         2
     } else if begins_three(bytes[0], bytes[1]) && is_tail(bytes[2]) {
         3
-    } else if bytes[0] == b' ' {
-        1
     } else if begins_four(bytes[0], bytes[1]) && is_tail(bytes[2]) && is_tail(bytes[3]) {
         4
     } else {
-        count_chars(bytes)
+        0
     }
 }
 
@@ -205,15 +227,15 @@ fn count_fronts(bytes: &[u8]) -> usize
     ensures within { result ≤ length bytes.now }
     ensures chars { AreChars (take result bytes.now) }
 {
-    let mut at = 0;
-    while bytes.len() - at >= 6 {
-        let len = front_len(&bytes[at..]);
+    let mut rest = bytes;
+    while rest.len() >= 6 {
+        let len = front_len(rest);
         if len == 0 {
-            return at;
+            break;
         }
-        at += len;
+        rest = &rest[len..];
     }
-    at
+    bytes.len() - rest.len()
 }
 
 #[inline(always)]

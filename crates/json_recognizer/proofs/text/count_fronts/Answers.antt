@@ -1,13 +1,14 @@
-use Rattle.std.proofs.Common.{arith, ◌+◌, refl}
+use Rattle.std.proofs.Common.{[], refl}
 use Rattle.std.proofs.lemmas.List.{take_rest}
 use Rattle.json_recognizer.specs.declared.machine.TextPart.TheVariants.{InChars}
-use Rattle.json_recognizer.proofs.Leads.{at_end, chars_further}
+use Rattle.json_recognizer.proofs.Leads.{at_end, chars_and_more}
 use Rattle.json_recognizer.proofs.text.count_fronts.Goals as goal
 
-pub loop-at-init : goal.loop-at-init
-loop-at-init c = record { within = omega arith; chars = at_end InChars }
+pub loop-rest-init : goal.loop-rest-init
+loop-rest-init c = ([], at_end InChars, refl)
 
-pub loop-at-preserved : goal.loop-at-preserved
-loop-at-preserved c =
-    let l = c.loop-at in
-    record { within = omega arith; chars = chars_further c.args.bytes.now _ l.at c.front_len-len.result (l.at + c.front_len-len.result) (take_rest c.args.bytes.now l.at) l.invariant.chars c.front_len-len.ensures.chars refl }
+pub loop-rest-preserved : goal.loop-rest-preserved
+loop-rest-preserved c =
+    let l = c.loop-rest in
+    let len = c.front_len-len in
+    chars_and_more c.args.bytes.now l.invariant.0 l.rest.now _ len.result (take_rest l.rest.now len.result) l.invariant.2 l.invariant.1 len.ensures.chars

@@ -1,9 +1,9 @@
-use Rattle.std.proofs.Common.{◌≤◌, ◌-◌, length, take}
+use Rattle.std.proofs.Common.{◌≡◌, ℕ, List, ◌++◌, length}
 use Rattle.json_recognizer.specs.plan.Leads.{AreChars}
 use Rattle.json_recognizer.proofs.text.count_fronts.Given as goal
 
-abbrev pub invariant-loop-at : goal.invariant-loop-at
-invariant-loop-at l = record { within : l.at ≤ length l.bytes; chars : AreChars (take l.at l.bytes) }
+abbrev pub invariant-loop-rest : goal.invariant-loop-rest
+invariant-loop-rest l = (front : List ℕ) × AreChars front × (l.bytes ≡ front ++ l.rest)
 
-abbrev pub decreases-loop-at : goal.decreases-loop-at
-decreases-loop-at l = length l.bytes - l.at
+abbrev pub decreases-loop-rest : goal.decreases-loop-rest
+decreases-loop-rest l = length l.rest
