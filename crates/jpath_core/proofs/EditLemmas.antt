@@ -2,7 +2,6 @@
 use Rattle.std.proofs.Common.{◌≡◌, ℕ, List, subst}
 use Rattle.std.specs.Prelude.{Option, Some, IfSome}
 use Rattle.json.specs.Json.{Json}
-use Rattle.serde_json.specs.Data.{Data}
 use Rattle.jsonpath_nodes.specs.place.Location.{Location}
 use Rattle.jsonpath_select.specs.Targets.{AreTargets}
 use Rattle.jpath_texts.specs.ExactDocument.{exact_document}
@@ -13,7 +12,7 @@ use Rattle.jpath_edits.specs.declared.growth.Growth.{Growth}
 use Rattle.jpath_core.specs.declared.edit.Edited.{Edited}
 use Rattle.jpath_core.specs.Edited.{IsAppended, IsItemOf}
 
-pub read_again : (change : Change) (places locations : List Location) (before : Data) (bytes written : List ℕ) → places ≡ locations → bytes ≡ written
+pub read_again : (change : Change) (places locations : List Location) (before : Json) (bytes written : List ℕ) → places ≡ locations → bytes ≡ written
     → ReadsChanged change places before bytes → ReadsChanged change locations before written
 read_again change places locations before bytes written there same h =
     subst (λ (us : List ℕ). ReadsChanged change locations before us) same (subst (λ (ls : List Location). ReadsChanged change ls before bytes) there h)

@@ -1,8 +1,6 @@
 -- A text that was edited at the targets of a path.
 use Rattle.std.specs.Prelude.{◌≡◌, ◌≢◌, ℕ, List, [], ◌∷◌, Some}
 use Rattle.json.specs.Value.{value_view}
-use Rattle.serde_json.specs.Data.{Data}
-use Rattle.serde_json.specs.Read.{read}
 use Rattle.jsonpath_paths.specs.Spelling.{Spells}
 use Rattle.jsonpath_paths.specs.tree.Tree.{Path}
 use Rattle.jsonpath_nodes.specs.place.Location.{Location}
@@ -24,7 +22,7 @@ pub record IsEditedAt (path : List ℕ) (change : Change) (exact : Json) (text w
   pub locations : List Location
   pub targets : AreTargets path (exact_document exact) locations
   pub changed : IsChangedAt change exact locations text written
-  pub reads : (before : Data) → read text ≡ Some before → ReadsChanged change locations before written
+  pub reads : ReadsChanged change locations exact written
 
 -- Something was made at the targets of the path.
 pub record IsGrownByPath (path : List ℕ) (growth : Growth) (exact : Json) (text written : List ℕ) : Type 0 where

@@ -55,8 +55,9 @@ pub fn edit_text(
     let alloc = reader.alloc();
     let places = select_locations_in_document_order(alloc, document, query)?;
     let all = places.as_slice();
-    let written = changed_text(reader, text, document.root(alloc), all, change)?;
-    if !are_bytes_of_changed_document(alloc, text, all, change, written.as_slice())? {
+    let root = document.root(alloc);
+    let written = changed_text(reader, text, root, all, change)?;
+    if !are_bytes_of_changed_document(alloc, root, all, change, written.as_slice())? {
         return Err(DocumentRefusal::EditDiffers);
     }
     let targets = locations_below_root(all).len();

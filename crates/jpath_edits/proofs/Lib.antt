@@ -1,3 +1,4 @@
+pub mod ChangedValueLemmas
 pub mod GrowthLemmas
 pub mod SpliceLemmas
 pub mod TargetLemmas

@@ -1,16 +1,15 @@
 -- A text of which some parts have given way to other bytes, and that these are what stands at the targets.
-use Rattle.std.specs.Prelude.{◌≡◌, ℕ, ◌-◌, ◌≤◌, List, [], ◌∷◌, ◌++◌, length, map, flat_map, count_by, slice_index, slice_range, false, ◌==◌, ◌||◌, Some, IsPermutation}
+use Rattle.std.specs.Prelude.{◌≡◌, ℕ, ◌-◌, ◌≤◌, List, [], ◌∷◌, ◌++◌, length, map, flat_map, count_by, slice_index, slice_range, false, ◌==◌, ◌||◌, Option, Some, None, IsPermutation}
 use Rattle.std.specs.List.{AllPass}
 use Rattle.json.specs.Json.{Json, string}
 use Rattle.json.specs.Word.{is_space}
-use Rattle.serde_json.specs.Data.{Data}
-use Rattle.serde_json.specs.Read.{read}
-use Rattle.jsonpath_nodes.specs.document.OfData.{document_of}
+use Rattle.jsonpath_nodes.specs.document.Document.{Document}
 use Rattle.jsonpath_nodes.specs.place.Location.{Step, name, index, Location}
 use Rattle.jsonpath_nodes.specs.step.SameMembers.{topmost}
-use Rattle.jsonpath_nodes.specs.update.Topmost.{put, taken}
+use Rattle.jsonpath_nodes.specs.update.Topmost.{with_answer_at_topmost}
 use Rattle.jpath_texts.specs.Exact.{exact_of}
 use Rattle.jpath_texts.specs.ExactAt.{exact_at, values_by}
+use Rattle.jpath_texts.specs.ExactDocument.{exact_document}
 use Rattle.jpath_edits.specs.declared.change.Change.{Change}
 use Rattle.jpath_edits.specs.declared.change.Change.TheVariants.{Put, Take}
 use Rattle.jpath_edits.specs.declared.parts.part.Part.{Part}
@@ -140,8 +139,11 @@ pub record IsChangedAt (change : Change) (tree : Json) (locations : List Locatio
   pub spliced : IsSpliced (put_by change) text written
   pub parts : GiveWay change tree (below_root locations) (map (λ c. c.gone) spliced.cuts)
 
--- Read again, the text is the document with the value, where it is one, at the topmost of the locations below the root, or without what stands there.
-abbrev pub ReadsChanged : Change → List Location → Data → List ℕ → Type 0
-ReadsChanged (Put text) ls before written =
-    (value : Data) → read text.now ≡ Some value → (after : Data) × (read written ≡ Some after) × (document_of after ≡ put (document_of value) ls (document_of before))
-ReadsChanged Take ls before written = (after : Data) × (read written ≡ Some after) × (document_of after ≡ taken ls (document_of before))
+-- Read again, the text is the document, its numbers as they are written, with the answer at the topmost of the locations below the root.
+abbrev pub ReadsWith : Option Document → List Location → Json → List ℕ → Type 0
+ReadsWith answer ls before written = (after : Json) × (exact_of written ≡ Some after) × (exact_document after ≡ with_answer_at_topmost answer ls (exact_document before))
+
+-- The same with a value, whose text is JSON, or without what stands there.
+abbrev pub ReadsChanged : Change → List Location → Json → List ℕ → Type 0
+ReadsChanged (Put text) ls before written = (value : Json) × (exact_of text.now ≡ Some value) × ReadsWith (Some (exact_document value)) ls before written
+ReadsChanged Take ls before written = ReadsWith None ls before written

@@ -1,119 +1,82 @@
 //! Whether an edited text, read again, is the changed document.
 
-ghost use Rattle.std.specs.Prelude.{◌≡◌, IfOk, IsTrue, option_map, Some};
-ghost use Rattle.std.specs.List.Sorted.{IsStrictlySortedBy};
-ghost use Rattle.serde_json.specs.Data.{Data};
-ghost use Rattle.serde_json.specs.Read.{read};
-ghost use Rattle.serde_json.specs.View.{view};
-ghost use Rattle.jsonpath_nodes.specs.document.OfData.{document_of};
-ghost use Rattle.jsonpath_nodes.specs.place.Location.{location_cmp};
-ghost use Rattle.jsonpath_nodes.specs.update.Topmost.{with_answer_at_topmost};
-ghost use Rattle.jpath_edits.specs.Changed.{ReadsChanged};
+ghost use Rattle.std.specs.Prelude.{◌≡◌, IfOk, IsTrue, Some, option_map};
+ghost use Rattle.json.specs.Value.{value_view};
+ghost use Rattle.jpath_edits.specs.Changed.{ReadsChanged, ReadsWith};
+ghost use Rattle.jpath_texts.specs.Exact.{exact_of};
+ghost use Rattle.jpath_texts.specs.ExactDocument.{document_at};
 
 use crate::change::Change;
-use crate::numbers_alike::read_with_numbers_alike;
-use crate::same_document::is_same_value;
-use crate::serde_value::serde_value_of_text;
-use jpath_texts::DocumentRefusal;
-use jsonpath_nodes::{Location, set_at_once, take_at_once};
-use serde_json::Value;
+use crate::changed_value::{SameTree, is_changed_value};
+use crate::same_exact_tree::is_same_exact_tree;
+use crate::target_locations::locations_below_root;
+use jpath_texts::{Document, DocumentRefusal, OrderedValue};
+use json::Scratch;
+use jsonpath_nodes::Location;
 use std::alloc::Global;
 use std::str;
 
-// The document with the new value at the topmost of the places below the root, or, where none is handed in, with
-// nothing there.
-fn document_with_change(
-    alloc: Global,
-    before: Value,
-    places: &[Location],
-    new: Option<&Value>,
-) -> Result<Value, DocumentRefusal>
-    requires { IsStrictlySortedBy location_cmp places.now }
-    ensures { IfOk result (λ after. document_of (view after) ≡ with_answer_at_topmost (option_map (λ v. document_of (view v.now)) new.entry) places.now (document_of (view before))) }
-{
-    let mut after = before;
-    let made = match new {
-        Some(new) => set_at_once(alloc, &mut after, places, new),
-        None => take_at_once(&mut after, places),
-    };
-    match made {
-        Ok(()) => Ok(after),
-        Err(_) => Err(DocumentRefusal::OutOfMemory),
+impl<'t, 'a, 'u, 'b> SameTree<OrderedValue<'u, 'b>> for OrderedValue<'t, 'a> {
+    fn is_same(self, other: OrderedValue<'u, 'b>) -> bool {
+        is_same_exact_tree(self.value(), other.value())
     }
 }
 
 /// Checks an edit. Returns whether the edited text `written`, read again, is the original document with `change` made
-/// at the locations `places`, except at the root and inside another changed value. `text` is the text of the original
-/// document. `places` has each location once, in document order: parents first, names by bytes, indexes by number.
-/// Returns false if `written` is not UTF-8.
+/// at the locations `places`, except at the root and inside another changed value; numbers are compared as they are
+/// written. `before` is the root of the original document. Returns false if `written` is not UTF-8.
 ///
-/// If `serde_json` rejects a number of the document or of the new value, all numbers count as equal. Errors: `EditNests`
-/// if the edited text or the new value can't be read, or `OutOfMemory`.
+/// Errors: `EditNests` if the edited text or the new value can't be read, or `OutOfMemory`.
 pub fn are_bytes_of_changed_document(
     alloc: Global,
-    text: &str,
+    before: OrderedValue<'_, '_>,
     places: &[Location],
     change: Change<'_>,
     written: &[u8],
 ) -> Result<bool, DocumentRefusal>
-    requires { IsStrictlySortedBy location_cmp places.now }
-    ensures { IfOk result (λ same. IsTrue same → (before : Data) → read text.now ≡ Some before → ReadsChanged change.entry places.now before written.now) }
+    ensures { IfOk result (λ same. IsTrue same → ReadsChanged change.entry places.now (value_view before.entry.value.now) written.now) }
 {
-    match str::from_utf8(written) {
-        Ok(written) => is_text_of_changed_document(alloc, text, places, change, written),
-        Err(_) => Ok(false),
-    }
-}
-
-// Whether an edited text, read again, is the document of `text` with the change made at the topmost of the places.
-// Where `serde_json` refuses a number of the document or of what is put, all numbers are taken for alike. Refused as
-// `EditNests` where the edited text can't be read.
-fn is_text_of_changed_document(
-    alloc: Global,
-    text: &str,
-    places: &[Location],
-    change: Change<'_>,
-    edited: &str,
-) -> Result<bool, DocumentRefusal>
-    requires { IsStrictlySortedBy location_cmp places.now }
-    ensures { IfOk result (λ same. IsTrue same → (before : Data) → read text.now ≡ Some before → ReadsChanged change.entry places.now before edited.now) }
-{
-    let Some(before) = serde_value_of_text(alloc, text)? else {
-        return is_changed_document_with_numbers_alike(alloc, text, places, change, edited);
+    let Ok(edited) = str::from_utf8(written) else {
+        return Ok(false);
     };
-    let wanted = match change {
-        Change::Put(new) => match serde_value_of_text(alloc, new)? {
-            Some(new) => document_with_change(alloc, before, places, Some(&new))?,
-            None => return is_changed_document_with_numbers_alike(
-                alloc, text, places, change, edited,
-            ),
-        },
-        Change::Take => document_with_change(alloc, before, places, None)?,
-    };
-    match serde_value_of_text(alloc, edited)? {
-        Some(found) => Ok(is_same_value(&found, &wanted)),
-        None => Err(DocumentRefusal::EditNests),
-    }
-}
-
-// Whether an edited text, read again, is the document with the change made at the topmost of the places, all numbers
-// taken for alike.
-fn is_changed_document_with_numbers_alike(
-    alloc: Global,
-    text: &str,
-    places: &[Location],
-    change: Change<'_>,
-    edited: &str,
-) -> Result<bool, DocumentRefusal>
-    requires { IsStrictlySortedBy location_cmp places.now }
-{
-    let before = read_with_numbers_alike(alloc, text)?;
-    let wanted = match change {
-        Change::Put(new) => {
-            let new = read_with_numbers_alike(alloc, new)?;
-            document_with_change(alloc, before, places, Some(&new))?
+    match change {
+        Change::Put(value) => {
+            let mut scratch = Scratch::new(alloc);
+            let new = read_again(alloc, value, &mut scratch)?;
+            is_text_with_answer(alloc, before, places, Some(new.root(alloc)), edited)
         }
-        Change::Take => document_with_change(alloc, before, places, None)?,
-    };
-    Ok(is_same_value(&read_with_numbers_alike(alloc, edited)?, &wanted))
+        Change::Take => is_text_with_answer(alloc, before, places, None, edited),
+    }
+}
+
+// Whether an edited text, read again, is the document with the new value at the topmost of the places, or, if there is no
+// new value, with nothing there.
+fn is_text_with_answer(
+    alloc: Global,
+    before: OrderedValue<'_, '_>,
+    places: &[Location],
+    new: Option<OrderedValue<'_, '_>>,
+    edited: &str,
+) -> Result<bool, DocumentRefusal>
+    ensures { IfOk result (λ same. IsTrue same → ReadsWith (option_map document_at new.entry) places.now (value_view before.entry.value.now) edited.now) }
+{
+    let mut scratch = Scratch::new(alloc);
+    let after = read_again(alloc, edited, &mut scratch)?;
+    let targets = locations_below_root(places);
+    Ok(is_changed_value(before, after.root(alloc), targets, 0, new))
+}
+
+// The document of a text. Refused as `EditNests` where it can't be read.
+fn read_again<'a>(
+    alloc: Global,
+    text: &'a str,
+    scratch: &'a mut Scratch,
+) -> Result<Document<'a>, DocumentRefusal>
+    ensures { IfOk result (λ document. exact_of text.now ≡ Some (value_view document.exact)) }
+{
+    match Document::read(alloc, text, scratch) {
+        Ok(document) => Ok(document),
+        Err(DocumentRefusal::OutOfMemory) => Err(DocumentRefusal::OutOfMemory),
+        Err(_) => Err(DocumentRefusal::EditNests),
+    }
 }

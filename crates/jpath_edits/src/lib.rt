@@ -3,13 +3,11 @@
 #![tactic(auto)]
 
 mod change;
+mod changed_value;
 mod check_edited_text;
 mod growth;
-mod numbers_alike;
 mod parts;
-mod same_document;
 mod same_exact_tree;
-mod serde_value;
 mod target_locations;
 
 pub use change::{Change, changed_text};
