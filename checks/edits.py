@@ -15,6 +15,7 @@ What is read off a run is first tried on runs that are made up here.
 """
 import concurrent.futures
 import glob
+import itertools
 import os
 import re
 import shutil
@@ -91,7 +92,8 @@ def functions_of(modules):
             head = re.match(r"( *)(?:pub\S* )?fn (\w+)[<(]", line)
             if head and owner:
                 begin = next(it for it in range(at, len(lines)) if not lines[it] or re.match(head[1] + r"\S(.*\{)?$", lines[it]))
-                cycle = re.search(r"#\[cycle\((\w+)\)\]", lines[at - 1])
+                attributes = itertools.takewhile(lambda it: it.lstrip().startswith("#["), reversed(lines[:at]))
+                cycle = re.search(r"#\[cycle\((\w+)\)\]", "".join(attributes))
                 if lines[begin].endswith("{"):
                     path = f"{owner}::{head[2]}".removeprefix("lib::")
                     found[path] = module, begin, lines.index(head[1] + "}", begin), cycle and cycle[1]
@@ -202,6 +204,7 @@ fn f(it: u8) -> u8
 fn at_once() {}
 
 #[cycle(around)]
+#[inline]
 fn round_and_round() {
     round_and_round()
 }
@@ -223,7 +226,7 @@ impl S<u8> {
     }
 }
 """
-PLACES = {"a::f": ("a", 5, 7, None), "a::round_and_round": ("a", 11, 13, "around"), "a::S::g": ("a", 17, 19, None)}
+PLACES = {"a::f": ("a", 5, 7, None), "a::round_and_round": ("a", 12, 14, "around"), "a::S::g": ("a", 18, 20, None)}
 
 
 def made_up_edit(crate, function, goal):
