@@ -21,10 +21,11 @@ def names_what_rejects_it(text):
 
 
 def bodies():
-    """Each mutant's name, as `crate/name` or `memory/name`, and whether its file names what rejects it."""
-    files = [(it.split("/")[1], it) for it in glob.glob("crates/*/must-fail/*")]
-    files += [("memory", it) for it in glob.glob("checks/memory/*.edit")]
-    return {f"{room}/{os.path.splitext(os.path.basename(it))[0]}": names_what_rejects_it(text_of(it)) for room, it in files}
+    """Each mutant's name, as `crate/name` or `memory/name`, and whether its file names what rejects it. No file of a crate may end
+    in .edit: `rt ci` tries such mutants, by a check of the whole crate, and nobody compares their goals."""
+    files = [(it.split("/")[1], it, ".md") for it in glob.glob("crates/*/must-fail/*")]
+    files += [("memory", it, ".edit") for it in glob.glob("checks/memory/*.edit")]
+    return {f"{room}/{os.path.basename(it).removesuffix(end)}": names_what_rejects_it(text_of(it)) for room, it, end in files}
 
 
 def named(text):
