@@ -1,11 +1,11 @@
 -- The items and members of a document, compared with those of a changed one, one after another.
-use Rattle.std.proofs.Common.{◌≡◌, ℕ, zero, suc, ◌+◌, ◌<◌, ◌≤◌, max, List, [], ◌∷◌, ◌++◌, map, take, drop, length, get_or, Option, Some, None, option_map, is_some, Bool, true, false, not, ◌==◌, cond, Ordering, Less, Equal, Greater, is_eq, refl, sym, ap, subst, ◌∙◌, arith}
+use Rattle.std.proofs.Common.{◌≡◌, ℕ, zero, suc, ◌+◌, ◌<◌, ◌≤◌, List, [], ◌∷◌, ◌++◌, map, drop, length, get_or, Option, Some, None, option_map, is_some, Bool, true, false, not, ◌==◌, cond, Less, is_eq, refl, sym, ap, subst, ◌∙◌, arith}
 use Rattle.std.proofs.lemmas.Cmp.{nat_list_cmp_total, tied_itself}
-use Rattle.std.proofs.lemmas.List.{drop_all, length-map}
+use Rattle.std.proofs.lemmas.List.{drop_all}
 use Rattle.std.specs.Ordering.{ordering_reverse}
 use Rattle.std.specs.List.{AllByRecursion}
 use Rattle.std.specs.List.Sorted.{IsStrictlySortedBy}
-use Rattle.jsonpath_nodes.specs.document.Document.{Document, null, boolean, number, string, array, object, Items, no_items, item, Members, no_members, member, depth, items_depth}
+use Rattle.jsonpath_nodes.specs.document.Document.{Document, array, object, Items, no_items, item, Members, no_members, member, depth, items_depth}
 use Rattle.jsonpath_nodes.specs.document.Find.{as_array, as_object, get_item, items_len}
 use Rattle.jsonpath_nodes.specs.place.Location.{Step, name, index, Location, names, step_cmp}
 use Rattle.jsonpath_nodes.specs.place.Order.{NamesAscend}
@@ -34,11 +34,6 @@ mutual
   no_member_changed : (a : Option Document) (ms : Members) → members_with_answer a [] ms ≡ ms
   no_member_changed a no_members = refl
   no_member_changed a (member k d ms) = ap (λ e. member k e (members_with_answer a [] ms)) (nothing_changed a d) ∙ ap (member k d) (no_member_changed a ms)
-
-pub scalar_stays : (a : Option Document) (ls : List Location) (d : Document) → as_array d ≡ None → as_object d ≡ None → with_answer_at_topmost a ls d ≡ d
-scalar_stays a ls (array ds) h i = absurd (cc)
-scalar_stays a ls (object ms) h i = absurd (cc)
-scalar_stays a ls _ h i = refl
 
 -- ---- locations that go through a step, before others
 

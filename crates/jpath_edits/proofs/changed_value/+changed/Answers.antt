@@ -1,8 +1,7 @@
-use Rattle.std.proofs.Common.{◌≡◌, ◌≤◌, ◌+◌, ◌*◌, ℕ, rules, Option, None, Some, map, drop, suc, List, [], true, not, sym, ap, subst, ◌∙◌, arith, option_map, max}
+use Rattle.std.proofs.Common.{◌≡◌, ◌≤◌, ◌+◌, ℕ, rules, Some, map, drop, suc, List, [], true, not, sym, ap, subst, ◌∙◌, arith, option_map}
 use Rattle.std.proofs.lemmas.Slice.Eq.{bytes_eq-Decides}
-use Rattle.jsonpath_nodes.specs.document.Document.{Document, Items, Members, item, no_items, member, depth, items_depth, members_depth}
-use Rattle.jsonpath_nodes.specs.document.Find.{items_len}
-use Rattle.jsonpath_nodes.specs.place.Location.{Location, name}
+use Rattle.jsonpath_nodes.specs.document.Document.{item, no_items, member, depth, items_depth, members_depth}
+use Rattle.jsonpath_nodes.specs.place.Location.{name}
 use Rattle.jsonpath_nodes.specs.place.Order.{NamesAscend}
 use Rattle.jsonpath_nodes.specs.update.Topmost.{with_answer_at_topmost}
 use Rattle.jsonpath_nodes.specs.update.Update.{item_if, member_if}

@@ -1,4 +1,4 @@
-use Rattle.std.proofs.Common.{◌≡◌, sym, ap, ◌∙◌, suc, drop, ◌∷◌}
+use Rattle.std.proofs.Common.{sym, ap, ◌∙◌, suc, drop, ◌∷◌}
 use Rattle.jsonpath_nodes.specs.place.Location.{Step, Location}
 use Rattle.jsonpath_nodes.specs.place.Owned.{owned_steps}
 use Rattle.jsonpath_nodes.specs.place.SpotPlace.{step_of}
