@@ -6,7 +6,7 @@ use Rattle.std.specs.Ordering.{ordering_reverse}
 use Rattle.std.specs.List.{AllByRecursion}
 use Rattle.std.specs.List.Sorted.{IsStrictlySortedBy}
 use Rattle.jsonpath_nodes.specs.document.Document.{Document, array, object, Items, no_items, item, Members, no_members, member, depth, items_depth}
-use Rattle.jsonpath_nodes.specs.document.Find.{as_array, as_object, get_item, items_len}
+use Rattle.jsonpath_nodes.specs.document.Find.{get_item, items_len}
 use Rattle.jsonpath_nodes.specs.place.Location.{Step, name, index, Location, names, step_cmp}
 use Rattle.jsonpath_nodes.specs.place.Order.{NamesAscend}
 use Rattle.jsonpath_nodes.specs.place.Owned.{owned_step, owned_steps}
