@@ -1,5 +1,5 @@
 -- Values in which each name stands once, item by item and member by member.
-use Rattle.std.proofs.Common.{◌≡◌, ℕ, Bool, true, false, List, [], ◌∷◌, ◌++◌, ◌||◌, map, refl, ap, ◌∙◌, if◌then◌else◌, nat_eq}
+use Rattle.std.proofs.Common.{◌≡◌, ℕ, Bool, true, false, List, [], ◌∷◌, ◌++◌, ◌||◌, map, refl, ap, ◌∙◌, if◌then◌else◌, nat_eq, length, ◌<◌, arith}
 use Rattle.std.specs.Cmp.Lexicographic.{pointwise}
 use Rattle.std.specs.Borrow.{Bor}
 use Rattle.std.specs.Str.{bytes_eq}
@@ -9,7 +9,7 @@ use Rattle.json.specs.Tree.{HasNumbers, ItemsHaveNumbers, MembersHaveNumbers}
 use Rattle.json.specs.Value.{value_view, items_of, items_view, members_of, members_view}
 use Rattle.json.specs.declared.value.Value.{Value}
 use Rattle.indexmap.specs.IndexMap.{insert_entry, insert_all}
-use Rattle.jpath_texts.specs.NamesOnce.{names_once, items_once, members_once, put_member, put_members}
+use Rattle.jpath_texts.specs.NamesOnce.{names_once, items_once, members_once, each_name_once, put_member, put_members}
 
 abbrev pub same_name : Bor (List ℕ) → Bor (List ℕ) → Bool
 same_name x y = pointwise nat_eq x.now y.now
@@ -43,6 +43,11 @@ module _ {A : Type 0} where
   put_entries es (x ∷ xs) = put_entries (insert_entry same_name es x.0 x.1) xs ∙ ap (λ ms. put_members ms (members_view xs)) (put_entry es x.0 x.1)
 
   -- ---- where no name comes again
+
+  pub one_name : (xs : List (Bor (List ℕ) × Value A)) → length xs < 2 → each_name_once (members_view xs) ≡ members_view xs
+  one_name [] h = refl
+  one_name (x ∷ []) h = refl
+  one_name (x ∷ y ∷ xs) h = absurd (omega arith)
 
   pub put_more : (before : Members) (xs : List (Bor (List ℕ) × Value A)) (x : Bor (List ℕ) × Value A)
       → put_members before (members_view (xs ++ x ∷ [])) ≡ put_member x.0.now (value_view x.1) (put_members before (members_view xs))

@@ -71,7 +71,8 @@ fn add_location(
 fn text_of_steps(alloc: Global, steps: &[PathStep<'_>]) -> Result<String, AllocError>
     ensures { IfOk result (λ text. string_bytes text ≡ location_text (map step_of steps.now)) }
 {
-    let mut text = String::from_str(alloc, "$")?;
+    let mut text = String::with_capacity(alloc, steps.len().saturating_mul(8))?;
+    text.push_str("$")?;
     for step in steps {
         add_step(alloc, step, &mut text)?;
     }

@@ -139,6 +139,9 @@ fn may_repeat_in_members(members: &Vec<(&str, Exact<'_>)>) -> bool
 fn has_name_twice(members: &[(&str, Exact<'_>)]) -> bool
     ensures { result ≡ false → each_name_once (members_view members.now) ≡ members_view members.now }
 {
+    if members.len() < 2 {
+        return false;
+    }
     for (at, member) in members.iter().enumerate() {
         if is_name_among(&members[..at], member.0) {
             return true;
