@@ -3,5 +3,6 @@
 pub(crate) mod handle;
 pub(crate) mod in_order;
 pub(crate) mod order;
+mod places;
 pub(crate) mod tree;
 pub(crate) mod way;

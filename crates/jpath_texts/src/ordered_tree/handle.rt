@@ -9,7 +9,7 @@ ghost use Rattle.jsonpath_nodes.specs.place.Owned.{owned_step, owned_steps};
 ghost use Rattle.jsonpath_nodes.specs.place.SpotPlace.{step_of};
 ghost use Rattle.jpath_texts.specs.ExactAt.{exact_child, exact_at, values_named, values_by};
 ghost use Rattle.jpath_texts.specs.OrderedTree.{member_at, places, taken};
-ghost use Rattle.jpath_texts.specs.TreeOrder.{is_order};
+ghost use Rattle.jpath_texts.specs.TreeOrder.{is_order, values_of};
 
 use crate::ordered_tree::order::Order;
 use json::Value as Exact;
@@ -173,15 +173,8 @@ impl<'t, 'a> OrderedItems<'t, 'a> {
         if index >= self.items.len() {
             return None;
         }
-        let value = &self.items[index];
-        match self.order {
-            Order::OfItems(orders) => {
-                Some(OrderedValue::with_order(self.alloc, value, &orders[index]))
-            }
-            Order::AsItStands | Order::OfMembers(_) => {
-                Some(OrderedValue::with_order(self.alloc, value, self.order))
-            }
-        }
+        let order = self.order.in_item(index);
+        Some(OrderedValue::with_order(self.alloc, &self.items[index], order))
     }
 }
 
@@ -192,7 +185,7 @@ impl<'t, 'a> OrderedMembers<'t, 'a> {
         ensures { result ≡ length (places (members_view self.entry.members.now.items)) }
     {
         match self.order {
-            Order::OfMembers(members) => members.len(),
+            Order::OfMembers(places, _) => places.len(),
             Order::AsItStands | Order::OfItems(_) => self.members.len(),
         }
     }
@@ -203,32 +196,31 @@ impl<'t, 'a> OrderedMembers<'t, 'a> {
         ensures { option_map (λ m. (m.0.now, value_view m.1.value.now)) result ≡ taken index (members_view self.entry.members.now.items) }
     {
         match self.order {
-            Order::OfMembers(members) => {
-                if index >= members.len() {
+            Order::OfMembers(places, values) => {
+                if index >= places.len() {
                     return None;
                 }
-                let member = &members[index];
-                self.member_in_place(member.0, &member.1)
+                self.member_in_place(places[index], values)
             }
             Order::AsItStands | Order::OfItems(_) => self.member_in_place(index, self.order),
         }
     }
 
-    // The member at a place of the object, in whose value members are taken in this order.
+    // The member at a place of the object, in whose values members are taken in this order.
     #[inline(always)]
     fn member_in_place(
         self,
         place: usize,
-        order: &'t Order,
+        values: &'t Order,
     ) -> Option<(&'a str, OrderedValue<'t, 'a>)>
-        requires { IfSome (member_at place (members_view self.members.now.items)) (λ m. is_order order.now m.1 ≡ true) }
+        requires { is_order values.now (array (values_of (members_view self.members.now.items))) ≡ true }
         ensures { option_map (λ m. (m.0.now, value_view m.1.value.now)) result ≡ member_at place (members_view self.entry.members.now.items) }
     {
         if place >= self.members.len() {
             return None;
         }
         let member = &self.members[place];
-        let value = OrderedValue::with_order(self.alloc, &member.1, order);
+        let value = OrderedValue::with_order(self.alloc, &member.1, values.in_item(place));
         Some((member.0, value))
     }
 

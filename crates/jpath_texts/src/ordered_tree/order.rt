@@ -1,16 +1,16 @@
 //! In which order the members of a tree's objects are taken, so that their names ascend.
 
-ghost use Rattle.std.specs.Prelude.{◌≡◌, true, IfOk, IsTrue};
-ghost use Rattle.std.specs.BTreeMap.{values};
-ghost use Rattle.json.specs.Json.{Json, array, object};
+ghost use Rattle.std.specs.Prelude.{◌≡◌, true, map, IfOk, IfSome, IsTrue};
+ghost use Rattle.json.specs.Find.{get_item};
+ghost use Rattle.json.specs.Json.{Items, Json, array, object};
 ghost use Rattle.json.specs.Value.{value_view, items_view, members_view};
-ghost use Rattle.jpath_texts.specs.OrderedTree.{is_ordered};
-ghost use Rattle.jpath_texts.specs.TreeOrder.{is_order};
+ghost use Rattle.jpath_texts.specs.OrderedTree.{is_ordered, are_items_ordered};
+ghost use Rattle.jpath_texts.specs.TreeOrder.{each_meets, is_order};
 
 use crate::ordered_tree::in_order::is_tree_ordered;
+use crate::ordered_tree::places::places_of_members;
 use json::Value as Exact;
 use std::alloc::{AllocError, Global};
-use std::collections::BTreeMap;
 
 // The order in which the members of the objects at or below a value are taken.
 #[derive(Drop)]
@@ -19,9 +19,9 @@ pub(crate) enum Order {
     AsItStands,
     // The orders in the items of an array.
     OfItems(Vec<Order>),
-    // The members of an object by their names' bytes, of a name that comes again the last one: the place where each
-    // stands in the object, and the order in its value.
-    OfMembers(Vec<(usize, Order)>),
+    // The places of an object's members by their names' bytes, of a name that comes again the place of the last one; and
+    // the order in the values of its members, as if they were an array's items.
+    OfMembers(Vec<usize>, Box<Order>),
 }
 
 impl Order {
@@ -31,6 +31,23 @@ impl Order {
         ensures { IsTrue result → (j : Json) → is_order self.now j ≡ is_ordered j }
     {
         matches!(self, Order::AsItStands)
+    }
+
+    // The order in the item at an index of the array whose order this is.
+    #[inline(always)]
+    pub(crate) fn in_item(&self, index: usize) -> &Order
+        ensures { (js : Items) → is_order self.now (array js) ≡ true → IfSome (get_item index js) (λ j. is_order result.now j ≡ true) }
+    {
+        match self {
+            Order::OfItems(orders) => {
+                if index < orders.len() {
+                    &orders[index]
+                } else {
+                    self
+                }
+            }
+            Order::AsItStands | Order::OfMembers(_, _) => self,
+        }
     }
 }
 
@@ -56,22 +73,16 @@ fn order_in(alloc: Global, value: &Exact<'_>) -> Result<Order, AllocError>
     }
 }
 
-// The order in an array. Where each item is taken as it stands, the array is.
+// The order in an array.
 #[cycle(order)]
 fn order_of_items(alloc: Global, items: &Vec<Exact<'_>>) -> Result<Order, AllocError>
     ensures { IfOk result (λ order. is_order order (array (items_view items.now.items)) ≡ true) }
 {
     let mut orders = Vec::with_capacity(alloc, items.len())?;
-    let mut stands = true;
     for item in items {
-        let order = order_in(alloc, item)?;
-        stands = stands & order.stands();
-        orders.push(order)?;
+        orders.push(order_in(alloc, item)?)?;
     }
-    if stands {
-        return Ok(Order::AsItStands);
-    }
-    Ok(Order::OfItems(orders))
+    Ok(order_of_orders(orders))
 }
 
 // The order of an object's members.
@@ -79,19 +90,36 @@ fn order_of_items(alloc: Global, items: &Vec<Exact<'_>>) -> Result<Order, AllocE
 fn order_of_members(alloc: Global, members: &Vec<(&str, Exact<'_>)>) -> Result<Order, AllocError>
     ensures { IfOk result (λ order. is_order order (object (members_view members.now.items)) ≡ true) }
 {
-    let mut named = BTreeMap::new(alloc);
-    for (place, member) in members.iter().enumerate() {
-        named.insert(member.0, (place, order_in(alloc, &member.1)?))?;
+    let places = places_of_members(alloc, members.as_slice())?;
+    let mut orders = Vec::with_capacity(alloc, members.len())?;
+    for member in members {
+        orders.push(order_in(alloc, &member.1)?)?;
     }
-    Ok(Order::OfMembers(values_of_map(alloc, named)?))
+    let values = Box::new(alloc, order_of_orders(orders))?;
+    Ok(Order::OfMembers(places, values))
 }
 
-// The values of a map as a list, in the order of its keys.
-fn values_of_map(
-    alloc: Global,
-    named: BTreeMap<&str, (usize, Order)>,
-) -> Result<Vec<(usize, Order)>, AllocError>
-    ensures { IfOk result (λ made. made.items ≡ values named.entry) }
+// The order in an array whose items have these orders. Where each item is taken as it stands, the array is.
+fn order_of_orders(orders: Vec<Order>) -> Order
+    ensures { (js : Items) → each_meets (map is_order orders.items) js ≡ true → is_order result (array js) ≡ true }
 {
-    named.into_values().collect(alloc)
+    if all_stand(orders.as_slice()) {
+        Order::AsItStands
+    } else {
+        Order::OfItems(orders)
+    }
+}
+
+// Whether each of these takes all as it stands.
+fn all_stand(orders: &[Order]) -> bool
+    ensures { IsTrue result → (js : Items) → each_meets (map is_order orders.now) js ≡ true → are_items_ordered js ≡ true }
+{
+    let mut left = orders;
+    while let Some((order, rest)) = left.split_first() {
+        if !order.stands() {
+            return false;
+        }
+        left = rest;
+    }
+    true
 }

@@ -2,9 +2,9 @@ use Rattle.std.proofs.Common.{◌≡◌, ◌<◌, true, Some, IfSome, option_map
 use Rattle.std.proofs.lemmas.Option.{slice_get-get_or, slice_get_past}
 use Rattle.std.specs.List.{slice_get}
 use Rattle.json.specs.Value.{value_view, members_view}
-use Rattle.jpath_texts.specs.OrderedTree.{member_at}
-use Rattle.jpath_texts.specs.TreeOrder.{is_order}
-use Rattle.jpath_texts.proofs.OrderLemmas.{member_of_view}
+use Rattle.json.specs.Find.{get_item}
+use Rattle.jpath_texts.specs.TreeOrder.{is_order, values_of}
+use Rattle.jpath_texts.proofs.OrderLemmas.{member_of_view, value_of_view}
 use Rattle.jpath_texts.proofs.OrderedTreeLemmas.{Entry}
 use Rattle.jpath_texts.proofs.ordered_tree.handle.OrderedMembers.member_in_place.Goals as goal
 
@@ -19,8 +19,8 @@ with_order-value-requires c =
     let within : c.args.place < length xs = omega (arith, c.args.self.members.now.ok.0) in
     let m = c.index-member.result.now in
     let read : slice_get xs c.args.place ≡ Some m = slice_get-get_or xs c.args.place m within ∙ ap Some (sym c.index-member.ensures) in
-    let there : member_at c.args.place (members_view xs) ≡ Some (m.0.now, value_view m.1) = member_of_view xs c.args.place ∙ ap (option_map (λ (y : Entry Global). (y.0.now, value_view y.1))) read in
-    subst (λ o. IfSome o (λ e. is_order c.args.order.now e.1 ≡ true)) there c.requires
+    let there : get_item c.args.place (values_of (members_view xs)) ≡ Some (value_view m.1) = value_of_view xs c.args.place ∙ ap (option_map (λ (y : Entry Global). value_view y.1)) read in
+    subst (λ o. IfSome o (λ j. is_order c.in_item.result.now j ≡ true)) there (c.in_item.ensures (values_of (members_view xs)) c.requires)
 
 pub returns : goal.returns
 returns c =
