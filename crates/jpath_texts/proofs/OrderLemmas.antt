@@ -16,7 +16,7 @@ use Rattle.jpath_texts.proofs.OrderedTreeLemmas.{Entry, and_left, and_right, bot
 
 -- ---- one level of an order
 
-pub order_stands : (j : Json) → is_order AsItStands j ≡ is_ordered j
+order_stands : (j : Json) → is_order AsItStands j ≡ is_ordered j
 order_stands j = search (rules, the_lemmas)
 
 pub order_of_items : (v : Vec Order Global) (j : Json) → is_order (OfItems v) j ≡ takes_items (map is_order v.items) j
@@ -85,12 +85,12 @@ no_item (p ∷ ps) json.no_items i P past h = tt
 no_item (p ∷ ps) (json.item j js) zero P past h = absurd (omega (arith, past))
 no_item (p ∷ ps) (json.item j js) (suc i) P past h = no_item ps js i P (omega (arith, past)) (and_right (is_order p j) (each_meets (map is_order ps) js) h)
 
-pub item_stands : (js : json.Items) (i : ℕ) → are_items_ordered js ≡ true → IfSome (get_item i js) (λ j. is_order AsItStands j ≡ true)
+item_stands : (js : json.Items) (i : ℕ) → are_items_ordered js ≡ true → IfSome (get_item i js) (λ j. is_order AsItStands j ≡ true)
 item_stands json.no_items i o = tt
 item_stands (json.item j js) zero o = order_stands j ∙ and_left (is_ordered j) (are_items_ordered js) o
 item_stands (json.item j js) (suc i) o = item_stands js i (and_right (is_ordered j) (are_items_ordered js) o)
 
-pub is_no_array : (o : Order) (found : Vec ℕ Global) (p : Box Order Global) (js : json.Items) → o ≡ OfMembers found p → is_order o (json.array js) ≡ true → ⊥
+is_no_array : (o : Order) (found : Vec ℕ Global) (p : Box Order Global) (js : json.Items) → o ≡ OfMembers found p → is_order o (json.array js) ≡ true → ⊥
 is_no_array o found p js is h = absurd (true≢false (sym h ∙ ap (λ q. is_order q (json.array js)) is ∙ order_of_members found p (json.array js)))
 
 -- an array's order that isn't made of its items' is that of each item

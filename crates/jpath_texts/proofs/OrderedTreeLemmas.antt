@@ -1,5 +1,5 @@
 -- Trees whose members stand in order, member by member.
-use Rattle.std.proofs.Common.{◌≡◌, ℕ, List, [], ◌∷◌, ◌++◌, map, Bool, true, false, ◌&&◌, Option, Some, None, Ordering, Less, Equal, Greater, nat_cmp, refl, sym, ap, ap₂, ◌∙◌}
+use Rattle.std.proofs.Common.{◌≡◌, ℕ, List, [], ◌∷◌, map, Bool, true, false, ◌&&◌, Option, Some, None, Ordering, Less, Equal, Greater, nat_cmp, refl, sym, ap, ap₂, ◌∙◌}
 use Rattle.std.proofs.lemmas.Cmp.{nat_list_cmp_total}
 use Rattle.std.specs.Borrow.{Bor}
 use Rattle.std.specs.BTreeMap.{insert_entry}
@@ -66,12 +66,6 @@ rest_ordered k j ms o = and_right (is_ordered j) (are_members_ordered ms) (and_r
 pub items_made : {A : Type 0} (xs : List (Value A)) → items_of (map (λ x. in_order (value_view x)) xs) ≡ items_in_order (items_view xs)
 items_made [] = refl
 items_made (x ∷ xs) = ap (json.item (in_order (value_view x))) (items_made xs)
-
-pub items_ordered_more : {A : Type 0} (made : List (Value A)) (v : Value A) → are_items_ordered (items_view made) ≡ true → is_ordered (value_view v) ≡ true → are_items_ordered (items_view (made ++ v ∷ [])) ≡ true
-items_ordered_more [] v o h = rw h refl
-items_ordered_more (x ∷ made) v o h =
-    both (is_ordered (value_view x)) (are_items_ordered (items_view (made ++ v ∷ []))) (and_left (is_ordered (value_view x)) (are_items_ordered (items_view made)) o)
-    (items_ordered_more made v (and_right (is_ordered (value_view x)) (are_items_ordered (items_view made)) o) h)
 
 -- ---- ordered members stand as they are
 
