@@ -193,15 +193,15 @@ fn hint_to_replace(alloc: Global, before: &str, rest: &str) -> Result<Option<Str
     ensures { IfOk result (λ o. IfSome o (λ hint. EndsWithPath (string_bytes hint))) }
 {
     let mut fixed = format!(in alloc; "{before}{rest}")?;
-    for (signs, sentence) in SIGNS {
-        fixed = replace_unquoted(alloc, fixed.as_str(), signs)?;
-        if let Some(hint) = hint_if_path(alloc, sentence, fixed.as_str(), "", "")? {
+    for (signs, sentence) in &SIGNS {
+        fixed = replace_unquoted(alloc, fixed.as_str(), *signs)?;
+        if let Some(hint) = hint_if_path(alloc, *sentence, fixed.as_str(), "", "")? {
             return Ok(Some(hint));
         }
     }
-    for (wrong, right, sentence) in REPLACEMENTS {
-        if let Some(tail) = rest.strip_prefix(wrong) {
-            if let Some(hint) = hint_if_path(alloc, sentence, before, right, tail)? {
+    for (wrong, right, sentence) in &REPLACEMENTS {
+        if let Some(tail) = rest.strip_prefix(*wrong) {
+            if let Some(hint) = hint_if_path(alloc, *sentence, before, *right, tail)? {
                 return Ok(Some(hint));
             }
         }
@@ -431,9 +431,9 @@ fn hint_for_unsupported_syntax(path: &str, before: &str, rest: &str) -> Option<&
     if rest.starts_with('{') {
         return Some(NO_ARGUMENT);
     }
-    for (part, sentence) in PARTS {
-        if has_unquoted(path, part) {
-            return Some(sentence);
+    for (part, sentence) in &PARTS {
+        if has_unquoted(path, *part) {
+            return Some(*sentence);
         }
     }
     if rest.starts_with('(') && has_filter && before.ends_with(|c: char| is_of_name(c)) {
@@ -442,10 +442,10 @@ fn hint_for_unsupported_syntax(path: &str, before: &str, rest: &str) -> Option<&
     if rest.starts_with("()") || (rest.starts_with('(') && !has_filter) {
         return Some(NO_FUNCTION);
     }
-    for (words, sentence) in WORDS {
+    for (words, sentence) in &WORDS {
         let begin = rest.get(..words.len()).unwrap_or("");
-        if has_filter && begin.eq_ignore_ascii_case(words) {
-            return Some(sentence);
+        if has_filter && begin.eq_ignore_ascii_case(*words) {
+            return Some(*sentence);
         }
     }
     if !has_filter && rest.starts_with(',') && !before.ends_with(|c: char| c.is_ascii_digit()) {
