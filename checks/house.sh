@@ -283,7 +283,7 @@ undefined() {
     done | sed 's/.* of //' | sort -u | grep -vxFf <(defined "$page") | grep -E '^(jsonpath|jpath|made_up)'
 }
 
-PRODUCT=(jsonpath_streams jsonpath_paths jsonpath_nodes jsonpath_select jsonpath_lib jsonpath_run jpath_texts jpath_edits jpath_core)
+PRODUCT=(jsonpath_streams jsonpath_paths jsonpath_nodes json_trees jsonpath_select jsonpath_lib jsonpath_run jpath_texts jpath_edits jpath_core)
 found=$(undefined docs/DEFINITIONS.md "${PRODUCT[@]/#/crates/}")
 judge "$([ -z "$found" ]; echo $?)" "public contracts cite what docs/DEFINITIONS.md does not have: $found"
 printf '%s\n' '## Made up: `made_up/specs`' '| File | What it says |' '|---|---|' '| `Place` | places |' > "$work/page.md"

@@ -5,7 +5,7 @@
 # shows is made and unpacked there. Last line: 'N passed, M failed'.
 set -u
 here=$(cd "$(dirname "${BASH_SOURCE[0]}")/.." && pwd)
-crates='jsonpath_streams json_recognizer jsonpath_paths jsonpath_nodes jsonpath_select jsonpath_lib'
+crates='jsonpath_streams json_recognizer jsonpath_paths jsonpath_nodes json_trees jsonpath_select jsonpath_lib'
 passed=0
 failed=0
 work=$(mktemp -d) || exit 1
@@ -84,8 +84,8 @@ rm -rf "$copied" "$mine/app/out"
 
 printf jsonpath_streams: >> "$mine/../crates.txt"
 says 'a repository' 0 "install: the proved library is in $work/mine/crates" "$here/install" --into "$work/mine"
-[ "$(find "$work/mine" -maxdepth 2 | wc -l)" = 11 ]
-judge $? 'more is in the repository than its two crates, the six and crates.txt'
+[ "$(find "$work/mine" -maxdepth 2 | wc -l)" = 12 ]
+judge $? 'more is in the repository than its two crates, the seven and crates.txt'
 mv "$mine/app/proofs" "$work/proofs"
 says 'the caller without its proof' 1 "fn app::found: proved$line*fn app::price: no proof*${line}logic=not-proved" within app rt check
 echo 'fn changed() -> u8 { true }' >> "$mine/jsonpath_streams/src/lib.rt"

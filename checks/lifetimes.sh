@@ -10,7 +10,7 @@ failed=0
 room=$(mktemp -d) || exit 1
 trap 'rm -rf "$room"' EXIT
 functions=$here/crates/jsonpath_tests/tests/library/lifetimes.rs
-libraries='jsonpath_streams json_recognizer jsonpath_paths jsonpath_nodes jsonpath_select jsonpath_lib'
+libraries='jsonpath_streams json_recognizer jsonpath_paths jsonpath_nodes json_trees jsonpath_select jsonpath_lib'
 program=$room/crates/lent/src/main.rt
 
 for name in $libraries; do

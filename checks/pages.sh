@@ -34,7 +34,7 @@ WORDS = {
     r"held": "stored, owned", r"rooms?": "folder; memory", r"the gate": "CI",
 }
 PRIVATE = re.compile(rf"\b(?:{'|'.join(WORDS)})\b", re.IGNORECASE)
-# Rows say `refused:` and have a column `Refused`, which `jsonpath_rows` reads. A byte order mark is the field's word, room on a stack, too.
+# Rows say `refused:` and have a column `Refused`, which `scripts/page_rows.py` reads. A byte order mark is the field's word, room on a stack, too.
 FIELD = re.compile(r"\| refused: ``|^\| Refused \||\bbyte order marks?\b|\broom on (?:the|a) stack\b", re.IGNORECASE)
 
 def prose_of(line):

@@ -3,7 +3,7 @@
 # script makes of it and 'rt try' runs, or stands word for word in a test: of jsonpath_tests, or of checks/samples, which runs
 # beside, where examples of a type go on from one another. (Its files are named .rs, since the gate wants each .rt file in
 # a crate.) Each sample of a module's comment, and each function of docs/LIBRARY.md, stands so; its program, which is README's,
-# is run. Each row of a path in README stands in docs/PATHS.md, whose rows jsonpath_rows replays, as those of docs/FROM-OTHERS.md. Each item that a library or jsonpath_run gives out has an example:
+# is run. Each row of a path in README stands in docs/PATHS.md, whose rows tests/rows replays, as those of docs/FROM-OTHERS.md. Each item that a library or jsonpath_run gives out has an example:
 # each function, type and trait, each method of a type's own, and each law. Each call of the table of calls of docs/LIBRARY.md is
 # one that jsonpath_lib gives out, or a method of the types above it. Last line: 'N passed, M failed'.
 set -u
@@ -232,8 +232,8 @@ def rows_of(file):
 
 for page in ["PATHS.md", "FROM-OTHERS.md"]:
     made = subprocess.run([sys.executable, "scripts/page_rows.py", f"docs/{page}"], capture_output=True, text=True)
-    kept = lines_of(f"crates/jsonpath_rows/data/{page[:-3]}.jsonl")
-    judge(made.returncode == 0 and len(kept) > 60 and made.stdout.split("\n") == kept, f"docs/{page} hasn't the rows that jsonpath_rows replays: {made.stderr[-300:]}")
+    kept = lines_of(f"crates/jsonpath_tests/tests/rows/{page[:-3]}.jsonl")
+    judge(made.returncode == 0 and len(kept) > 60 and made.stdout.split("\n") == kept, f"docs/{page} hasn't the rows that tests/rows replays: {made.stderr[-300:]}")
 replayed = set(rows_of("docs/PATHS.md"))
 readme = rows_of("README.md")
 for row in readme:

@@ -48,8 +48,13 @@ fn growths_made_up(rt: HostRuntime) {
     assert!(rt; text.is_ok());
 }
 MADE_UP
+# The files of rows are put beside the tests that read them.
+data=()
+for file in "$here"/crates/jsonpath_tests/tests/rows/*.jsonl; do
+    data+=(--data "${file##*/}=$file")
+done
 # A test has a few seconds; the time that it may take is long, since other work may go on.
-RT_ALLOW_C=jsonpath_tests rt try --test --seconds 600 > "$said" 2>&1 < /dev/null
+RT_ALLOW_C=jsonpath_tests rt try --test --seconds 600 "${data[@]}" > "$said" 2>&1 < /dev/null
 
 # A test and how it ended, with the growths that were refused to it, or the one at which it failed.
 ended=$(awk '

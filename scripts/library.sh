@@ -5,7 +5,7 @@
 set -u
 CDPATH=
 here=$(cd "$(dirname -- "$0")/.." && pwd -P)
-crates='jsonpath_streams json_recognizer jsonpath_paths jsonpath_nodes jsonpath_select jsonpath_lib'
+crates='jsonpath_streams json_recognizer jsonpath_paths jsonpath_nodes json_trees jsonpath_select jsonpath_lib'
 noted=crates/jsonpath_lib/out/proved
 
 say() { printf 'install: %s\n' "$1" >&2; }

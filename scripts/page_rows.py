@@ -1,6 +1,6 @@
-"""Prints the rows of a page of docs/ as lines of JSON, which crates/jsonpath_rows/data keeps and `jsonpath_rows` replays:
+"""Prints the rows of a page of docs/ as lines of JSON, which crates/jsonpath_tests/tests/rows keeps and replays:
 
-    python3 scripts/page_rows.py docs/PATHS.md > crates/jsonpath_rows/data/PATHS.jsonl
+    python3 scripts/page_rows.py docs/PATHS.md > crates/jsonpath_tests/tests/rows/PATHS.jsonl
 
 They stand in the tables whose head has a cell `Path`, `Words` or `Refused`. `Path` is a path to select by, `Words` are the
 program's words, each in code of its own; `Document` is the input, and `Answer` the output, or `refused:` and the message.

@@ -16,7 +16,7 @@ use Rattle.jsonpath_nodes.specs.document.Find as document
 use Rattle.jsonpath_nodes.specs.document.OfData.{document_of, items_of, members_of}
 use Rattle.jsonpath_nodes.specs.place.Location.{Step, name, index, Location, child}
 use Rattle.jsonpath_nodes.specs.place.Location as location
-use Rattle.jpath_texts.specs.ExactAt.{exact_child, exact_at}
+use Rattle.json_trees.specs.ExactAt.{exact_child, exact_at}
 
 abbrev pub pick : {A : Type 0} → A → Option A → A
 pick d None = d

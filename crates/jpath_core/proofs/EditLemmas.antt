@@ -4,7 +4,7 @@ use Rattle.std.specs.Prelude.{Option, Some, IfSome}
 use Rattle.json.specs.Json.{Json}
 use Rattle.jsonpath_nodes.specs.place.Location.{Location}
 use Rattle.jsonpath_select.specs.Targets.{AreTargets}
-use Rattle.jpath_texts.specs.ExactDocument.{exact_document}
+use Rattle.json_trees.specs.ExactDocument.{exact_document}
 use Rattle.jpath_edits.specs.Changed.{ReadsChanged}
 use Rattle.jpath_edits.specs.declared.change.Change.{Change}
 use Rattle.jpath_edits.specs.Grown.{IsGrownAt}

@@ -24,7 +24,7 @@ use Rattle.jsonpath_nodes.specs.compare.Comparisons.{Seen, seen}
 use Rattle.jsonpath_nodes.specs.step.Separate.{IsApart, NamesStandApart, RangeStandsApart, KeptStandApart, CandidatesStandApart, ApartHasNoRepeat, ApartHasNoRepeatFlat}
 use Rattle.jsonpath_select.specs.Meaning.{reached, follow, inner_on, holds, values, values_at, candidates, has_own_step, has_own_step_path, has_own_step_term, is_some_location}
 use Rattle.jsonpath_select.specs.Parts.{name_at, plain_of, has_pair, joined}
-use Rattle.jpath_texts.specs.ExactAt.{exact_child, exact_at}
+use Rattle.json_trees.specs.ExactAt.{exact_child, exact_at}
 use Rattle.jpath_core.specs.AlongExactTree.{StandIn, list_of, items_in, is_no_object, is_no_array, are_no_arrays, is_shallow, spread, seen_number, seen_exact, key_of, member_key, member_of, is_member_term, is_simple_term, is_simple, values_exact, holds_exact, both, part_by, part, walk, walk_all}
 use Rattle.jpath_core.proofs.WalkLemmas.{both_empty, both_none, both_assoc}
 use Rattle.jpath_core.proofs.CarryLemmas.{pick, mapped_some, document_read, child_carries, location_carries, exact_at-last}

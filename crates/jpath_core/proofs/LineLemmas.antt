@@ -6,7 +6,7 @@ use Rattle.json.proofs.Numbered.{HasNumbers-at, HasNumbers-get}
 use Rattle.jsonpath_nodes.specs.document.Document.{Document}
 use Rattle.jsonpath_nodes.specs.place.Location.{Step, name, index, Location}
 use Rattle.jsonpath_nodes.specs.place.Mark.{look_kept, shown, MarksStandAt}
-use Rattle.jpath_texts.specs.ExactAt.{exact_child, exact_at}
+use Rattle.json_trees.specs.ExactAt.{exact_child, exact_at}
 use Rattle.jpath_core.specs.Nodes.{Node, location_of, value_of}
 
 -- ---- what is selected can be written

@@ -7,8 +7,8 @@ use Rattle.std.proofs.lemmas.List.Elements.{filter_map-append}
 use Rattle.json.specs.Json.{Json}
 use Rattle.jsonpath_nodes.specs.place.Location.{Location}
 use Rattle.jsonpath_select.specs.Meaning.{SelectsAt, SelectsNodes}
-use Rattle.jpath_texts.specs.ExactAt.{exact_at}
-use Rattle.jpath_texts.specs.ExactDocument.{document_at, exact_document, name_bytes}
+use Rattle.json_trees.specs.ExactAt.{exact_at}
+use Rattle.json_trees.specs.ExactDocument.{document_at, exact_document, name_bytes}
 use Rattle.jpath_texts.specs.declared.query.Query.{Query}
 use Rattle.jpath_texts.specs.declared.output.match_line.Line.{Line}
 use Rattle.jpath_core.specs.Matches.{SelectInTurn, nothing, path_first, lines_text, match_text_if}

@@ -16,7 +16,7 @@ use Rattle.jsonpath_nodes.specs.place.Location.{Location}
 use Rattle.jsonpath_nodes.specs.compare.Comparisons.{Seen, null_value, truth, text, unread, list, members, units_of, seen_units}
 use Rattle.jsonpath_select.specs.Meaning.{sel}
 use Rattle.jsonpath_select.specs.Parts.{name_at, literals, has_pair, joined}
-use Rattle.jpath_texts.specs.ExactAt.{exact_at}
+use Rattle.json_trees.specs.ExactAt.{exact_at}
 use Rattle.jpath_texts.specs.Lines.{on_line, shown}
 use Rattle.jpath_texts.specs.declared.output.match_line.Line.{Line}
 use Rattle.jpath_core.specs.declared.exact_tree.exact_evaluator.Lines.{Lines}

@@ -13,8 +13,8 @@ use Rattle.jpath_edits.specs.declared.change.Change.TheVariants.{Put}
 use Rattle.jpath_edits.specs.declared.growth.Growth.{Growth}
 use Rattle.jpath_edits.specs.declared.growth.Growth.TheVariants.{Member, Item, Name}
 use Rattle.json.specs.Json.{Json}
-use Rattle.jpath_texts.specs.Exact.{exact_of}
-use Rattle.jpath_texts.specs.ExactDocument.{exact_document}
+use Rattle.json_trees.specs.Exact.{exact_of}
+use Rattle.json_trees.specs.ExactDocument.{exact_document}
 use Rattle.jpath_core.specs.declared.grow.NewMember.{NewMember}
 
 -- The text is changed at the targets of the path and nowhere else, and read again it is the document changed there.

@@ -5,12 +5,12 @@ use Rattle.jsonpath_paths.specs.tree.Tree.{Path}
 use Rattle.jsonpath_nodes.specs.place.Location.{Location}
 use Rattle.jsonpath_nodes.specs.place.LocationText.{location_text}
 use Rattle.jsonpath_select.specs.Meaning.{sel, SelectsAt}
-use Rattle.jpath_texts.specs.ExactAt.{exact_at}
+use Rattle.json_trees.specs.ExactAt.{exact_at}
 use Rattle.jpath_core.specs.Printable.{printable}
 use Rattle.jpath_texts.specs.AtDepth.{arranged, array_item, array_end, comma_and_indent, is_compact}
 use Rattle.jpath_texts.specs.Entries.{entry_lines, length_of, length_value}
 use Rattle.jpath_texts.specs.Lines.{compact, on_line, shown, with_members_kept}
-use Rattle.jpath_texts.specs.ExactDocument.{exact_document}
+use Rattle.json_trees.specs.ExactDocument.{exact_document}
 use Rattle.jpath_texts.specs.declared.output.match_line.Line.{Line}
 use Rattle.jpath_texts.specs.declared.output.match_line.Shown.{Shown}
 use Rattle.jpath_texts.specs.declared.output.match_line.Shown.TheVariants.{Values, Places, PlacesAndValues, Keys, Entries, Lengths}

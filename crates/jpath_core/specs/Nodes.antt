@@ -5,8 +5,8 @@ use Rattle.jsonpath_nodes.specs.document.Document.{Document}
 use Rattle.jsonpath_nodes.specs.place.Location.{Location}
 use Rattle.jsonpath_nodes.specs.place.SpotPlace.{place_location, place_value}
 use Rattle.jsonpath_nodes.specs.declared.place.spot.TreeNode.{TreeNode}
-use Rattle.jpath_texts.specs.ExactDocument.{document_at, name_bytes}
-use Rattle.jpath_texts.specs.declared.ordered_tree.handle.OrderedValue.{OrderedValue}
+use Rattle.json_trees.specs.ExactDocument.{document_at, name_bytes}
+use Rattle.json_trees.specs.declared.ordered_tree.handle.OrderedValue.{OrderedValue}
 
 abbrev pub Node : Type 0
 Node = TreeNode OrderedValue (Bor (List ℕ))

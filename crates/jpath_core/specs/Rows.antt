@@ -4,8 +4,8 @@ use Rattle.json.specs.Json.{Json}
 use Rattle.jsonpath_paths.specs.OfPath.{OfPath}
 use Rattle.jsonpath_nodes.specs.place.Location.{Location}
 use Rattle.jsonpath_select.specs.Meaning.{sel, SelectsAt}
-use Rattle.jpath_texts.specs.ExactAt.{exact_at}
-use Rattle.jpath_texts.specs.ExactDocument.{exact_document}
+use Rattle.json_trees.specs.ExactAt.{exact_at}
+use Rattle.json_trees.specs.ExactDocument.{exact_document}
 use Rattle.jpath_texts.specs.Lines.{shown}
 use Rattle.jpath_texts.specs.Rows.{row_line}
 use Rattle.jpath_texts.specs.declared.output.csv_and_tsv.Separated.{Separated}

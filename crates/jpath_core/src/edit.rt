@@ -5,7 +5,7 @@ ghost use Rattle.std.specs.List.Sorted.{IsStrictlySortedBy};
 ghost use Rattle.json.specs.Value.{value_view};
 ghost use Rattle.jsonpath_nodes.specs.place.Location.{location_cmp};
 ghost use Rattle.jsonpath_select.specs.Targets.{AreTargets};
-ghost use Rattle.jpath_texts.specs.ExactDocument.{exact_document};
+ghost use Rattle.json_trees.specs.ExactDocument.{exact_document};
 ghost use Rattle.jpath_edits.specs.Changed.{put_by, IsSpliced};
 ghost use Rattle.jpath_core.specs.Edited.{IsEditedAt};
 

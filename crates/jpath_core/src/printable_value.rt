@@ -3,8 +3,8 @@
 ghost use Rattle.std.specs.Prelude.{◌≡◌, option_map, IfOk, IfSome};
 ghost use Rattle.json.specs.Tree.{HasNumbers};
 ghost use Rattle.json.specs.Value.{value_view};
-ghost use Rattle.jpath_texts.specs.ExactAt.{exact_at};
-ghost use Rattle.jpath_texts.specs.Way.{IsWayFrom};
+ghost use Rattle.json_trees.specs.ExactAt.{exact_at};
+ghost use Rattle.json_trees.specs.Way.{IsWayFrom};
 ghost use Rattle.jpath_core.specs.Nodes.{location_of};
 
 use jpath_texts::{OrderedValue, Way};

@@ -3,7 +3,7 @@
 ghost use Rattle.std.specs.Prelude.{IfOk};
 ghost use Rattle.json.specs.Value.{value_view};
 ghost use Rattle.jsonpath_select.specs.Meaning.{SelectsNodes};
-ghost use Rattle.jpath_texts.specs.ExactDocument.{document_at, exact_document, name_bytes};
+ghost use Rattle.json_trees.specs.ExactDocument.{document_at, exact_document, name_bytes};
 
 use jpath_texts::{Document, DocumentRefusal, OrderedValue, Query};
 use jsonpath_nodes::TreeNode;

@@ -13,7 +13,7 @@ use Rattle.json.specs.Value.{value_view, items_view, members_view}
 use Rattle.json.specs.declared.value.Value.{Value}
 use Rattle.jsonpath_nodes.specs.place.Location.{Location}
 use Rattle.jpath_edits.specs.Grown.{Filled, IsFilledAt, AreGoneFor, IsGrownAt, containers_of, grown_all, has_name, with_last_item, with_last_member, with_member, with_name, each_renamed, in_item, in_member, IsLastNamed}
-use Rattle.jpath_texts.specs.Exact.{exact_of}
+use Rattle.json_trees.specs.Exact.{exact_of}
 use Rattle.jpath_edits.specs.declared.growth.Growth.{Growth}
 use Rattle.jpath_edits.proofs.SpliceLemmas.{take_on}
 use Rattle.jpath_edits.specs.declared.growth.seam.Seam.{Seam}

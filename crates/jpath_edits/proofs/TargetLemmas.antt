@@ -8,10 +8,10 @@ use Rattle.json.specs.Json.{Json}
 use Rattle.jsonpath_nodes.specs.place.Location.{Step, Location}
 use Rattle.jsonpath_nodes.specs.step.SameMembers.{topmost}
 use Rattle.jpath_edits.specs.Changed.{replaced, part_text, put_by, below_root, IsEdge, IsLabel, IsChildText, GiveWayAt, GiveWay, IsSplicedAt, IsChangedAt}
-use Rattle.jpath_texts.specs.Exact.{exact_of}
+use Rattle.json_trees.specs.Exact.{exact_of}
 use Rattle.jpath_edits.specs.declared.change.Change.{Change}
 use Rattle.jpath_edits.specs.declared.parts.part.Part.{Part}
-use Rattle.jpath_texts.specs.declared.refusal.DocumentRefusal.{DocumentRefusal}
+use Rattle.json_trees.specs.declared.refusal.DocumentRefusal.{DocumentRefusal}
 
 -- a part of a text, cut in two
 range_on : (text : List ℕ) (i j k : ℕ) → i ≤ j → j ≤ k → slice_range text i k ≡ slice_range text i j ++ slice_range text j k

@@ -7,9 +7,9 @@ use Rattle.jsonpath_nodes.specs.document.Document.{Document}
 use Rattle.jsonpath_nodes.specs.place.Location.{Step, name, index, Location}
 use Rattle.jsonpath_nodes.specs.step.SameMembers.{topmost}
 use Rattle.jsonpath_nodes.specs.update.Topmost.{with_answer_at_topmost}
-use Rattle.jpath_texts.specs.Exact.{exact_of}
-use Rattle.jpath_texts.specs.ExactAt.{exact_at, values_by}
-use Rattle.jpath_texts.specs.ExactDocument.{exact_document}
+use Rattle.json_trees.specs.Exact.{exact_of}
+use Rattle.json_trees.specs.ExactAt.{exact_at, values_by}
+use Rattle.json_trees.specs.ExactDocument.{exact_document}
 use Rattle.jpath_edits.specs.declared.change.Change.{Change}
 use Rattle.jpath_edits.specs.declared.change.Change.TheVariants.{Put, Take}
 use Rattle.jpath_edits.specs.declared.parts.part.Part.{Part}

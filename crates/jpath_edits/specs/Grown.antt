@@ -6,7 +6,7 @@ use Rattle.json.specs.Tree.{HasNumbers}
 use Rattle.json.specs.Value.{value_view}
 use Rattle.jsonpath_nodes.specs.place.Location.{name, index, Location}
 use Rattle.jsonpath_nodes.specs.step.SameMembers.{topmost}
-use Rattle.jpath_texts.specs.Exact.{exact_of}
+use Rattle.json_trees.specs.Exact.{exact_of}
 use Rattle.jpath_edits.specs.declared.growth.Growth.{Growth}
 use Rattle.jpath_edits.specs.declared.growth.Growth.TheVariants.{Member, Item, Name}
 use Rattle.jpath_edits.specs.declared.growth.seam.Seam.{Seam}

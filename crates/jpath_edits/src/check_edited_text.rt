@@ -3,8 +3,8 @@
 ghost use Rattle.std.specs.Prelude.{◌≡◌, IfOk, IsTrue, Some, option_map};
 ghost use Rattle.json.specs.Value.{value_view};
 ghost use Rattle.jpath_edits.specs.Changed.{ReadsChanged, ReadsWith};
-ghost use Rattle.jpath_texts.specs.Exact.{exact_of};
-ghost use Rattle.jpath_texts.specs.ExactDocument.{document_at};
+ghost use Rattle.json_trees.specs.Exact.{exact_of};
+ghost use Rattle.json_trees.specs.ExactDocument.{document_at};
 
 use crate::change::Change;
 use crate::changed_value::{SameTree, is_changed_value};

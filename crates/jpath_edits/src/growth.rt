@@ -5,7 +5,7 @@ ghost use Rattle.std.specs.Prelude.{◌≡◌, map, IfOk, IfSome, IsTrue, Some};
 ghost use Rattle.json.specs.Value.{value_view};
 ghost use Rattle.jsonpath_nodes.specs.place.Owned.{owned_steps};
 ghost use Rattle.jpath_edits.specs.Grown.{container_of, containers_of, grown_all, CanBeWritten, IsGrownAt};
-ghost use Rattle.jpath_texts.specs.Exact.{exact_of};
+ghost use Rattle.json_trees.specs.Exact.{exact_of};
 
 mod find_seams;
 mod is_grown_text;

@@ -11,8 +11,8 @@ use Rattle.json_recognizer.specs.declared.stream.Found.{Found}
 use Rattle.json_recognizer.specs.declared.stream.Found.TheVariants as found
 use Rattle.json_recognizer.specs.declared.wanted.Wanted.{Wanted}
 use Rattle.json_recognizer.specs.Blanks.{blanks_len}
-use Rattle.jpath_texts.specs.declared.refusal.DocumentRefusal.{DocumentRefusal}
-use Rattle.jpath_texts.specs.declared.refusal.DocumentRefusal.TheVariants.{NotADocument, HugeExponent, EditNests, EditDiffers, OutOfMemory}
+use Rattle.json_trees.specs.declared.refusal.DocumentRefusal.{DocumentRefusal}
+use Rattle.json_trees.specs.declared.refusal.DocumentRefusal.TheVariants.{NotADocument, HugeExponent, EditNests, EditDiffers, OutOfMemory}
 use Rattle.jpath_files.specs.declared.refused_document.Reason.{Reason}
 use Rattle.jpath_files.specs.declared.refused_document.Reason.TheVariants as reason
 use Rattle.jpath_files.specs.declared.refused_document.RefusedDocument.{RefusedDocument}

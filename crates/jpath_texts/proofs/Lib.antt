@@ -1,11 +1,3 @@
-pub mod ArrangedLemmas
-pub mod DocumentLemmas
-pub mod EachNameOnceLemmas
 pub mod LineLemmas
-pub mod MemberSearchLemmas
 pub mod OnceLemmas
-pub mod OrderLemmas
-pub mod OrderedTreeLemmas
-pub mod PlacesLemmas
 pub mod StreamLemmas
-pub mod WayLemmas

@@ -3,7 +3,7 @@ use Rattle.std.specs.Prelude.{ℕ, ◌+◌, ◌-◌, ◌*◌, ◌^◌, min, Bool
 use Rattle.json.specs.Json.{Json, null, boolean, number, string, array, object, Items, no_items, item, Members, no_members, member}
 use Rattle.json.specs.Print.{quoted}
 use Rattle.jpath_texts.specs.NamesOnce.{names_once}
-use Rattle.jpath_texts.specs.OrderedTree.{in_order}
+use Rattle.json_trees.specs.OrderedTree.{in_order}
 use Rattle.jpath_texts.specs.declared.output.look.Layout.{Layout}
 use Rattle.jpath_texts.specs.declared.output.look.Layout.TheVariants.{OneLine, Blanks, Tabs}
 use Rattle.jpath_texts.specs.declared.output.look.Look.{Look}

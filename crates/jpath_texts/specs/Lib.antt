@@ -1,14 +1,6 @@
 pub mod AtDepth
-pub mod DocumentPlaces
 pub mod Entries
-pub mod Exact
-pub mod ExactAt
-pub mod ExactDocument
 pub mod Lines
 pub mod NamesOnce
-pub mod NumberKey
-pub mod OrderedTree
 pub mod Rows
 pub mod Stream
-pub mod TreeOrder
-pub mod Way

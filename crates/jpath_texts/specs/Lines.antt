@@ -1,19 +1,14 @@
--- The text of a value, and why a text is refused.
-use Rattle.std.specs.Prelude.{◌≡◌, ℕ, Bool, if◌then◌else◌, List, [], ◌∷◌, ◌++◌, Option, Some, None, option_and_then}
+-- The text of a value.
+use Rattle.std.specs.Prelude.{ℕ, Bool, if◌then◌else◌, List, [], ◌∷◌, ◌++◌, Option, Some, None}
 use Rattle.std.specs.Borrow.{Bor}
 use Rattle.json.specs.Json.{Json, null, boolean, number, string, array, object}
 use Rattle.json.specs.Print.{print}
 use Rattle.json.specs.Tree.{json_tokens}
-use Rattle.serde_json.specs.Read.{of_json}
 use Rattle.jpath_texts.specs.AtDepth.{arranged, at_depth, is_compact}
-use Rattle.jpath_texts.specs.Exact.{exact_of}
 use Rattle.jpath_texts.specs.declared.output.match_line.Line.{Line}
 use Rattle.jpath_texts.specs.declared.output.match_line.LineEnd.{LineEnd}
 use Rattle.jpath_texts.specs.declared.output.match_line.LineEnd.TheVariants.{LineFeed, Nul, Nothing}
 use Rattle.jpath_texts.specs.declared.output.look.Look.{Look}
-use Rattle.jpath_texts.specs.declared.refusal.DocumentRefusal.{DocumentRefusal}
-use Rattle.jpath_texts.specs.declared.output.look.Look.{Look}
-use Rattle.jpath_texts.specs.declared.refusal.DocumentRefusal.TheVariants.{NotADocument, HugeExponent, EditNests, EditDiffers, OutOfMemory}
 
 -- the compact text of a value: its numbers' digits and its members' order as they were read
 abbrev pub compact : Json → List ℕ
@@ -58,15 +53,3 @@ line_end Nothing = []
 -- a text on a line, with what begins and what ends the line
 abbrev pub on_line : Line → List ℕ → List ℕ
 on_line line text = record_start line.is_record ++ (named line.name ++ (text ++ line_end line.end))
-
--- the text is no document
-abbrev pub IsRefusedText : List ℕ → Type 0
-IsRefusedText text = option_and_then of_json (exact_of text) ≡ None
-
--- the text is no document, or memory ran out
-abbrev pub IsWhyRefused : List ℕ → DocumentRefusal → Type 0
-IsWhyRefused text NotADocument = IsRefusedText text
-IsWhyRefused text HugeExponent = ⊥
-IsWhyRefused text EditNests = ⊥
-IsWhyRefused text EditDiffers = ⊥
-IsWhyRefused text OutOfMemory = Unit {0}

@@ -1,24 +1,15 @@
-//! JSON texts with all their detail: the documents of a stream, the exact tree of a text, on which paths compare numbers
-//! as they are written, and how values are written.
+//! JSON texts as `jpath` reads and writes them: the documents of a stream, compiled paths, and how values are written.
 #![tactic(auto)]
 
-mod document;
-mod exact_tree;
-pub mod laws;
-mod numbers;
-mod ordered_tree;
 mod output;
 mod query;
-mod refusal;
 mod stream;
 
-pub use document::Document;
-pub use exact_tree::read_exact_tree;
 pub use json_recognizer::{Kind, LineColumn, MARK, ReadFailure};
-pub use numbers::number_key::NumberKey;
-pub use numbers::written_number::has_minus;
-pub use ordered_tree::handle::{MemberValue, OrderedValue};
-pub use ordered_tree::way::Way;
+pub use json_trees::{
+    Document, DocumentRefusal, MemberValue, NumberKey, OrderedValue, Way, has_minus,
+    read_exact_tree,
+};
 pub use output::array_items::{add_array_end, add_array_item};
 pub use output::csv_and_tsv::{Separated, add_header, add_row};
 pub use output::entry_lines::{add_entry_lines, add_length_line};
@@ -28,6 +19,5 @@ pub use output::match_line::{
 };
 pub use output::value_text::{add_compact_value, add_value_in_look};
 pub use query::Query;
-pub use refusal::DocumentRefusal;
 pub use stream::piece::Piece;
 pub use stream::visit_documents::{Ended, How, Taken, Visitor, visit_documents};

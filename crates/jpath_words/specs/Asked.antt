@@ -9,7 +9,7 @@ use Rattle.jpath_words.specs.declared.command_line.Flags.{Flags}
 use Rattle.jpath_words.specs.declared.command_line.Words.{Words}
 use Rattle.jpath_words.specs.declared.command_line.EditWords.{EditWords}
 use Rattle.jpath_words.specs.declared.command_line.EditWords.TheVariants.{Set, SetText, Add, AddText, Append, Rename, Null, Remove}
-use Rattle.jpath_texts.specs.Exact.{exact_of}
+use Rattle.json_trees.specs.Exact.{exact_of}
 use Rattle.jpath_texts.specs.Lines.{compact}
 use Rattle.jpath_texts.specs.declared.output.look.Layout.{Layout}
 use Rattle.jpath_texts.specs.declared.output.look.Layout.TheVariants.{OneLine, Blanks, Tabs}

@@ -6,7 +6,7 @@ ghost use Rattle.json.specs.Json.{Json};
 ghost use Rattle.json.specs.Tree.{HasNumbers};
 ghost use Rattle.json.specs.Value.{value_view};
 ghost use Rattle.jpath_texts.specs.AtDepth.{is_over_lines};
-ghost use Rattle.jpath_texts.specs.Exact.{exact_of};
+ghost use Rattle.json_trees.specs.Exact.{exact_of};
 ghost use Rattle.jpath_texts.specs.Lines.{compact};
 ghost use Rattle.jpath_words.specs.Asked.{is_edit, colored_by, end_by, layout_by, look_by, paths_of, files_of, shown_by, AreOf, AreEditsOf, IsAsked, IsEditOf, IsOfMatches, IsValueText};
 

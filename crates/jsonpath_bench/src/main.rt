@@ -1,4 +1,4 @@
-//! Measures the library: `jsonpath_bench PATH FILE COUNT [select|spots|count|first|exists|delete|remove|compile]`
+//! Measures the library: `jsonpath_bench PATH FILE COUNT [select|spots|first|exists|delete|remove|compile]`
 //! prints the nanoseconds per call and the number of results.
 #![tactic(auto)]
 
@@ -11,7 +11,7 @@ use std::process::ExitCode;
 use std::{env, fs};
 
 const USAGE: &str =
-    "usage: jsonpath_bench PATH FILE COUNT [select|spots|count|first|exists|delete|remove|compile]";
+    "usage: jsonpath_bench PATH FILE COUNT [select|spots|first|exists|delete|remove|compile]";
 
 fn main(rt: HostRuntime) -> Result<ExitCode> {
     let alloc = rt.alloc();

@@ -1,34 +1,48 @@
 -- What several paths select together, path after path.
-use Rattle.std.proofs.Common.{◌≡◌, ℕ, ◌+◌, ◌<◌, ◌≤◌, List, [], ◌∷◌, ◌++◌, map, length, drop, get_or, Option, refl, ap, ap₂, ◌∙◌, sym, subst, append-nil, ◌↔◌, Contains, drop_of_length-le}
+use Rattle.std.proofs.Common.{◌≡◌, ℕ, ◌+◌, ◌<◌, ◌≤◌, true, List, [], ◌∷◌, ◌++◌, map, length, drop, get_or, Option, refl, ap, ap₂, ◌∙◌, sym, subst, append-nil, ◌↔◌, Contains, drop_of_length-le}
 use Rattle.std.proofs.lemmas.List.{drop_more, append_assoc, map-append}
-use Rattle.jsonpath_select.specs.Meaning.{sel, SelectsSet}
-use Rattle.jsonpath_lib.specs.update.Masked.{AreSelected, IsAsGood}
+use Rattle.jsonpath_select.specs.Meaning.{sel, SelectsNodeSet}
+use Rattle.jsonpath_lib.specs.update.Masked.{AreSelected, AreSelectedNodes, AreAsGood}
 use Rattle.jsonpath_nodes.specs.place.Order.{once_in_order}
 use Rattle.jsonpath_nodes.specs.document.Document.{Document}
 use Rattle.jsonpath_nodes.specs.place.Location.{Location}
+use Rattle.jsonpath_nodes.specs.place.Mark.{MarksStandAt, shown, look_kept}
 use Rattle.jsonpath_nodes.specs.DocumentLaws.{OnceInOrderKeepsMembers}
-use Rattle.jsonpath_nodes.specs.place.SpotPlace.{StandAt, location_of, look, sight_of}
+use Rattle.jsonpath_nodes.specs.place.SpotPlace.{place_location, place_value}
 use Rattle.jsonpath_nodes.specs.step.SameMembers.{SameMembers, JoinedSets, OneListOfASet}
-use Rattle.jsonpath_nodes.specs.place.SpotPlace.{Spot}
+use Rattle.jsonpath_nodes.specs.declared.place.spot.TreeNode.{TreeNode}
 
--- the spots stand in the document, and what the paths that are left select completes them to the set that all of them select
-abbrev pub Completes : List (List ℕ) → ℕ → Document → List Spot → Type 0
-Completes paths i doc spots =
-    (found : List Location) × StandAt doc found spots × ((rest : List Location) → AreSelected (drop i paths) doc rest → (all : List Location) × AreSelected paths doc all × SameMembers (found ++ rest) all)
+abbrev Stand : {T N : Type 0} → (N → List ℕ) → (T → Document) → Document → List Location → List (TreeNode T N) → Type 0
+Stand bytes content doc ls nodes = MarksStandAt true (place_location bytes) (place_value content) doc ls nodes
+
+-- the nodes stand in the document, and what the paths that are left select completes them to the set that all of them select
+abbrev pub Completes : {T N : Type 0} → (N → List ℕ) → (T → Document) → List (List ℕ) → ℕ → Document → List (TreeNode T N) → Type 0
+Completes bytes content paths i doc nodes =
+    (found : List Location) × Stand bytes content doc found nodes × ((rest : List Location) → AreSelected (drop i paths) doc rest → (all : List Location) × AreSelected paths doc all × SameMembers (found ++ rest) all)
 
 abbrev Sight : Type 0
 Sight = Location × Option Document
 
-abbrev Shown : Type 0
-Shown = (doc : Document) (ls : List Location) (spots : List Spot) → StandAt doc ls spots → map location_of spots ≡ ls
+-- the nodes show where they stand
+pub locations_shown : {T N : Type 0} (bytes : N → List ℕ) (content : T → Document) (doc : Document) (ls : List Location) (nodes : List (TreeNode T N)) → Stand bytes content doc ls nodes → map (place_location bytes) nodes ≡ ls
+locations_shown {T} {N} bytes content doc ls nodes h = firsts nodes ∙ ap (λ (xs : List Sight). map (λ x. x.0) xs) h ∙ looks ls
+  where
+    firsts : (ns : List (TreeNode T N)) → map (place_location bytes) ns ≡ map (λ (x : Sight). x.0) (map (shown (place_location bytes) (place_value content)) ns)
+    firsts [] = refl
+    firsts (n ∷ ns) = ap (λ (ms : List Location). place_location bytes n ∷ ms) (firsts ns)
+
+    looks : (ms : List Location) → map (λ (x : Sight). x.0) (map (look_kept true doc) ms) ≡ ms
+    looks [] = refl
+    looks (m ∷ ms) = ap (λ (ns : List Location). m ∷ ns) (looks ms)
 
 pub same-itself : (ls : List Location) → SameMembers ls ls
 same-itself ls l = (λ h. h, λ h. h)
 
-pub selected_first : (paths : List (List ℕ)) (doc : Document) (spots : List Spot) → spots ≡ [] → Completes paths 0 doc spots
-selected_first paths doc spots none = ([], ap (map sight_of) none, λ rest are. (rest, are, same-itself rest))
+module _ {T N : Type 0} (bytes : N → List ℕ) (content : T → Document) where
+  pub selected_first : (paths : List (List ℕ)) (doc : Document) (nodes : List (TreeNode T N)) → nodes ≡ [] → Completes bytes content paths 0 doc nodes
+  selected_first paths doc nodes none = ([], ap (map (shown (place_location bytes) (place_value content))) none, λ rest are. (rest, are, same-itself rest))
 
-module _ (keeps : OnceInOrderKeepsMembers) (joined : JoinedSets) (one_list : OneListOfASet) where
+module _ (keeps : OnceInOrderKeepsMembers) (joined : JoinedSets) (one_list : OneListOfASet) {T N : Type 0} (bytes : N → List ℕ) (content : T → Document) where
   same_set : (ls ms : List Location) → once_in_order ls ≡ once_in_order ms → SameMembers ls ms
   same_set ls ms e l =
       let there : Contains (once_in_order ls) l ↔ Contains (once_in_order ms) l = subst (λ (ns : List Location). Contains (once_in_order ls) l ↔ Contains ns l) e (λ h. h, λ h. h) in
@@ -38,23 +52,24 @@ module _ (keeps : OnceInOrderKeepsMembers) (joined : JoinedSets) (one_list : One
   same-trans ls ms ns h k l = (λ a. (k l).0 ((h l).0 a), λ a. (h l).1 ((k l).1 a))
 
   -- no path is left
-  pub selected_done : Shown → (paths : List (List ℕ)) (i : ℕ) (doc : Document) (spots : List Spot) → length paths ≤ i → Completes paths i doc spots
-      → (all : List Location) × AreSelected paths doc all × (once_in_order (map location_of spots) ≡ once_in_order all)
-  selected_done shown paths i doc spots over held =
+  pub selected_done : (paths : List (List ℕ)) (i : ℕ) (doc : Document) (nodes : List (TreeNode T N)) → length paths ≤ i → Completes bytes content paths i doc nodes
+      → AreSelectedNodes bytes content paths doc nodes
+  selected_done paths i doc nodes over held =
       let P : List (List ℕ) → Type 0 = λ ps. AreSelected ps doc [] in
       let found = held.2 [] (subst P (sym (drop_of_length-le paths {i = i} over)) refl) in
       let same : SameMembers held.0 found.0 = subst (λ (ms : List Location). SameMembers ms found.0) (append-nil held.0) found.2 in
-      (found.0, found.1, ap once_in_order (shown doc held.0 spots held.1) ∙ one_list held.0 found.0 same)
+      (found.0, found.1, (held.0, held.1, one_list held.0 found.0 same))
 
   -- one more path is done
-  pub selected_more : (paths : List (List ℕ)) (i : ℕ) (doc : Document) (spots before after : List Spot) (d text : List ℕ) → i < length paths → text ≡ get_or paths i d
-      → SelectsSet text doc spots → after ≡ before ++ spots → Completes paths i doc before → Completes paths (i + 1) doc after
-  selected_more paths i doc spots before after d text within is selected pushed held =
+  pub selected_more : (paths : List (List ℕ)) (i : ℕ) (doc : Document) (nodes before after : List (TreeNode T N)) (d text : List ℕ) → i < length paths → text ≡ get_or paths i d
+      → SelectsNodeSet bytes content text doc nodes → after ≡ before ++ nodes → Completes bytes content paths i doc before → Completes bytes content paths (i + 1) doc after
+  selected_more paths i doc nodes before after d text within is selected pushed held =
       let front = held.0 in
       let here = selected.holds.0 in
       let there = sel text doc selected.path in
-      let stand : StandAt doc (front ++ here) after =
-      ap (map sight_of) pushed ∙ map-append sight_of before spots ∙ ap₂ (λ (xs ys : List Sight). xs ++ ys) held.1 selected.holds.1 ∙ sym (map-append (look doc) front here) in (
+      let see = shown (place_location bytes) (place_value content) in
+      let stand : Stand bytes content doc (front ++ here) after =
+      ap (map see) pushed ∙ map-append see before nodes ∙ ap₂ (λ (xs ys : List Sight). xs ++ ys) held.1 selected.holds.1 ∙ sym (map-append (look_kept true doc) front here) in (
         front ++ here,
         stand,
         λ rest later.
@@ -66,9 +81,10 @@ module _ (keeps : OnceInOrderKeepsMembers) (joined : JoinedSets) (one_list : One
             (found.0, found.1, subst (λ (ms : List Location). SameMembers ms found.0) (sym (append_assoc front here rest)) (same-trans (front ++ (here ++ rest)) (front ++ (there ++ rest)) found.0 same found.2)),
       )
 
-  -- other spots are as good
-  pub selected_as_good : (paths : List (List ℕ)) (i : ℕ) (doc : Document) (spots others : List Spot) → IsAsGood spots others → Completes paths i doc spots → Completes paths i doc others
-  selected_as_good paths i doc spots others good held =
+  -- other nodes are as good
+  pub selected_as_good : (paths : List (List ℕ)) (i : ℕ) (doc : Document) (nodes others : List (TreeNode T N)) → AreAsGood bytes content nodes others → Completes bytes content paths i doc nodes
+      → Completes bytes content paths i doc others
+  selected_as_good paths i doc nodes others good held =
       let ls = held.0 in
       let there = good doc ls held.1 in (
         there.0,

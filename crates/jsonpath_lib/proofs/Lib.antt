@@ -2,3 +2,4 @@ pub mod FoundLemmas
 pub mod StreamLemmas
 pub mod PathTextLemmas
 pub mod JsonTextRefusedLemmas
+pub mod TextLemmas

@@ -2,3 +2,4 @@ pub mod update
 pub mod compiled
 pub mod stream
 pub mod functions
+pub mod Text

@@ -2,8 +2,8 @@
 //! visitors of path texts; steps, comparisons and single updates of documents; readers and writers.
 
 pub use jsonpath_nodes::{
-    Atom, Cmp, CmpEq, CmpGe, CmpGt, CmpLe, CmpLt, CmpNe, ValueWalker, abs_index, compute_paths,
-    holds, holds_atoms, take_at_once, to_num, update_at,
+    Atom, Cmp, CmpEq, CmpGe, CmpGt, CmpLe, CmpLt, CmpNe, Handle, Tree, TreeNode, ValueWalker,
+    abs_index, compute_paths, holds, holds_atoms, take_at_once, to_num, update_at,
 };
 pub use jsonpath_paths::{
     Condition, FilterToken, Inner, Items, ParseToken, ParserNode, ParserNodeVisitor, ParserStep,

@@ -73,6 +73,7 @@ pub mod laws;
 pub mod layers;
 mod selectors;
 mod stream;
+mod text;
 mod update;
 
 pub use compiled::kept_path::KeptPath;
@@ -85,11 +86,14 @@ pub use functions::updates::{delete, replace_with};
 pub use selectors::path_selector::{PathSelector, PathSelectorAs, selector, selector_as};
 pub use stream::document_fault::{DocumentFault, FaultKind};
 pub use stream::documents::Documents;
+pub use text::Text;
 pub use update::masking::{mask, mask_at_paths};
 pub use update::removing_by_several_paths::{remove_at_paths, remove_by_path_texts};
 pub use update::several_paths::MaskFault;
 
 // What the crates below give out to callers; `layers` has what one builds on them.
+pub use json::Scratch;
+pub use json_trees::TextValue;
 pub use jsonpath_nodes::{LocStep, Location, NoMemory, PathStep, Spot, Steps, StepsFromRoot};
 pub use jsonpath_paths::{
     Decimal, Expected, ExpectedTokens, Kind, PathParser, TokenError, expected_tokens,

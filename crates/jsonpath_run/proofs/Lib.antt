@@ -1,3 +1,4 @@
+pub mod ChangeLemmas
 pub mod OneOutputLemmas
 pub mod RefusalLemmas
 pub mod UnreadLemmas

@@ -6,9 +6,10 @@ use Rattle.jsonpath_paths.specs.Spelling.{Spells}
 use Rattle.jsonpath_paths.specs.tree.Tree.{Path}
 use Rattle.jsonpath_select.specs.Meaning.{Selects}
 use Rattle.jsonpath_select.specs.answer.Given.{IsTextRefusedOf}
-use Rattle.jsonpath_select.specs.answer.AnswerText.{IsTextOf, list_text, document_text, IsDocumentTextRefused}
+use Rattle.jsonpath_select.specs.answer.AnswerText.{IsTextOf, list_text, document_text}
 use Rattle.jsonpath_select.specs.declared.error.JsonPathError.{JsonPathError}
 use Rattle.jsonpath_select.specs.declared.error.JsonPathError.TheVariants.{EmptyPath, EmptyValue, Path as path, Serde, OutOfMemory}
+use Rattle.jsonpath_lib.specs.Text.{IsChangedTextRefused}
 use Rattle.jsonpath_run.specs.declared.words.Command.{Command}
 use Rattle.jsonpath_run.specs.declared.words.Command.TheVariants.{Select, Delete, Remove, Check, Mask}
 use Rattle.jsonpath_run.specs.Output.{SelectsText, IsChange, ChangesText, IsAnswer, HasNoAnswer, IsAnswerRefused}
@@ -54,10 +55,10 @@ module _ (one_tree_per_text : (text : List ℕ) (p q : Path) → Spells text p �
   none_changed Check paths input before after read changed unread = absurd changed
   none_changed Mask paths input before after read changed unread = λ line a. no_change Mask paths input line before after read changed unread a
 
-  pub unread_change : (command : Command) (paths : List (List ℕ)) (input : List ℕ) (before after : Data) (error : JsonPathError)
-      → IsTextOf input before → IsChange command paths (document_of before) (document_of after) → IsDocumentTextRefused after error → IsAnswerRefused command paths input error
-  unread_change command paths input before after EmptyPath read changed h = h
-  unread_change command paths input before after EmptyValue read changed h = h
-  unread_change command paths input before after (path m) read changed h = h
-  unread_change command paths input before after (Serde m) read changed h = (none_changed command paths input before after read changed h.0, inr ((before, read), h.1))
-  unread_change command paths input before after OutOfMemory read changed h = tt
+  pub unread_change : (command : Command) (paths : List (List ℕ)) (input : List ℕ) (before : Data) (error : JsonPathError)
+      → IsTextOf input before → IsChangedTextRefused (IsChange command paths (document_of before)) error → IsAnswerRefused command paths input error
+  unread_change command paths input before EmptyPath read h = h
+  unread_change command paths input before EmptyValue read h = h
+  unread_change command paths input before (path m) read h = h
+  unread_change command paths input before (Serde m) read h = (none_changed command paths input before h.0 read h.1 h.2, inr ((before, read), h.3))
+  unread_change command paths input before OutOfMemory read h = tt

@@ -1,25 +1,21 @@
 //! The program as a function: it does with the bytes read what its arguments ask for, and writes the answer.
 ghost use Rattle.std.specs.Prelude.{◌≡◌, ◌⊎◌, ◌↔◌, ◌≢◌, ℕ, List, [], ◌∷◌, ◌++◌, map, length, true, false, string_bytes, codes, Err, Some, IfOk, IfErr, OnOk};
-ghost use Rattle.serde_json.specs.View.{view};
+ghost use Rattle.serde_json.specs.Data.{Data};
 ghost use Rattle.jsonpath_nodes.specs.document.OfData.{document_of};
-ghost use Rattle.jsonpath_select.specs.answer.AnswerText.{IsTextOf, IsDocumentRefused, IsDocumentTextRefused, document_text};
-ghost use Rattle.jsonpath_select.specs.Targets.{IsDeleted};
+ghost use Rattle.jsonpath_lib.specs.Text.{IsTreeOf, IsTextOfChanged, IsChangedTextRefused};
 ghost use Rattle.jsonpath_run.specs.Words.{IsCount, IsUsage};
 ghost use Rattle.jsonpath_run.specs.Output.{IsAnswer, IsChange, IsOutput, IsRefusal, IsAnswerRefused, IsCheck, HasNoPath, IfRefused, IsNotIo};
 
 use crate::faults::Fault;
 use crate::whole_streams::{ReadFault, read_to_end, write_all};
 use crate::words::{Command, parse_call};
-use jsonpath_lib::{PathsFault, compile_paths, mask_at_paths};
-use jsonpath_nodes::laws::{documents_keep_data_apart, spots_show_their_locations};
-use jsonpath_nodes::{compute_paths, delete_at};
+use json::Scratch;
+use jsonpath_lib::{PathsFault, Text, compile_paths};
+use jsonpath_nodes::laws::documents_keep_data_apart;
 use jsonpath_paths::PathParser;
 use jsonpath_paths::laws::one_tree_per_text;
-use jsonpath_select::{
-    AnyPath, JsonPathError, document_to_text, read_document, select_path_in_any_order,
-};
+use jsonpath_select::JsonPathError;
 use jsonpath_streams::{Input, IoFailed, Output};
-use serde_json::Value;
 use std::alloc::Global;
 use std::mem::forget;
 
@@ -160,13 +156,15 @@ fn selected_text(
 {
     one_tree_per_text();
     documents_keep_data_apart();
-    let document = document_of_input(alloc, input)?;
-    let text = path.select_as_str(alloc, &document);
+    let mut scratch = Scratch::new(alloc);
+    let document = Text::read(alloc, input.as_slice(), &mut scratch)?;
+    let text = document.select_as_str(alloc, path);
     forget(document);
     text
 }
 
-// The text of the document that the input is the text of, changed as `delete`, `remove` or `mask` asks.
+// The text of the document that the input is the text of, changed as `delete`, `remove` or `mask` asks. The document is
+// not dropped either.
 #[tactic(auto, using(crate::proofs::RefusalLemmas::refused_read))]
 fn changed_text(
     alloc: Global,
@@ -183,64 +181,29 @@ fn changed_text(
 {
     one_tree_per_text();
     documents_keep_data_apart();
-    let mut document = document_of_input(alloc, input)?;
-    change_by_command(alloc, command, paths, &mut document)?;
-    text_of_forgotten_document(alloc, document)
+    let mut scratch = Scratch::new(alloc);
+    let document = Text::read(alloc, input.as_slice(), &mut scratch)?;
+    let text = text_of_change(alloc, command, paths, &document);
+    forget(document);
+    text
 }
 
-// Changes the document at what the paths select, as `delete`, `remove` or `mask` asks.
-fn change_by_command(
+// The text of a document changed as `delete`, `remove` or `mask` asks.
+fn text_of_change(
     alloc: Global,
     command: Command,
     paths: &[PathParser<'_>],
-    document: &mut Value,
-) -> Result<(), JsonPathError>
+    document: &Text<'_>,
+) -> Result<String, JsonPathError>
     requires count { IsCount command (length paths.now) }
     requires selects { command ≢ Command.Select }
     requires checks { command ≢ Command.Check }
-    ensures ok { OnOk result (IsChange command paths.now (document_of (view document.old)) (document_of (view document.new))) }
-    ensures refused { IfErr result (λ error. error ≡ JsonPathError.OutOfMemory) }
+    ensures ok { IfOk result (λ text. (before : Data) → IsTreeOf document.now before → IsTextOfChanged (IsChange command paths.now (document_of before)) (string_bytes text)) }
+    ensures refused { IfErr result (λ e. (before : Data) → IsTreeOf document.now before → IsChangedTextRefused (IsChange command paths.now (document_of before)) e) }
 {
     match command {
-        Command::Delete => delete_at_path(alloc, &paths[0], document),
-        Command::Remove => paths[0].remove_in(alloc, document),
-        Command::Mask => mask_at_paths(alloc, document, paths),
+        Command::Delete | Command::Mask => document.mask_as_str(alloc, paths),
+        Command::Remove => document.remove_as_str(alloc, paths),
         Command::Select | Command::Check => unreachable!(),
     }
-}
-
-// Puts null at what the path selects below the root. The locations are not dropped, which would take time.
-fn delete_at_path(
-    alloc: Global,
-    path: &PathParser<'_>,
-    document: &mut Value,
-) -> Result<(), JsonPathError>
-    ensures ok { OnOk result (IsDeleted path.now (document_of (view document.old)) (document_of (view document.new))) }
-    ensures refused { IfErr result (λ error. error ≡ JsonPathError.OutOfMemory) }
-{
-    spots_show_their_locations();
-    let spots = select_path_in_any_order(alloc, document, path)?;
-    let locations = compute_paths(alloc, spots.as_slice())?;
-    drop(spots);
-    delete_at(document, locations.as_slice());
-    forget(locations);
-    Ok(())
-}
-
-// The document that the input is the text of. The input is dropped here, so that it takes no memory beside the answer.
-fn document_of_input(alloc: Global, input: Vec<u8>) -> Result<Value, JsonPathError>
-    ensures ok { IfOk result (λ document. IsTextOf input.items (view document)) }
-    ensures refused { IfErr result (IsDocumentRefused input.items) }
-{
-    read_document(alloc, input.as_slice())
-}
-
-// The text of a document that is needed no more. It is not dropped, which would take time: the program ends soon.
-fn text_of_forgotten_document(alloc: Global, document: Value) -> Result<String, JsonPathError>
-    ensures ok { IfOk result (λ text. document_text (view document) ≡ Some (string_bytes text)) }
-    ensures refused { IfErr result (IsDocumentTextRefused (view document)) }
-{
-    let text = document_to_text(alloc, &document);
-    forget(document);
-    text
 }

@@ -106,3 +106,8 @@ SelectsSpots text doc spots = OfPath text (λ path. StandAt doc (sel text doc pa
 -- the same of the nodes of any tree, by the bytes of its names and the documents of its values
 abbrev pub SelectsNodes : {T N : Type 0} → (N → List ℕ) → (T → Document) → List ℕ → Document → List (TreeNode T N) → Type 0
 SelectsNodes bytes content text doc nodes = OfPath text (λ path. MarksStandAt true (place_location bytes) (place_value content) doc (sel text doc path) nodes)
+
+-- the nodes of any tree stand at locations that are, in document order and each once, those that the path selects
+abbrev pub SelectsNodeSet : {T N : Type 0} → (N → List ℕ) → (T → Document) → List ℕ → Document → List (TreeNode T N) → Type 0
+SelectsNodeSet bytes content text doc nodes =
+    OfPath text (λ path. (ls : List Location) × MarksStandAt true (place_location bytes) (place_value content) doc ls nodes × (once_in_order ls ≡ once_in_order (sel text doc path)))

@@ -237,8 +237,14 @@ impl<T: Drop> From<AllocFailed<T>> for JsonPathError {
     }
 }
 
-// The error for one of `serde_json`: `Serde` with its text as the message, or `OutOfMemory` where memory was refused.
-pub(crate) fn serde_error(alloc: Global, error: &SerdeError) -> JsonPathError
+/// The error for an error of `serde_json`: `Serde` with its text as the message, or `OutOfMemory` if memory ran out.
+///
+/// ```text
+/// let read: Result<u8, _> = serde_json::from_str(alloc, "true");
+/// let Err(error) = read else { unreachable!() };
+/// assert!(rt; matches!(serde_error(alloc, &error), JsonPathError::Serde(_)));
+/// ```
+pub fn serde_error(alloc: Global, error: &SerdeError) -> JsonPathError
     ensures { IsSerdeErrorOf error.now result }
 {
     if error.is_memory() {

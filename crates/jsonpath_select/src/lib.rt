@@ -14,20 +14,23 @@ mod step;
 mod tagged;
 mod walk;
 
+pub use answer::count_first_exists::{exists_in_tree, first_in_tree};
 pub use answer::document::{document_to_text, read_document};
 pub use answer::select::{
-    select_in_tree, select_nodes_in_tree, select_path, select_path_in_any_order, select_tokens,
+    select_in_tree, select_node_set_in_tree, select_nodes_in_tree, select_path,
+    select_path_in_any_order, select_tokens,
 };
 pub use answer::text::list_to_text;
 pub use answer::try_replace::TryFault;
 pub use answer::typed::list_to_typed;
+pub use answer::unread_number::unread_number_error;
 pub use compile::any_path::{AnyPath, PathParts};
 pub use compile::compile_path::compile_path;
 pub use compile::node::Node;
 pub use compile::node_visitor::NodeVisitor;
 pub use compile::parser::{ParseFault, Parser};
 pub use compile::token_list_fit::tokens_fit;
-pub use error::{JsonPathError, error_of_parse_fault, path_error};
+pub use error::{JsonPathError, error_of_parse_fault, path_error, serde_error};
 pub use selectors::held_pair::{HeldPair, HeldValue};
 pub use selectors::json_selector::{JsonSelector, JsonSelectorMut};
 pub use selectors::selector::{Selector, SelectorMut};

@@ -9,7 +9,7 @@ ghost use Rattle.jsonpath_paths.specs.Spelling.{Spells};
 ghost use Rattle.jsonpath_paths.specs.tree.Tree.{Path, plain, filter as with_filter};
 ghost use Rattle.jsonpath_paths.specs.tree.View.{condition_of, inner_of, steps_of_list};
 ghost use Rattle.jsonpath_paths.specs.declared.token.tokens.ParseToken.TheVariants as token;
-ghost use Rattle.jpath_texts.specs.Exact.{IsImageOf};
+ghost use Rattle.json_trees.specs.Exact.{IsImageOf};
 ghost use Rattle.jpath_core.specs.AlongExactTree.{after, are_straight, is_straight, is_straight_inner, list_of, next, rest_from, walk, walk_all, written, AddsStraight};
 
 use crate::exact_tree::exact_conditions::{holds_at_value, is_on_members_alone};

@@ -4,7 +4,7 @@ ghost use Rattle.std.specs.Prelude.{◌≡◌, map, IfOk, IsTrue, Some};
 ghost use Rattle.json.specs.Value.{value_view};
 ghost use Rattle.jsonpath_nodes.specs.place.Owned.{owned_steps};
 ghost use Rattle.jpath_edits.specs.Grown.{grown_all};
-ghost use Rattle.jpath_texts.specs.Exact.{exact_of};
+ghost use Rattle.json_trees.specs.Exact.{exact_of};
 
 use crate::growth::Growth;
 use crate::growth::take_back::take_back;

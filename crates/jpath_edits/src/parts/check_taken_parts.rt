@@ -3,7 +3,7 @@
 ghost use Rattle.std.specs.Prelude.{[], ◌∷◌, map, IfOk, IfSome, IsTrue};
 ghost use Rattle.json.specs.Value.{value_view};
 ghost use Rattle.jsonpath_nodes.specs.place.Owned.{owned_step};
-ghost use Rattle.jpath_texts.specs.ExactAt.{values_by};
+ghost use Rattle.json_trees.specs.ExactAt.{values_by};
 ghost use Rattle.jpath_edits.specs.Changed.{part_text, IsLabel, IsChildText, AreChildrenBefore, IsTakenBefore, AreTakenAt};
 
 use crate::parts::part::Part;

@@ -4,7 +4,7 @@ ghost use Rattle.std.specs.Prelude.{◌≡◌, IfOk, IfSome, IsTrue, Some};
 ghost use Rattle.json.specs.Value.{value_view};
 ghost use Rattle.json.specs.Word.{is_space};
 ghost use Rattle.jpath_edits.specs.Changed.{IsBare, IsBlankBut, IsEdge, IsNameText};
-ghost use Rattle.jpath_texts.specs.Exact.{exact_of};
+ghost use Rattle.json_trees.specs.Exact.{exact_of};
 
 use crate::same_exact_tree::is_same_exact_tree;
 use jpath_texts::{DocumentRefusal, read_exact_tree};

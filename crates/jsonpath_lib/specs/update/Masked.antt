@@ -1,13 +1,14 @@
 -- What several paths select together, and what masking and removing by them leave.
-use Rattle.std.specs.Prelude.{◌≡◌, ℕ, List, [], ◌∷◌, ◌++◌, length, All, Option, Some, None, String, codes, decimal}
+use Rattle.std.specs.Prelude.{◌≡◌, ℕ, List, [], ◌∷◌, ◌++◌, length, All, Option, Some, None, true, String, codes, decimal}
 use Rattle.std.specs.declared.alloc.Global.{Global}
 use Rattle.jsonpath_nodes.specs.document.Document.{Document}
 use Rattle.jsonpath_paths.specs.Spelling.{Spells, IsInGrammar}
 use Rattle.jsonpath_paths.specs.tree.Tree.{Path}
 use Rattle.jsonpath_nodes.specs.place.Location.{Location}
 use Rattle.jsonpath_nodes.specs.place.Order.{once_in_order}
-use Rattle.jsonpath_nodes.specs.place.SpotPlace.{StandAt}
-use Rattle.jsonpath_nodes.specs.place.SpotPlace.{Spot}
+use Rattle.jsonpath_nodes.specs.place.Mark.{MarksStandAt}
+use Rattle.jsonpath_nodes.specs.place.SpotPlace.{place_location, place_value}
+use Rattle.jsonpath_nodes.specs.declared.place.spot.TreeNode.{TreeNode}
 use Rattle.jsonpath_nodes.specs.step.SameMembers.{SameMembers}
 use Rattle.jsonpath_nodes.specs.update.Topmost.{nulled, taken}
 use Rattle.jsonpath_select.specs.JsonPathErrors.{IsPathRefused, error_text}
@@ -27,9 +28,16 @@ pub record AreTargetsOfAll (texts : List (List ℕ)) (doc : Document) (locations
   pub selected : AreSelected texts doc all
   pub are : locations ≡ once_in_order all
 
--- wherever in a document the first spots stand, the others stand at the same locations, in any order, with or without repeats
-abbrev pub IsAsGood : List Spot → List Spot → Type 0
-IsAsGood spots others = (doc : Document) (ls : List Location) → StandAt doc ls spots → (ms : List Location) × StandAt doc ms others × SameMembers ms ls
+-- the nodes of a tree stand at what the paths select in a document, in any order, with or without repeats
+abbrev pub AreSelectedNodes : {T N : Type 0} → (N → List ℕ) → (T → Document) → List (List ℕ) → Document → List (TreeNode T N) → Type 0
+AreSelectedNodes bytes content texts doc nodes =
+    (all : List Location) × AreSelected texts doc all × ((ls : List Location) × MarksStandAt true (place_location bytes) (place_value content) doc ls nodes × (once_in_order ls ≡ once_in_order all))
+
+-- wherever in a document the first nodes stand, the others stand at the same locations, in any order, with or without repeats
+abbrev pub AreAsGood : {T N : Type 0} → (N → List ℕ) → (T → Document) → List (TreeNode T N) → List (TreeNode T N) → Type 0
+AreAsGood bytes content nodes others =
+    (doc : Document) (ls : List Location) → MarksStandAt true (place_location bytes) (place_value content) doc ls nodes
+    → (ms : List Location) × MarksStandAt true (place_location bytes) (place_value content) doc ms others × SameMembers ms ls
 
 -- null stands at the topmost locations below the root that any of the paths selects in the document as it was
 pub record IsMasked (texts : List (List ℕ)) (before after : Document) : Type 0 where

@@ -8,7 +8,9 @@ ghost use Rattle.jsonpath_lib.specs.functions.Answers.{IsTextFromJson, IsCountFr
 ghost use Rattle.jsonpath_select.specs.answer.Given.{IsTypedCountOf};
 ghost use Rattle.jsonpath_lib.specs.compiled.Kept.{IsTypedRefusedIn};
 
-use jsonpath_select::{AnyPath, JsonPathError, compile_path, read_document};
+use crate::text::Text;
+use json::Scratch;
+use jsonpath_select::{AnyPath, JsonPathError, compile_path};
 use serde::DeserializeOwned;
 use serde_json::Value;
 use std::alloc::Global;
@@ -48,9 +50,10 @@ pub fn select_as_str(alloc: Global, json: &str, path: &str) -> Result<String, Js
     ensures ok { IfOk result (λ text. IsTextFromJson json.now path.now (string_bytes text)) }
     ensures refused { IfErr result (IsTextRefusal json.now path.now) }
 {
-    let document = read_document(alloc, json.as_bytes())?;
+    let mut scratch = Scratch::new(alloc);
+    let text = Text::read(alloc, json.as_bytes(), &mut scratch)?;
     let compiled = compile_path(alloc, path)?;
-    compiled.select_as_str(alloc, &document)
+    text.select_as_str(alloc, &compiled)
 }
 
 /// Reads a JSON text, then a path, and deserializes each selected value to a `T`, in the order in which the path's
@@ -63,7 +66,7 @@ pub fn select_as_str(alloc: Global, json: &str, path: &str) -> Result<String, Js
 /// assert_eq!(rt; numbers.len(), 2);
 /// assert_eq!(rt; numbers[1], 3);
 /// ```
-#[tactic(auto, using(crate::proofs::JsonTextRefusedLemmas::typed_refused))]
+#[tactic(auto, using(crate::proofs::JsonTextRefusedLemmas::refused_after, crate::proofs::JsonTextRefusedLemmas::typed_refused))]
 pub fn select_as<T: DeserializeOwned>(
     alloc: Global,
     json: &str,
@@ -72,8 +75,10 @@ pub fn select_as<T: DeserializeOwned>(
     ensures ok { IfOk result (λ found. IsCountFromJson json.now path.now (vec_len found)) }
     ensures refused { IfErr result (IsTypedRefusal json.now path.now) }
 {
-    let document = read_document(alloc, json.as_bytes())?;
-    select_to_typed(alloc, &document, path)
+    let mut scratch = Scratch::new(alloc);
+    let text = Text::read(alloc, json.as_bytes(), &mut scratch)?;
+    let compiled = compile_path(alloc, path)?;
+    text.select_as(alloc, &compiled)
 }
 
 // The values that the path selects in the document, each as a `T`, in order. Refused with `Path` exactly where the text

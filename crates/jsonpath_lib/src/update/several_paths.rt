@@ -1,20 +1,19 @@
 //! Several paths: the error of an update by them, their compilation beside the document, and what they select together.
-ghost use Rattle.std.specs.Prelude.{◌≡◌, Some, List, map, IfErr, IfOk};
+ghost use Rattle.std.specs.Prelude.{◌≡◌, Some, map, IfErr, IfOk};
 ghost use Rattle.std.specs.List.Sorted.{IsStrictlySortedBy};
 ghost use Rattle.serde_json.specs.View.{view};
 ghost use Rattle.jsonpath_nodes.specs.document.OfData.{document_of};
-ghost use Rattle.jsonpath_nodes.specs.place.Location.{Location, location_cmp};
-ghost use Rattle.jsonpath_nodes.specs.place.Order.{once_in_order};
-ghost use Rattle.jsonpath_nodes.specs.place.SpotPlace.{location_of};
-ghost use Rattle.jsonpath_lib.specs.update.Masked.{AreSelected, AreTargetsOfAll, ArePathsRefused, IsAsGood, paths_fault_text};
+ghost use Rattle.jsonpath_nodes.specs.place.Location.{location_cmp};
+ghost use Rattle.jsonpath_nodes.specs.place.SpotPlace.{place_location};
+ghost use Rattle.jsonpath_lib.specs.update.Masked.{AreSelectedNodes, AreTargetsOfAll, ArePathsRefused, AreAsGood, paths_fault_text};
 
 use crate::compiled::path_texts::{PathsFault, compile_paths, write_paths_fault};
 use jsonpath_nodes::laws::{
     locations_once_in_order_ascend, spots_show_their_locations, steps_ignore_order_and_repeats,
 };
-use jsonpath_nodes::{Location, NoMemory, Spot, compute_paths, in_document_order};
+use jsonpath_nodes::{Location, NoMemory, Tree, TreeNode, compute_paths, in_document_order};
 use jsonpath_paths::PathParser;
-use jsonpath_select::{JsonPathError, select_path_in_any_order};
+use jsonpath_select::{JsonPathError, select_node_set_in_tree};
 use serde_json::Value;
 use std::alloc::Global;
 use std::error::Error;
@@ -104,49 +103,63 @@ pub(crate) fn targets_of_all(
     ensures ordered { IfOk result (λ found. IsStrictlySortedBy location_cmp found.items) }
     ensures refused { IfErr result (λ e. e ≡ JsonPathError.OutOfMemory) }
 {
+    spots_show_their_locations();
     let spots = select_paths_in_any_order(alloc, value, paths)?;
     let found = compute_paths(alloc, spots.as_slice())?;
     Ok(found)
 }
 
-// So many spots are put together before what comes twice among them is dropped.
+// The nodes that any of the paths selects in a tree, each location once, in document order.
+pub(crate) fn targets_in_tree<T: Tree>(
+    alloc: Global,
+    root: T,
+    paths: &[PathParser<'_>],
+) -> Result<Vec<TreeNode<T>>, T::Error>
+    ensures found { IfOk result (λ found. AreTargetsOfAll paths.now (T.content root) (map (place_location T.Name.bytes) found.items)) }
+    ensures ordered { IfOk result (λ found. IsStrictlySortedBy location_cmp (map (place_location T.Name.bytes) found.items)) }
+{
+    locations_once_in_order_ascend();
+    let nodes = select_paths_in_any_order(alloc, root, paths)?;
+    let found = in_document_order(alloc, nodes.as_slice())?;
+    Ok(found)
+}
+
+// So many nodes are put together before what comes twice among them is dropped.
 const FEW: usize = 65_536;
 
-// Spots at what any of the paths selects in the value, as a set: in any order, with or without repeats.
-fn select_paths_in_any_order<'a>(
+// Nodes at what any of the paths selects in a tree, as a set: in any order, with or without repeats.
+fn select_paths_in_any_order<T: Tree>(
     alloc: Global,
-    value: &'a Value,
+    root: T,
     paths: &[PathParser<'_>],
-) -> Result<Vec<Spot<'a>>, JsonPathError>
-    ensures ok { IfOk result (λ spots. (all : List Location) × AreSelected paths.now (document_of (view value.now)) all × (once_in_order (map location_of spots.items) ≡ once_in_order all)) }
-    ensures refused { IfErr result (λ e. e ≡ JsonPathError.OutOfMemory) }
+) -> Result<Vec<TreeNode<T>>, T::Error>
+    ensures { IfOk result (λ nodes. AreSelectedNodes T.Name.bytes T.content paths.now (T.content root) nodes.items) }
 {
     locations_once_in_order_ascend();
     steps_ignore_order_and_repeats();
-    spots_show_their_locations();
-    let mut spots = Vec::new(alloc);
+    let mut nodes = Vec::new(alloc);
     let mut most = FEW;
     for path in paths {
-        let mut found = select_path_in_any_order(alloc, value, path)?;
-        spots.append(&mut found)?;
-        spots = once_if_many(alloc, spots, &mut most)?;
+        let mut found = select_node_set_in_tree(alloc, root, path)?;
+        nodes.append(&mut found)?;
+        nodes = once_if_many(alloc, nodes, &mut most)?;
     }
-    Ok(spots)
+    Ok(nodes)
 }
 
-// The spots, each place once and in order if they are more than `most`, which is then set for the next time.
-fn once_if_many<'a>(
+// The nodes, each place once and in order if they are more than `most`, which is then set for the next time.
+fn once_if_many<T: Tree>(
     alloc: Global,
-    spots: Vec<Spot<'a>>,
+    nodes: Vec<TreeNode<T>>,
     most: &mut usize,
-) -> Result<Vec<Spot<'a>>, NoMemory>
-    ensures { IfOk result (λ found. IsAsGood spots.entry.items found.items) }
+) -> Result<Vec<TreeNode<T>>, NoMemory>
+    ensures { IfOk result (λ found. AreAsGood T.Name.bytes T.content nodes.items found.items) }
 {
     locations_once_in_order_ascend();
-    if spots.as_slice().len() <= *most {
-        return Ok(spots);
+    if nodes.as_slice().len() <= *most {
+        return Ok(nodes);
     }
-    let once = in_document_order(alloc, spots.as_slice())?;
+    let once = in_document_order(alloc, nodes.as_slice())?;
     *most = FEW.saturating_add(once.as_slice().len().saturating_mul(2));
     Ok(once)
 }

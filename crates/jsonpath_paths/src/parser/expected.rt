@@ -145,9 +145,9 @@ fn expected_behind(alloc: Global, text: &str, front: &[Lexeme]) -> Result<Vec<Ex
     ensures { IfOk result (λ v. (us : List Want) → run whole_wants (signs text.now front.now) ≡ Some us → v.items ≡ all_fed us OTHER_KINDS) }
 {
     let mut expected = Vec::new(alloc);
-    for kind in OTHER_KINDS {
-        if can_follow(alloc, text, front, kind, "")? {
-            expected.push(Expected::Token(kind))?;
+    for kind in &OTHER_KINDS {
+        if can_follow(alloc, text, front, *kind, "")? {
+            expected.push(Expected::Token(*kind))?;
         }
     }
     match expected_word(alloc, text, front)? {

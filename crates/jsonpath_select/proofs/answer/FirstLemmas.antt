@@ -1,7 +1,7 @@
 -- The first value of an answer, from marks that begin as it does, and whether an answer has any, from its set.
-use Rattle.std.proofs.Common.{◌≡◌, ◌==◌, Bool, List, [], ◌∷◌, map, take, length, Option, Some, None, refl, sym, ap, ◌∙◌, subst, arith, filter_map, option_map, is_some, not, Contains, slice_get}
+use Rattle.std.specs.List.{cons_option}
+use Rattle.std.proofs.Common.{◌≡◌, ◌==◌, ◌<◌, ℕ, zero, suc, Bool, true, false, List, [], ◌∷◌, take, length, Option, Some, None, refl, sym, ap, ◌∙◌, subst, arith, filter_map, option_map, is_some, not, Contains, slice_get, slice_index_or}
 use Rattle.std.proofs.Math.Dec.{eqb-suc-zero}
-use Rattle.std.proofs.lemmas.List.{length-map}
 use Rattle.jsonpath_nodes.specs.document.Document.{Document}
 use Rattle.jsonpath_nodes.specs.DocumentLaws.{OnceInOrderKeepsMembers}
 use Rattle.jsonpath_nodes.specs.place.Location.{Location, at}
@@ -32,6 +32,21 @@ some_answered f None (d ∷ values) e = cc
 some_answered f (Some x) [] e = cc
 some_answered f (Some x) (d ∷ values) e = ap not (sym (eqb-suc-zero (length values)))
 
+-- an answer isn't empty where one of the locations has a value
+one_answered : (doc : Document) (l : Location) (d : Document) → at doc l ≡ Some d → (ls : List Location) → Contains ls l → (length (filter_map (at doc) ls) == 0) ≡ false
+one_answered doc l d there ls held = by ls held.0 held.1 held.2
+  where
+    more : (o : Option Document) (ds : List Document) → (length ds == 0) ≡ false → (length (cons_option o ds) == 0) ≡ false
+    more None ds e = e
+    more (Some x) ds e = eqb-suc-zero (length ds)
+
+    by : (ls : List Location) (i : ℕ) → i < length ls → slice_index_or ls i l ≡ l → (length (filter_map (at doc) ls) == 0) ≡ false
+    by [] i less is = absurd (omega (arith, less))
+    by (k ∷ ls) zero less is =
+        let here : at doc k ≡ Some d = ap (at doc) is ∙ there in
+        rw here (eqb-suc-zero (length (filter_map (at doc) ls)))
+    by (k ∷ ls) (suc i) less is = more (at doc k) (filter_map (at doc) ls) (by ls i (omega (arith, less)) is)
+
 module _ (members : OnceInOrderKeepsMembers) where
   never_none : (l : Location) (ls : List Location) → once_in_order [] ≡ once_in_order (l ∷ ls) → ⊥
   never_none l ls e =
@@ -40,17 +55,15 @@ module _ (members : OnceInOrderKeepsMembers) where
       let bad = (members [] l).0 kept in
       omega (arith, bad.1)
 
-  pub sets_alike : (ls ms : List Location) → once_in_order ls ≡ once_in_order ms → (length ls == 0) ≡ (length ms == 0)
-  sets_alike [] [] e = refl
-  sets_alike [] (m ∷ ms) e = absurd (never_none m ms e)
-  sets_alike (l ∷ ls) [] e = absurd (never_none l ls (sym e))
-  sets_alike (l ∷ ls) (m ∷ ms) e = eqb-suc-zero (length ls) ∙ sym (eqb-suc-zero (length ms))
-
   -- a set has a member where the answer has a value
-  pub any_answered : {S : Type 0} (f : S → Location) (doc : Document) (set : List S) (ls : List Location) (values : List Document) → once_in_order (map f set) ≡ once_in_order ls
-      → map (λ (d : Document). let o : Option Document = Some d in o) values ≡ map (at doc) ls → (length set == 0) ≡ (length values == 0)
-  any_answered f doc set ls values same each =
-      let sets : length (map f set) ≡ length set = simp length-map in
-      let places : length (map (at doc) ls) ≡ length ls = simp length-map in
-      let held : length (map (λ (d : Document). let o : Option Document = Some d in o) values) ≡ length values = simp length-map in
-      ap (λ n. n == 0) (sym sets) ∙ sets_alike (map f set) ls same ∙ ap (λ n. n == 0) (sym places ∙ sym (ap length each) ∙ held)
+  pub any_answered : {M : Type 0} (stand : M → Location) (content : M → Document) (doc : Document) (set : List M) (ls sel : List Location)
+      → MarksStandAt true stand content doc ls set → once_in_order ls ≡ once_in_order sel → (length set == 0) ≡ (length (filter_map (at doc) sel) == 0)
+  any_answered stand content doc [] [] [] stands same = refl
+  any_answered stand content doc [] [] (k ∷ sel) stands same = absurd (never_none k sel same)
+  any_answered stand content doc [] (l ∷ ls) sel stands same = cc
+  any_answered stand content doc (m ∷ ms) [] sel stands same = cc
+  any_answered stand content doc (m ∷ ms) (l ∷ ls) sel stands same =
+      let here : shown stand content m ≡ look_kept true doc l = cc in
+      let there : at doc l ≡ Some (content m) = sym (ap (λ (x : Location × Option Document). x.1) here) in
+      let kept : Contains sel l = (members sel l).0 (subst (λ (ks : List Location). Contains ks l) same ((members (l ∷ ls) l).1 (0, omega arith, refl))) in
+      eqb-suc-zero (length ms) ∙ sym (one_answered doc l (content m) there sel kept)

@@ -1,54 +1,88 @@
 //! The first of the values that a path selects, and whether there is any.
-ghost use Rattle.std.specs.Prelude.{◌≡◌, option_map, IfOk, IfErr};
-ghost use Rattle.serde_json.specs.View.{view};
-ghost use Rattle.jsonpath_nodes.specs.document.OfData.{document_of};
+ghost use Rattle.std.specs.Prelude.{option_map, IfOk};
 ghost use Rattle.jsonpath_select.specs.answer.Counted.{IsFirstOf, TellsIfAny};
 ghost use Rattle.jsonpath_select.specs.AnyPath.{ArePartsOf};
 ghost use Rattle.jsonpath_select.specs.Meaning.{Selects};
 
-use crate::answer::select::spot_set_by_parts;
-use crate::compile::any_path::PathParts;
-use crate::error::JsonPathError;
-use crate::laws::each_location_has_a_value;
+use crate::answer::select::node_set_by_parts;
+use crate::compile::any_path::{AnyPath, PathParts};
 use crate::machine::machine::Machine;
 use crate::machine::manner::manner_of_token_list;
-use jsonpath_nodes::laws::{
-    locations_once_in_order_ascend, spots_show_their_locations, value_is_document,
-};
-use jsonpath_nodes::{Halt, Spot};
-use serde_json::Value;
+use jsonpath_nodes::laws::locations_once_in_order_ascend;
+use jsonpath_nodes::{Halt, Tree, TreeNode};
 use std::alloc::Global;
 
-// The first of the values that the path selects, in the path's order, if there is one, by the machine. It follows
-// references, and spots only where references can't tell whether a place is met twice.
-pub(crate) fn first_by_parts<'a>(
+/// The first of the values that the path selects in a document, in the order in which the path finds them, or `None`.
+/// The document is given by its root value, of any type that implements the trait `Tree`, such as `&Value`. The error is
+/// that type's `Tree::Error`: a number can't be compared, or memory ran out.
+///
+/// ```text
+/// let document = read_document(alloc, b"[1, 2, 3]")?;
+/// let path = compile_path(alloc, "$[2,0]")?;
+/// let first = first_in_tree(alloc, &document, &path)?;
+/// assert!(rt; matches!(first, Some(value) if value.as_u64() == Some(3)));
+/// ```
+pub fn first_in_tree<T: Tree, P: AnyPath>(
     alloc: Global,
-    json: &'a Value,
+    root: T,
+    path: &P,
+) -> Result<Option<T>, T::Error>
+    ensures { IfOk result (λ first. IsFirstOf (Selects (P.spelling path.now) (T.content root)) (option_map T.content first)) }
+{
+    first_by_parts(alloc, root, path.parts())
+}
+
+/// Whether the path selects any value in a document. The document is given by its root value, of any type that
+/// implements the trait `Tree`, such as `&Value`. The error is that type's `Tree::Error`: a number can't be compared, or
+/// memory ran out.
+///
+/// ```text
+/// let document = read_document(alloc, b"[1, 2, 3]")?;
+/// let path = compile_path(alloc, "$[*][?(@ > 2)]")?;
+/// assert!(rt; exists_in_tree(alloc, &document, &path)?);
+/// ```
+pub fn exists_in_tree<T: Tree, P: AnyPath>(
+    alloc: Global,
+    root: T,
+    path: &P,
+) -> Result<bool, T::Error>
+    ensures { IfOk result (TellsIfAny (Selects (P.spelling path.now) (T.content root))) }
+{
+    exists_by_parts(alloc, root, path.parts())
+}
+
+// The first of the values that the path selects, in the path's order, if there is one, by the machine. It follows
+// values alone, and nodes only where values can't tell whether a place is met twice.
+pub(crate) fn first_by_parts<T: Tree>(
+    alloc: Global,
+    root: T,
     path: PathParts<'_>,
-) -> Result<Option<&'a Value>, JsonPathError>
+) -> Result<Option<T>, T::Error>
     requires { ArePartsOf path.text.now path }
-    ensures ok { IfOk result (λ first. IsFirstOf (Selects path.entry.text.now (document_of (view json.now))) (option_map (λ v. document_of (view v.now)) first)) }
-    ensures refused { IfErr result (λ e. e ≡ JsonPathError.OutOfMemory) }
+    ensures { IfOk result (λ first. IsFirstOf (Selects path.entry.text.now (T.content root)) (option_map T.content first)) }
 {
     let machine = Machine {
         alloc,
-        root: &json,
+        root: &root,
         text: path.text,
         by_sets: false,
     };
     match machine.first_by_tokens(path.tokens) {
-        Ok(found) => Ok(found.first().copied()),
-        Err(Halt::Refused(_)) => Err(JsonPathError::OutOfMemory),
+        Ok(found) => match found.first() {
+            Some(value) => Ok(Some(*value)),
+            None => Ok(None),
+        },
+        Err(Halt::Refused(error)) => Err(error),
         Err(Halt::NeedsLocations) => {
             let machine = Machine {
                 alloc,
-                root: &Spot::root(alloc, json),
+                root: &TreeNode::at_root(root),
                 text: path.text,
                 by_sets: false,
             };
             let found = machine.first_by_tokens(path.tokens)?;
             match found.first() {
-                Some(spot) => Ok(Some(spot.value())),
+                Some(node) => Ok(Some(node.value())),
                 None => Ok(None),
             }
         }
@@ -56,23 +90,19 @@ pub(crate) fn first_by_parts<'a>(
 }
 
 // Whether the path selects a value. If a path is decided by sets, its set is found; else the first value is looked for.
-pub(crate) fn exists_by_parts(
+pub(crate) fn exists_by_parts<T: Tree>(
     alloc: Global,
-    json: &Value,
+    root: T,
     path: PathParts<'_>,
-) -> Result<bool, JsonPathError>
+) -> Result<bool, T::Error>
     requires { ArePartsOf path.text.now path }
-    ensures ok { IfOk result (TellsIfAny (Selects path.entry.text.now (document_of (view json.now)))) }
-    ensures refused { IfErr result (λ e. e ≡ JsonPathError.OutOfMemory) }
+    ensures { IfOk result (TellsIfAny (Selects path.entry.text.now (T.content root))) }
 {
     if manner_of_token_list(alloc, path.text, path.tokens)?.is_better_by_sets() {
-        value_is_document(json);
-        each_location_has_a_value();
         locations_once_in_order_ascend();
-        spots_show_their_locations();
-        let set = spot_set_by_parts(alloc, json, path)?;
+        let set = node_set_by_parts(alloc, root, path)?;
         return Ok(!set.as_slice().is_empty());
     }
-    let first = first_by_parts(alloc, json, path)?;
+    let first = first_by_parts(alloc, root, path)?;
     Ok(first.is_some())
 }

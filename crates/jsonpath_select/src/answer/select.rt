@@ -6,7 +6,7 @@ ghost use Rattle.jsonpath_nodes.specs.place.SpotPlace.{StandAt, place_location, 
 ghost use Rattle.jsonpath_nodes.specs.place.Mark.{MarksStandAt};
 ghost use Rattle.jsonpath_paths.specs.Listed.{IsListOf, IsSomePath};
 ghost use Rattle.jsonpath_select.specs.AnyPath.{ArePartsOf};
-ghost use Rattle.jsonpath_select.specs.Meaning.{sel, Selects, SelectsNodes, SelectsSet, SelectsSpots};
+ghost use Rattle.jsonpath_select.specs.Meaning.{sel, Selects, SelectsNodes, SelectsNodeSet, SelectsSet, SelectsSpots};
 ghost use Rattle.jsonpath_paths.specs.tree.Tree.{Path};
 
 use crate::answer::of_spots::values_of_selected_nodes;
@@ -86,7 +86,7 @@ pub fn select_path_in_any_order<'a>(
     ensures ok { IfOk result (λ found. SelectsSet path.now (document_of (view json.now)) found.items) }
     ensures refused { IfErr result (λ e. e ≡ JsonPathError.OutOfMemory) }
 {
-    spot_set_by_parts(alloc, json, path.parts())
+    Ok(node_set_by_parts(alloc, json, path.parts())?)
 }
 
 /// The values that the path selects in a document, in the order in which the path finds them, with duplicates. The
@@ -99,12 +99,12 @@ pub fn select_path_in_any_order<'a>(
 /// let path = compile_path(alloc, "$[1:]")?;
 /// assert!(rt; matches!(select_in_tree(alloc, &document, &path), Ok(found) if found.len() == 2));
 /// ```
-pub fn select_in_tree<T: Tree>(
+pub fn select_in_tree<T: Tree, P: AnyPath>(
     alloc: Global,
     root: T,
-    path: &PathParser<'_>,
+    path: &P,
 ) -> Result<Vec<T>, T::Error>
-    ensures { IfOk result (λ found. Selects path.now (T.content root) (map T.content found.items)) }
+    ensures { IfOk result (λ found. Selects (P.spelling path.now) (T.content root) (map T.content found.items)) }
 {
     values_in_tree(alloc, root, path.parts())
 }
@@ -119,14 +119,34 @@ pub fn select_in_tree<T: Tree>(
 /// let nodes = select_nodes_in_tree(alloc, &document, &path)?;
 /// assert!(rt; nodes[0].location(alloc)?.to_string(alloc)?.as_str() == "$[2]");
 /// ```
-pub fn select_nodes_in_tree<T: Tree>(
+pub fn select_nodes_in_tree<T: Tree, P: AnyPath>(
     alloc: Global,
     root: T,
-    path: &PathParser<'_>,
+    path: &P,
 ) -> Result<Vec<TreeNode<T>>, T::Error>
-    ensures { IfOk result (λ found. SelectsNodes T.Name.bytes T.content path.now (T.content root) found.items) }
+    ensures { IfOk result (λ found. SelectsNodes T.Name.bytes T.content (P.spelling path.now) (T.content root) found.items) }
 {
     nodes_by_parts(alloc, root, path.parts())
+}
+
+/// The nodes (values with their locations) that the path selects in a document: the same set as from
+/// `select_nodes_in_tree`, in any order, with or without duplicates. The time is bounded as that of
+/// `select_path_in_any_order`. The document is given by its root value, of any type that implements the trait `Tree`,
+/// such as `&Value`. The error is that type's `Tree::Error`: a number can't be compared, or memory ran out.
+///
+/// ```text
+/// let document = read_document(alloc, b"[[[1]]]")?;
+/// let path = compile_path(alloc, "$..*..*")?;
+/// assert_eq!(rt; select_node_set_in_tree(alloc, &document, &path)?.len(), 2);
+/// ```
+pub fn select_node_set_in_tree<T: Tree, P: AnyPath>(
+    alloc: Global,
+    root: T,
+    path: &P,
+) -> Result<Vec<TreeNode<T>>, T::Error>
+    ensures { IfOk result (λ found. SelectsNodeSet T.Name.bytes T.content (P.spelling path.now) (T.content root) found.items) }
+{
+    node_set_by_parts(alloc, root, path.parts())
 }
 
 // Nodes at what a token list selects in a tree, in its order, by the machine.
@@ -187,23 +207,22 @@ pub(crate) fn values_in_tree<T: Tree>(
     }
 }
 
-// Nodes at what the path selects in the value, as a set.
-pub(crate) fn spot_set_by_parts<'a>(
+// Nodes at what the path selects in a tree, as a set.
+pub(crate) fn node_set_by_parts<T: Tree>(
     alloc: Global,
-    json: &'a Value,
+    root: T,
     path: PathParts<'_>,
-) -> Result<Vec<Spot<'a>>, JsonPathError>
+) -> Result<Vec<TreeNode<T>>, T::Error>
     requires { ArePartsOf path.text.now path }
-    ensures ok { IfOk result (λ found. SelectsSet path.entry.text.now (document_of (view json.now)) found.items) }
-    ensures refused { IfErr result (λ e. e ≡ JsonPathError.OutOfMemory) }
+    ensures { IfOk result (λ found. SelectsNodeSet T.Name.bytes T.content path.entry.text.now (T.content root) found.items) }
 {
     let machine = Machine {
         alloc,
-        root: &Spot::root(alloc, json),
+        root: &TreeNode::at_root(root),
         text: path.text,
         by_sets: false,
     };
-    Ok(machine.select_set_by_tokens(path.tokens)?)
+    machine.select_set_by_tokens(path.tokens)
 }
 
 // Nodes at what the path selects in the value, in the path's order, by the walk over its syntax tree.

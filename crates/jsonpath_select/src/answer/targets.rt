@@ -7,7 +7,7 @@ ghost use Rattle.jsonpath_nodes.specs.place.Location.{location_cmp};
 ghost use Rattle.jsonpath_select.specs.AnyPath.{ArePartsOf};
 ghost use Rattle.jsonpath_select.specs.Targets.{AreTargets};
 
-use crate::answer::select::spot_set_by_parts;
+use crate::answer::select::node_set_by_parts;
 use crate::compile::any_path::PathParts;
 use crate::error::JsonPathError;
 use jsonpath_nodes::laws::spots_show_their_locations;
@@ -27,7 +27,7 @@ pub(crate) fn targets_of(
     ensures refused { IfErr result (λ e. e ≡ JsonPathError.OutOfMemory) }
 {
     spots_show_their_locations();
-    let spots = spot_set_by_parts(alloc, value, path)?;
+    let spots = node_set_by_parts(alloc, value, path)?;
     let found = compute_paths(alloc, spots.as_slice())?;
     Ok(found)
 }

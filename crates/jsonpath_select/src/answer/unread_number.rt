@@ -48,8 +48,13 @@ pub(crate) fn has_unread_number_in_values(values: &[&Value]) -> bool
     false
 }
 
-// The error where a text or typed values would be made of an unread number: `Serde` and its message, or `OutOfMemory`.
-pub(crate) fn unread_number_error(alloc: Global) -> JsonPathError
+/// The error where a text or typed values would be made of a number that is neither an `i64` nor a `u64`, such as 1.5:
+/// `Serde`, with a message that says so, or `OutOfMemory`.
+///
+/// ```text
+/// assert!(rt; matches!(unread_number_error(alloc), JsonPathError::Serde(_)));
+/// ```
+pub fn unread_number_error(alloc: Global) -> JsonPathError
     ensures { IsUnreadError result }
 {
     String::from_str(alloc, UNREAD_NUMBER).map_or(JsonPathError::OutOfMemory, JsonPathError::Serde)

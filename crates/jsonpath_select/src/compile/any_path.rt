@@ -190,7 +190,7 @@ pub trait AnyPath {
         ensures ok { IfOk result (λ first. IsFirstOf (Selects (spelling self.now) (document_of (view value.now))) (option_map (λ v. document_of (view v.now)) first)) }
         ensures refused { IfErr result (λ e. e ≡ JsonPathError.OutOfMemory) }
     {
-        first_by_parts(alloc, value, self.parts())
+        Ok(first_by_parts(alloc, value, self.parts())?)
     }
 
     /// Whether the path selects any value in the document. The only error is `OutOfMemory`.
@@ -204,7 +204,7 @@ pub trait AnyPath {
         ensures ok { IfOk result (TellsIfAny (Selects (spelling self.now) (document_of (view value.now)))) }
         ensures refused { IfErr result (λ e. e ≡ JsonPathError.OutOfMemory) }
     {
-        exists_by_parts(alloc, value, self.parts())
+        Ok(exists_by_parts(alloc, value, self.parts())?)
     }
 
     /// Replaces each selected value by null, except the root and values inside another replaced value. All else stays

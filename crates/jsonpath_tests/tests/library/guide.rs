@@ -3,8 +3,8 @@
 use crate::answers::{fails, gives, says_some};
 use crate::outcomes::says;
 use jsonpath_lib::{
-    AnyPath, Compiled, Documents, JsonPathError, compile_path, compile_paths, document_to_text,
-    list_to_text, mask, read_document, replace_with, select, select_as, select_path,
+    AnyPath, Compiled, Documents, JsonPathError, Scratch, Text, compile_path, compile_paths,
+    document_to_text, list_to_text, read_document, replace_with, select, select_as, select_path,
 };
 use serde::Deserialize;
 use serde_json::Value;
@@ -26,10 +26,10 @@ fn sum_of_prices(alloc: Global, text: &str) -> Result<u64> {
 }
 
 fn without_secrets(alloc: Global, text: &str) -> Result<String> {
-    let document = read_document(alloc, text.as_bytes())?;
-    let masked = mask(alloc, document, &["$..password", "$.cards[*].number"])?;
-    let shown = document_to_text(alloc, &masked)?;
-    Ok(shown)
+    let paths = compile_paths(alloc, &["$..password", "$.cards[*].number"])?;
+    let mut scratch = Scratch::new(alloc);
+    let document = Text::read(alloc, text.as_bytes(), &mut scratch)?;
+    Ok(document.mask_as_str(alloc, paths.as_slice())?)
 }
 
 fn switched_on(alloc: Global, text: &str) -> Result<String> {

@@ -6,11 +6,13 @@ use crate::outcomes::{NO_MEMORY, NO_PATH, NO_VALUE, becomes, is_refusal, refuses
 use crate::run::streams::{Sink, Source};
 use jsonpath_lib::{
     Compiled, JsonPathError, JsonSelector, JsonSelectorMut, MaskFault, ParseFault, Parser,
-    PathCompiled, Selector, SelectorMut, compile, compile_path, delete, document_to_text, mask,
-    remove_by_path_texts, replace_with, select, select_as, select_as_str, selector, selector_as,
+    PathCompiled, Scratch, Selector, SelectorMut, Text, compile, compile_path, delete,
+    document_to_text, mask, remove_by_path_texts, replace_with, select, select_as, select_as_str,
+    selector, selector_as,
 };
 use jsonpath_run::{Fault, Output, run};
 use serde_json::Value;
+use std::alloc::Global;
 use std::process::Abort;
 use std::rc::Rc;
 
@@ -488,6 +490,36 @@ fn growths_of_removals_by_several_paths(rt: HostRuntime) {
             is_refusal(&rt, &refused.fault, NO_MEMORY);
             grown::is_now(&rt, &refused.value, "[1,[2,3],4]");
         }
+    }
+}
+
+// What a text answers: its selection, two typed values, their count, and what a mask and a removal leave of it.
+fn answers_of_text(alloc: Global, json: &[u8]) -> Result<String, JsonPathError> {
+    let mut scratch = Scratch::new(alloc);
+    let text = Text::read(alloc, json, &mut scratch)?;
+    let path = compile_path(alloc, "$..b[*][?(@ > 1)]")?;
+    let typed = text.select_as::<u64, _>(alloc, &path)?;
+    let count = text.count(alloc, &path)?;
+    let first = text.first(alloc, &path)?.is_some() && text.exists(alloc, &path)?;
+    let paths = [path];
+    let selected = text.select_as_str(alloc, &paths[0])?;
+    let masked = text.mask_as_str(alloc, &paths)?;
+    let left = text.remove_as_str(alloc, &paths)?;
+    Ok(format!(in alloc;
+        "{selected} {} {count} {first} {masked} {left}",
+        typed.len()
+    )?)
+}
+
+#[test]
+fn growths_of_texts(rt: HostRuntime) {
+    let json = b"{\"b\":[1,2,3],\"a\\u0041\":{\"c\":-7,\"b\":[12345678901234567890]}}";
+    match answers_of_text(rt.alloc(), json) {
+        Ok(answers) => check!(
+            rt;
+            answers.as_str() == "[2,3,12345678901234567890] 3 3 true {\"aA\":{\"b\":[null],\"c\":-7},\"b\":[1,null,null]} {\"aA\":{\"b\":[],\"c\":-7},\"b\":[1]}"
+        ),
+        Err(error) => is_refusal(&rt, &error, NO_MEMORY),
     }
 }
 

@@ -1,7 +1,7 @@
 use Rattle.std.proofs.Common.{map, ap, ◌∙◌}
 use Rattle.json.specs.Value.{value_view}
 use Rattle.jsonpath_nodes.specs.place.Order.{once_in_order}
-use Rattle.jpath_texts.specs.ExactDocument.{exact_document}
+use Rattle.json_trees.specs.ExactDocument.{exact_document}
 use Rattle.jpath_core.specs.Nodes.{location_of}
 use Rattle.jpath_core.proofs.LineLemmas.{locations_of}
 use Rattle.jpath_core.proofs.edit.select_locations_in_document_order.Goals as goal

@@ -1,6 +1,6 @@
 use Rattle.std.proofs.Common.{◌≡◌, Some, arith}
 use Rattle.json.specs.Value.{value_view}
-use Rattle.jpath_texts.specs.ExactAt.{exact_at}
+use Rattle.json_trees.specs.ExactAt.{exact_at}
 use Rattle.jpath_core.specs.Nodes.{location_of}
 use Rattle.jpath_core.proofs.LineLemmas.{has_numbers_at}
 use Rattle.jpath_core.proofs.printable_value.printable_value_at_node.Goals as goal

@@ -1,7 +1,7 @@
 use Rattle.std.proofs.Common.{◌≡◌, map, drop, option_map, sym, ap, ◌∙◌}
 use Rattle.json.specs.Value.{value_view}
 use Rattle.jsonpath_nodes.specs.update.Topmost.{with_answer_at_topmost}
-use Rattle.jpath_texts.specs.ExactDocument.{document_at, exact_document}
+use Rattle.json_trees.specs.ExactDocument.{document_at, exact_document}
 use Rattle.jpath_edits.proofs.ChangedValueLemmas.{below_root_alone, none_passed}
 use Rattle.jpath_edits.proofs.check_edited_text.is_text_with_answer.Goals as goal
 

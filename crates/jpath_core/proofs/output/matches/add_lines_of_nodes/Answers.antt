@@ -1,7 +1,7 @@
 use Rattle.std.proofs.Common.{◌≡◌, ◌++◌, None, Some, option_map, map, take, sym, ap, ◌∙◌}
 use Rattle.std.proofs.lemmas.List.{append-nil, append_assoc}
 use Rattle.json.specs.Value.{value_view}
-use Rattle.jpath_texts.specs.ExactAt.{exact_at}
+use Rattle.json_trees.specs.ExactAt.{exact_at}
 use Rattle.jpath_core.specs.Matches.{lines_text, match_text}
 use Rattle.jpath_core.specs.Nodes.{location_of}
 use Rattle.jpath_core.proofs.TurnLemmas.{lines_more, located_more}

@@ -1,6 +1,6 @@
 use Rattle.std.proofs.Common.{◌≡◌, ◌++◌, map, take}
 use Rattle.json.specs.Value.{value_view}
-use Rattle.jpath_texts.specs.Way.{IsWayFrom}
+use Rattle.json_trees.specs.Way.{IsWayFrom}
 use Rattle.jpath_core.specs.Matches.{lines_text}
 use Rattle.jpath_core.specs.Nodes.{location_of}
 use Rattle.jpath_core.proofs.output.matches.add_lines_of_nodes.Given as goal

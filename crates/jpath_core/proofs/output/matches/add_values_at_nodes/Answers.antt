@@ -5,7 +5,7 @@ use Rattle.std.proofs.lemmas.List.Elements.{All-push, All-same}
 use Rattle.json.specs.Json.{Json}
 use Rattle.json.specs.Tree.{HasNumbers}
 use Rattle.json.specs.Value.{value_view}
-use Rattle.jpath_texts.specs.ExactAt.{exact_at}
+use Rattle.json_trees.specs.ExactAt.{exact_at}
 use Rattle.jpath_core.specs.Nodes.{location_of}
 use Rattle.jpath_core.specs.declared.output.matches.Selected.{Selected}
 use Rattle.jpath_core.proofs.TurnLemmas.{located_more, none_more, some_more}

@@ -2,8 +2,8 @@ use Rattle.std.proofs.Common.{◌≡◌, ◌++◌, All, map, take}
 use Rattle.std.specs.Prelude.{filter_map}
 use Rattle.json.specs.Tree.{HasNumbers}
 use Rattle.json.specs.Value.{value_view}
-use Rattle.jpath_texts.specs.ExactAt.{exact_at}
-use Rattle.jpath_texts.specs.Way.{IsWayFrom}
+use Rattle.json_trees.specs.ExactAt.{exact_at}
+use Rattle.json_trees.specs.Way.{IsWayFrom}
 use Rattle.jpath_core.specs.Nodes.{location_of}
 use Rattle.jpath_core.proofs.output.matches.add_values_at_nodes.Given as goal
 

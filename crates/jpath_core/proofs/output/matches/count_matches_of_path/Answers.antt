@@ -2,7 +2,7 @@ use Rattle.std.proofs.Common.{◌≡◌, length, map, sym, ap, ◌∙◌, arith}
 use Rattle.std.proofs.lemmas.List.{length-map}
 use Rattle.json.specs.Value.{value_view}
 use Rattle.jsonpath_select.specs.Meaning.{sel}
-use Rattle.jpath_texts.specs.ExactDocument.{exact_document}
+use Rattle.json_trees.specs.ExactDocument.{exact_document}
 use Rattle.jpath_core.specs.Nodes.{location_of}
 use Rattle.jpath_core.proofs.LineLemmas.{locations_of}
 use Rattle.jpath_core.proofs.output.matches.count_matches_of_path.Goals as goal

@@ -1,7 +1,7 @@
 use Rattle.std.proofs.Common.{◌≡◌, [], ◌++◌, map, None, Some, option_map, sym, ap, ◌∙◌}
 use Rattle.std.proofs.lemmas.List.{append-nil}
 use Rattle.json.specs.Value.{value_view}
-use Rattle.jpath_texts.specs.ExactAt.{exact_at}
+use Rattle.json_trees.specs.ExactAt.{exact_at}
 use Rattle.jpath_texts.specs.Rows.{row_line}
 use Rattle.jpath_core.specs.Nodes.{location_of}
 use Rattle.jpath_core.specs.Rows.{row, no_row}

@@ -1,7 +1,7 @@
 use Rattle.std.proofs.Common.{map, ap, subst, ◌∙◌}
 use Rattle.json.specs.Value.{value_view}
 use Rattle.jsonpath_select.specs.Meaning.{SelectsNodes}
-use Rattle.jpath_texts.specs.ExactDocument.{document_at, exact_document, name_bytes}
+use Rattle.json_trees.specs.ExactDocument.{document_at, exact_document, name_bytes}
 use Rattle.jpath_core.specs.Nodes.{location_of}
 use Rattle.jpath_core.specs.Rows.{first_field}
 use Rattle.jpath_core.proofs.LineLemmas.{locations_of}

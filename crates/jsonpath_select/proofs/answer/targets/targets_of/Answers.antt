@@ -8,5 +8,5 @@ use Rattle.jsonpath_select.proofs.answer.targets.targets_of.Goals as goal
 
 pub returns-clause-ok : goal.returns-clause-ok
 returns-clause-ok c =
-    targets_are c.spots_show_their_locations.ensures c.args.path.text.now (value_document c.args.value.now) c.in_ok-spots.spots.items _ c.in_ok-spots.ensures.ok
+    targets_are c.spots_show_their_locations.ensures c.args.path.text.now (value_document c.args.value.now) c.in_ok-spots.spots.items _ c.in_ok-spots.ensures
     (c.in_ok-found.ensures.once ∙ ap (λ (spots : List Spot). once_in_order (map location_of spots)) c.as_slice.ensures.value)

@@ -1,6 +1,0 @@
-use Rattle.std.proofs.Common.{◌∙◌}
-use Rattle.jpath_texts.proofs.numbers.KeyOrderLemmas.{by_texts}
-use Rattle.jpath_texts.proofs.numbers.number_key.NumberKey.compare.Goals as goal
-
-pub returns : goal.returns
-returns c = λ s t h i. c.cmp.ensures ∙ by_texts s t c.args.self.now c.args.other.now h i

@@ -1,9 +1,0 @@
-use Rattle.std.proofs.Common.{◌≡◌, ◌≤◌, ◌-◌, drop, length}
-use Rattle.jpath_texts.specs.NumberKey.{zeros}
-use Rattle.jpath_texts.proofs.numbers.number_key.without_last_zeros.Given as goal
-
-abbrev pub invariant-loop-end : goal.invariant-loop-end
-invariant-loop-end l = (l.end ≤ length l.digits) × (drop l.end l.digits ≡ zeros (length l.digits - l.end))
-
-abbrev pub decreases-loop-end : goal.decreases-loop-end
-decreases-loop-end l = l.end

@@ -1,0 +1,11 @@
+pub mod AsReadLemmas
+pub mod DocumentLemmas
+pub mod EachNameOnceLemmas
+pub mod MemberSearchLemmas
+pub mod OrderLemmas
+pub mod OrderedTreeLemmas
+pub mod PlacesLemmas
+pub mod PrintLemmas
+pub mod ReadLemmas
+pub mod TargetsLemmas
+pub mod WayLemmas

@@ -1,0 +1,15 @@
+pub mod AsRead
+pub mod Changed
+pub mod DocumentPlaces
+pub mod Exact
+pub mod ExactAt
+pub mod ExactDocument
+pub mod NumberKey
+pub mod Numbers
+pub mod OrderedTree
+pub mod Prints
+pub mod StepsFrom
+pub mod Targets
+pub mod TextHandles
+pub mod TreeOrder
+pub mod Way
