@@ -31,6 +31,19 @@ around() { printf '%s%s%s' "$(times "$1" "$2")" "$3" "$(times "$4" "$2")"; }
 # objects N: an array of so many objects, with an a from 0 up and a b from -1 down.
 objects() { awk -v number="$1" 'BEGIN { printf "["; for (at = 0; at < number; at++) printf "%s{\"a\":%d,\"b\":%d}", at ? "," : "", at, -at - 1; printf "]" }'; }
 
+# members ORDER: an object of 100,000 members, whose names go up, go down, are in no order, or are there twice.
+members() {
+    awk -v order="$1" 'BEGIN {
+        printf "{"
+        for (round = order == "twice"; round >= 0; round--)
+            for (at = 0; at < 100000; at++) {
+                place = order == "up" ? at : order == "down" ? 99999 - at : at * 77773 % 100000
+                printf "%s\"n%05d\":%d", at || !round && order == "twice" ? "," : "", place, place + round
+            }
+        printf "}"
+    }'
+}
+
 # answers MEGABYTES STACK NAME DOCUMENT ANSWER WORDS..: with so much memory that the process may ask for, and so many KB of
 # stack, the program ends well, and writes the answer and a line end.
 answers() {
@@ -93,6 +106,14 @@ answers 60 1024 'select by 1,000 levels of parentheses' none '[]' select "\$[?$(
 answers 60 1024 'select by 1,000 levels of compared filters' one '[1]' select "\$$(around '[?(@==@' 1000 '' ')]')"
 answers 60 1024 'select by 1,000 levels of filters' none '[{}]' select "\$$(around '[?(@' 1000 '' ')]')"
 answers 60 1024 'delete by 1,000 levels of filters after ..' none '{}' delete "\$$(around '..[?(@.a' 1000 '' ')]')"
+
+# Many members, printed by their names, each once.
+sorted=$(members up)
+for order in up down shuffled twice; do
+    members "$order" > "$work/members"
+    answers 60 8192 "100,000 members, $order" members "[$sorted]" select '$'
+    answers 60 8192 "the last of 100,000 members, $order" members '[99999]' select '$.n99999'
+done
 
 echo "$passed passed, $failed failed"
 [ "$failed" = 0 ]

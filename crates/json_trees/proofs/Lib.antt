@@ -1,11 +1,13 @@
 pub mod AsReadLemmas
 pub mod DocumentLemmas
 pub mod EachNameOnceLemmas
+pub mod InPlaceLemmas
 pub mod MemberSearchLemmas
 pub mod OrderLemmas
 pub mod OrderedTreeLemmas
 pub mod PlacesLemmas
 pub mod PrintLemmas
 pub mod ReadLemmas
+pub mod SortLemmas
 pub mod TargetsLemmas
 pub mod WayLemmas

@@ -16,7 +16,7 @@ use Rattle.json_trees.proofs.OrderedTreeLemmas.{Entry, and_left, and_right, both
 
 -- ---- one level of an order
 
-order_stands : (j : Json) → is_order AsItStands j ≡ is_ordered j
+pub order_stands : (j : Json) → is_order AsItStands j ≡ is_ordered j
 order_stands j = search (rules, the_lemmas)
 
 pub order_of_items : (v : Vec Order Global) (j : Json) → is_order (OfItems v) j ≡ takes_items (map is_order v.items) j

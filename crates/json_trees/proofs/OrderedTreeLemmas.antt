@@ -111,6 +111,30 @@ none_below : (ms : json.Members) → AreBelowNext json.no_members ms
 none_below json.no_members = tt
 none_below (json.member k j ms) = tt
 
+-- each name is below the next one
+abbrev pub names_ascend : json.Members → Bool
+names_ascend json.no_members = true
+names_ascend (json.member k j ms) = is_before k ms && names_ascend ms
+
+-- the members with their values in order
+abbrev pub each_in_order : json.Members → json.Members
+each_in_order json.no_members = json.no_members
+each_in_order (json.member k j ms) = json.member k (in_order j) (each_in_order ms)
+
+ascending_behind : (ms found : json.Members) → names_ascend ms ≡ true → AreBelowNext found ms → behind found (each_in_order ms) ≡ members_in_order ms found
+ascending_behind json.no_members found h b = behind_none found
+ascending_behind (json.member k j ms) found h b =
+    sym (behind_more found k (in_order j) (each_in_order ms))
+    ∙ ascending_behind ms (behind found (json.member k (in_order j) json.no_members)) (and_right (is_before k ms) (names_ascend ms) h) (below_next found k (in_order j) ms b (and_left (is_before k ms) (names_ascend ms) h))
+    ∙ ap (members_in_order ms) (sym (put_last k (in_order j) found b))
+
+pub ascending_stand : (ms : json.Members) → names_ascend ms ≡ true → each_in_order ms ≡ members_in_order ms json.no_members
+ascending_stand ms h = ascending_behind ms json.no_members h (none_below ms)
+
+ordered_ascend : (ms : json.Members) → are_members_ordered ms ≡ true → names_ascend ms ≡ true
+ordered_ascend json.no_members o = refl
+ordered_ascend (json.member k j ms) o = both (is_before k ms) (names_ascend ms) (and_left (is_before k ms) (is_ordered j && are_members_ordered ms) o) (ordered_ascend ms (rest_ordered k j ms o))
+
 mutual
   pub ordered_stands : (j : json.Json) → is_ordered j ≡ true → j ≡ in_order j
   ordered_stands json.null o = refl
@@ -118,18 +142,59 @@ mutual
   ordered_stands (json.number s) o = refl
   ordered_stands (json.string s) o = refl
   ordered_stands (json.array js) o = ap json.array (items_stand js o)
-  ordered_stands (json.object ms) o = ap json.object (members_stand ms json.no_members o (none_below ms))
+  ordered_stands (json.object ms) o = ap json.object (values_stand ms o ∙ ascending_stand ms (ordered_ascend ms o))
 
   items_stand : (js : json.Items) → are_items_ordered js ≡ true → js ≡ items_in_order js
   items_stand json.no_items o = refl
   items_stand (json.item j js) o = ap₂ json.item (ordered_stands j (and_left (is_ordered j) (are_items_ordered js) o)) (items_stand js (and_right (is_ordered j) (are_items_ordered js) o))
 
-  members_stand : (ms : json.Members) (found : json.Members) → are_members_ordered ms ≡ true → AreBelowNext found ms → behind found ms ≡ members_in_order ms found
-  members_stand json.no_members found o b = behind_none found
-  members_stand (json.member k j ms) found o b =
-      let first : is_before k ms ≡ true = and_left (is_before k ms) (is_ordered j && are_members_ordered ms) o in
-      sym (behind_more found k j ms) ∙ members_stand ms (behind found (json.member k j json.no_members)) (rest_ordered k j ms o) (below_next found k j ms b first)
-      ∙ ap (members_in_order ms) (sym (put_last k j found b) ∙ ap (λ i. put_in_order k i found) (ordered_stands j (first_ordered k j ms o)))
+  values_stand : (ms : json.Members) → are_members_ordered ms ≡ true → ms ≡ each_in_order ms
+  values_stand json.no_members o = refl
+  values_stand (json.member k j ms) o = ap₂ (json.member k) (ordered_stands j (first_ordered k j ms o)) (values_stand ms (rest_ordered k j ms o))
+
+-- ---- what was put in order is in order
+
+before_put : (q k : List ℕ) (j : json.Json) (ms : json.Members) → is_lt (slice_cmp nat_cmp q k) ≡ true → is_before q ms ≡ true → is_before q (put_in_order k j ms) ≡ true
+before_put q k j json.no_members h hs = h
+before_put q k j (json.member l i ms) h hs = by (slice_cmp nat_cmp k l)
+  where
+    by : (o : Ordering) → is_before q (match_ordering o (json.member k j (json.member l i ms)) (json.member l j ms) (json.member l i (put_in_order k j ms))) ≡ true
+    by Less = h
+    by Equal = hs
+    by Greater = hs
+
+put_ordered : (k : List ℕ) (j : json.Json) (ms : json.Members) → is_ordered j ≡ true → are_members_ordered ms ≡ true → are_members_ordered (put_in_order k j ms) ≡ true
+put_ordered k j json.no_members h o = rw h refl
+put_ordered k j (json.member l i ms) h o = by (slice_cmp nat_cmp k l) refl (put_ordered k j ms h (rest_ordered l i ms o))
+  where
+    first : is_before l ms ≡ true
+    first = and_left (is_before l ms) (is_ordered i && are_members_ordered ms) o
+
+    by : (c : Ordering) → slice_cmp nat_cmp k l ≡ c → are_members_ordered (put_in_order k j ms) ≡ true
+        → are_members_ordered (match_ordering c (json.member k j (json.member l i ms)) (json.member l j ms) (json.member l i (put_in_order k j ms))) ≡ true
+    by Less is later = both (is_lt (slice_cmp nat_cmp k l)) (is_ordered j && are_members_ordered (json.member l i ms)) (ap is_lt is) (both (is_ordered j) (are_members_ordered (json.member l i ms)) h o)
+    by Equal is later = both (is_before l ms) (is_ordered j && are_members_ordered ms) first (both (is_ordered j) (are_members_ordered ms) h (rest_ordered l i ms o))
+    by Greater is later =
+        let above : slice_cmp nat_cmp l k ≡ Less = nat_list_cmp_total.antisymm l k ∙ ap ordering_reverse is in
+        both (is_before l (put_in_order k j ms)) (is_ordered i && are_members_ordered (put_in_order k j ms)) (before_put l k j ms (ap is_lt above) first)
+        (both (is_ordered i) (are_members_ordered (put_in_order k j ms)) (first_ordered l i ms o) later)
+
+mutual
+  pub in_order_ordered : (j : json.Json) → is_ordered (in_order j) ≡ true
+  in_order_ordered json.null = refl
+  in_order_ordered (json.boolean b) = refl
+  in_order_ordered (json.number s) = refl
+  in_order_ordered (json.string s) = refl
+  in_order_ordered (json.array js) = items_ordered js
+  in_order_ordered (json.object ms) = members_ordered ms json.no_members refl
+
+  items_ordered : (js : json.Items) → are_items_ordered (items_in_order js) ≡ true
+  items_ordered json.no_items = refl
+  items_ordered (json.item j js) = both (is_ordered (in_order j)) (are_items_ordered (items_in_order js)) (in_order_ordered j) (items_ordered js)
+
+  members_ordered : (ms found : json.Members) → are_members_ordered found ≡ true → are_members_ordered (members_in_order ms found) ≡ true
+  members_ordered json.no_members found o = o
+  members_ordered (json.member k j ms) found o = members_ordered ms (put_in_order k (in_order j) found) (put_ordered k (in_order j) found (in_order_ordered j) o)
 
 -- ---- numbers can be written as before
 

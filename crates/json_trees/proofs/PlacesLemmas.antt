@@ -1,15 +1,13 @@
 -- The places of an object's members by their names: what stands there, one after another and by name.
-use Rattle.std.proofs.Common.{Bor, get_or, take, drop, set, ◌≡◌, ℕ, zero, suc, ◌+◌, ◌<◌, ◌≤◌, List, [], ◌∷◌, ◌++◌, length, map, Option, Some, None, option_map, option_and_then, MatchOption, Bool, true, false, ◌&&◌, cond, bytes_eq, Ordering, Less, Equal, Greater, nat_cmp, is_eq, refl, sym, ap, ◌∙◌, arith}
-use Rattle.std.proofs.lemmas.List.{append_assoc, drop_all, drop_more, drop-set, map-append, take_more, take-append-drop, take-set}
+use Rattle.std.proofs.Common.{Bor, ◌≡◌, ℕ, zero, suc, ◌+◌, ◌<◌, ◌≤◌, List, [], ◌∷◌, ◌++◌, length, map, Option, Some, None, option_map, option_and_then, MatchOption, Bool, true, false, ◌&&◌, cond, bytes_eq, Ordering, Less, Equal, Greater, nat_cmp, is_eq, refl, sym, ap, ◌∙◌, arith}
 use Rattle.std.proofs.lemmas.Cmp.{nat_list_cmp_total, tied_itself}
 use Rattle.std.proofs.lemmas.Map.Text.{is_eq-slice_cmp}
 use Rattle.std.proofs.lemmas.Option.{slice_get-map, slice_get_within}
 use Rattle.std.proofs.lemmas.Slice.Eq.{bytes_eq-Decides}
 use Rattle.std.specs.BTreeMap.{insert_entry}
 use Rattle.std.specs.Cmp.Lexicographic.{slice_cmp}
-use Rattle.std.specs.List.{AllByRecursion, insert, slice_get}
+use Rattle.std.specs.List.{AllByRecursion, slice_get}
 use Rattle.std.specs.List.Sorted.{IsStrictlySortedBy}
-use Rattle.std.specs.Map.{values_of}
 use Rattle.std.specs.Ordering.{match_ordering, ordering_reverse}
 use Rattle.json.specs.Json as json
 use Rattle.json.specs.Json.{Json}
@@ -21,8 +19,8 @@ use Rattle.jsonpath_nodes.specs.place.Location.{name, names, step_cmp}
 use Rattle.jsonpath_nodes.specs.place.Order.{NamesAscend}
 use Rattle.json_trees.specs.ExactDocument.{exact_document}
 use Rattle.json_trees.specs.OrderedTree.{is_before, is_ordered, are_members_ordered, members_of_tree, put_in_order, in_order, members_in_order, places_from, places, member_at, taken, members_from}
-use Rattle.json_trees.specs.TreeOrder.{by_names}
-use Rattle.json_trees.proofs.OrderedTreeLemmas.{Entry, by_text, and_left, less, rest_ordered}
+use Rattle.json_trees.specs.TreeOrder.{by_names, put_each}
+use Rattle.json_trees.proofs.OrderedTreeLemmas.{Entry, and_left, less, rest_ordered}
 
 abbrev pub Places : Type 0
 Places = List (List ℕ × ℕ)
@@ -30,8 +28,8 @@ Places = List (List ℕ × ℕ)
 abbrev pub compare : List ℕ → List ℕ → Ordering
 compare = slice_cmp nat_cmp
 
-abbrev pub put : Places → List ℕ → ℕ → Places
-put es k n = insert_entry compare es k n
+abbrev pub put : {V : Type 0} → List (List ℕ × V) → List ℕ → V → List (List ℕ × V)
+put es k v = insert_entry compare es k v
 
 abbrev value_in : Option (List ℕ × Json) → Json
 value_in None = json.null
@@ -317,68 +315,17 @@ taken_by_places ms ps i same =
 
 -- ---- places that are put by name one after another
 
-abbrev pub Named : Type 0
-Named = Bor (List ℕ) × ℕ
-
-names_of_choice : (o : Ordering) (a b c : List Named) → by_names (match_ordering o a b c) ≡ match_ordering o (by_names a) (by_names b) (by_names c)
-names_of_choice Less a b c = refl
-names_of_choice Equal a b c = refl
-names_of_choice Greater a b c = refl
-
-pub insert_names : (es : List Named) (k : Bor (List ℕ)) (n : ℕ) → by_names (insert_entry by_text es k n) ≡ put (by_names es) k.now n
-insert_names [] k n = refl
-insert_names (e ∷ es) k n = names_of_choice (by_text k e.0) _ _ _ ∙ rw (insert_names es k n)
-
-pub values_named : (es : List Named) → values_of es ≡ map (λ e. e.1) (by_names es)
-values_named [] = refl
-values_named (e ∷ es) = ap (λ ns. e.1 ∷ ns) (values_named es)
-
-pub places_named : (es : List Named) → map (λ e. e.1) es ≡ map (λ e. e.1) (by_names es)
+pub places_named : (es : List (Bor (List ℕ) × ℕ)) → map (λ e. e.1) es ≡ map (λ e. e.1) (by_names es)
 places_named [] = refl
 places_named (e ∷ es) = ap (λ ns. e.1 ∷ ns) (places_named es)
 
--- a place is put behind the first of these, whose names are all below its own
-abbrev pub Passed : List Named → ℕ → List ℕ → ℕ → Type 0
-Passed xs at k n = put (by_names xs) k n ≡ by_names (take at xs) ++ put (by_names (drop at xs)) k n
+all_places : (n : ℕ) (rest : json.Members) (es : Places) → put_each (enumerated n rest) es ≡ places_from n rest es
+all_places n json.no_members es = refl
+all_places n (json.member k j rest) es = all_places (suc n) rest (put es k n)
 
-from_one : (xs : List Named) (at : ℕ) (x : Named) → at < length xs → x ≡ get_or xs at x → drop at xs ≡ x ∷ drop (at + 1) xs
-from_one xs at x h is = drop_more xs at x h ∙ ap (λ y. y ∷ drop (at + 1) xs) (sym is)
-
-abbrev put_there : Ordering → Named → List Named → List ℕ → ℕ → Places
-put_there o x rest k n = match_ordering o ((k, n) ∷ (x.0.now, x.1) ∷ by_names rest) ((x.0.now, n) ∷ by_names rest) ((x.0.now, x.1) ∷ put (by_names rest) k n)
-
-put_at_one : (xs : List Named) (at : ℕ) (x : Named) (k : List ℕ) (n : ℕ) (o : Ordering) → at < length xs → x ≡ get_or xs at x → compare k x.0.now ≡ o → put (by_names (drop at xs)) k n ≡ put_there o x (drop (at + 1) xs) k n
-put_at_one xs at x k n o h is told = ap (λ ys. put (by_names ys) k n) (from_one xs at x h is) ∙ ap (λ p. put_there p x (drop (at + 1) xs) k n) told
-
-pub passed_more : (xs : List Named) (at : ℕ) (x : Named) (k : List ℕ) (n : ℕ) → at < length xs → x ≡ get_or xs at x → compare k x.0.now ≡ Greater → Passed xs at k n → Passed xs (at + 1) k n
-passed_more xs at x k n h is above p =
-    let rest = put (by_names (drop (at + 1) xs)) k n in
-    let more : take (at + 1) xs ≡ take at xs ++ x ∷ [] = take_more xs at x h ∙ ap (λ y. take at xs ++ y ∷ []) (sym is) in
-    p ∙ ap (λ es. by_names (take at xs) ++ es) (put_at_one xs at x k n Greater h is above)
-    ∙ sym (append_assoc (by_names (take at xs)) ((x.0.now, x.1) ∷ []) rest)
-    ∙ ap (λ es. es ++ rest) (sym (ap by_names more ∙ map-append (λ (e : Named). (e.0.now, e.1)) (take at xs) (x ∷ [])))
-
-put_in_front : (xs : List Named) (at : ℕ) (k : Bor (List ℕ)) (n : ℕ) → put (by_names (drop at xs)) k.now n ≡ (k.now, n) ∷ by_names (drop at xs) → Passed xs at k.now n → by_names (insert xs at (k, n)) ≡ put (by_names xs) k.now n
-put_in_front xs at k n first p = map-append (λ (e : Named). (e.0.now, e.1)) (take at xs) ((k, n) ∷ drop at xs) ∙ ap (λ es. by_names (take at xs) ++ es) (sym first) ∙ sym p
-
-pub put_before_one : (xs : List Named) (at : ℕ) (x : Named) (k : Bor (List ℕ)) (n : ℕ) → at < length xs → x ≡ get_or xs at x → compare k.now x.0.now ≡ Less → Passed xs at k.now n → by_names (insert xs at (k, n)) ≡ put (by_names xs) k.now n
-put_before_one xs at x k n h is below =
-    put_in_front xs at k n (put_at_one xs at x k.now n Less h is below ∙ ap (λ ys. (k.now, n) ∷ by_names ys) (sym (from_one xs at x h is)))
-
-pub put_at_end : (xs : List Named) (at : ℕ) (k : Bor (List ℕ)) (n : ℕ) → length xs ≤ at → Passed xs at k.now n → by_names (insert xs at (k, n)) ≡ put (by_names xs) k.now n
-put_at_end xs at k n past =
-    put_in_front xs at k n (ap (λ ys. put (by_names ys) k.now n) (drop_all at xs past) ∙ ap (λ ys. (k.now, n) ∷ by_names ys) (sym (drop_all at xs past)))
-
-pub same_there : (xs : List Named) (at : ℕ) (x y : Named) → at < length xs → x ≡ get_or xs at x → y ≡ get_or xs at y → x ≡ y
-same_there [] at x y h is same = absurd (omega arith)
-same_there (z ∷ zs) zero x y h is same = is ∙ sym same
-same_there (z ∷ zs) (suc at) x y h is same = same_there zs at x y (omega arith) is same
-
-pub put_in_place : (xs : List Named) (at : ℕ) (x : Named) (k : List ℕ) (n : ℕ) → at < length xs → x ≡ get_or xs at x → compare k x.0.now ≡ Equal → Passed xs at k n → by_names (set xs at (x.0, n)) ≡ put (by_names xs) k n
-put_in_place xs at x k n h is same p =
-    ap by_names (sym (take-append-drop at (set xs at (x.0, n))) ∙ ap (λ ys. ys ++ drop at (set xs at (x.0, n))) (take-set xs at (x.0, n)) ∙ ap (λ ys. take at xs ++ ys) (drop-set xs at (x.0, n) h))
-    ∙ map-append (λ (e : Named). (e.0.now, e.1)) (take at xs) ((x.0, n) ∷ drop (at + 1) xs)
-    ∙ ap (λ es. by_names (take at xs) ++ es) (sym (put_at_one xs at x k n Equal h is same)) ∙ sym p
+pub listed_places : {A : Type 0} (n : ℕ) (xs rest : List (Entry A)) (found : List (Bor (List ℕ) × ℕ)) → rest ≡ [] → by_names found ++ enumerated n (members_view rest) ≡ enumerated 0 (members_view xs) → put_each (by_names found) [] ≡ places (members_view xs)
+listed_places n xs rest found none so =
+    ap (λ es. put_each es []) (none_behind (by_names found) ∙ ap (λ zs. by_names found ++ enumerated n (members_view zs)) (sym none) ∙ so) ∙ all_places 0 (members_view xs) []
 
 -- ---- one member after another
 

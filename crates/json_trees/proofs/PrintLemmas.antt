@@ -5,6 +5,7 @@ use Rattle.std.proofs.lemmas.Cmp.{nat_list_cmp_total}
 use Rattle.std.specs.Cmp.{nat_cmp_is}
 use Rattle.std.specs.List.{AllByRecursion, join_with_byte, list_any}
 use Rattle.std.specs.List.Sorted.{IsStrictlySortedBy}
+use Rattle.json.specs.Json.{Json}
 use Rattle.json.specs.Print.{print}
 use Rattle.json.specs.Token.{Token}
 use Rattle.serde_json.proofs.Texts.{print-outline}
@@ -16,8 +17,11 @@ use Rattle.jsonpath_nodes.specs.place.Location.{Step, name, index, Location, nam
 use Rattle.jsonpath_nodes.specs.place.Order.{NamesAscend, step_total}
 use Rattle.jsonpath_nodes.specs.update.Topmost.{same_step, under, elsewhere, with_answer_at_topmost, items_with_answer, members_with_answer}
 use Rattle.jsonpath_nodes.specs.update.Update.{item_if, member_if}
+use Rattle.json_trees.specs.AsRead.{tree_as_read, document_as_read}
 use Rattle.json_trees.specs.Changed.{changed_child}
 use Rattle.json_trees.specs.Prints.{data_of, items_data, members_data, is_unread, are_items_unread, are_members_unread, printed, printed_member, printed_items, printed_members, Adds, Prints, PrintsItem, PrintsMember, IsUnread, IsCompactText, IsUnreadList, IsCompactListText}
+use Rattle.json_trees.specs.OrderedTree.{is_ordered}
+use Rattle.json_trees.proofs.OrderedTreeLemmas.{ordered_stands}
 
 -- ---- what is left to add
 
@@ -148,6 +152,10 @@ mutual
   members_none : (a : Option Document) (ms : Members) → members_with_answer a [] ms ≡ ms
   members_none a no_members = refl
   members_none a (member k d ms) = ap₂ (member k) (topmost_none a d) (members_none a ms)
+
+-- a tree in order, in which there are no targets, is printed as it stands
+pub tree_stands : (a : Option Document) (ls : List Location) (j : Json) → ls ≡ [] → is_ordered j ≡ true → tree_as_read j ≡ with_answer_at_topmost a ls (document_as_read j)
+tree_stands a ls j none ordered = ap tree_as_read (ordered_stands j ordered) ∙ sym (ap (λ (ms : List Location). with_answer_at_topmost a ms (document_as_read j)) none ∙ topmost_none a (document_as_read j))
 
 -- the rest is left once a value is printed that has no targets
 pub list_next : (a : Option Document) (ls : List Location) (d : Document) (left rest all : Items) (before now then : List Token) → left ≡ item d rest → ls ≡ [] → ItemsLeft before now left all → Prints (with_answer_at_topmost a ls d) now then

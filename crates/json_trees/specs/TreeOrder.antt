@@ -1,15 +1,27 @@
 -- When an order takes the members of each object in a tree by their names, of a name that comes again the last one.
-use Rattle.std.specs.Prelude.{ℕ, List, [], ◌∷◌, map, Bool, true, false, ◌&&◌, box_value}
+use Rattle.std.specs.Prelude.{ℕ, List, [], ◌∷◌, drop, map, take, Bool, true, false, ◌&&◌, box_value}
 use Rattle.std.specs.Borrow.{Bor}
+use Rattle.std.specs.BTreeMap.{insert_entry}
+use Rattle.std.specs.Cmp.Lexicographic.{slice_cmp}
+use Rattle.std.specs.Ordering.{nat_cmp}
 use Rattle.std.specs.Str.{bytes_eq}
 use Rattle.json.specs.Json.{Json, null, boolean, number, string, array, object, Items, no_items, item, Members, no_members, member}
 use Rattle.json_trees.specs.OrderedTree.{is_ordered, places}
 use Rattle.json_trees.specs.declared.ordered_tree.order.Order.{Order, fold-Order}
 use Rattle.json_trees.specs.declared.ordered_tree.order.Order.TheOpen.{Order-F}
 
--- the names with their places
-abbrev pub by_names : List (Bor (List ℕ) × ℕ) → List (List ℕ × ℕ)
+-- names as bytes, each with what it names
+abbrev pub by_names : {V : Type 0} → List (Bor (List ℕ) × V) → List (List ℕ × V)
 by_names es = map (λ e. (e.0.now, e.1)) es
+
+-- these values put by their names, one after another, among those found already; of a name that comes again the last value stays
+abbrev pub put_each : {V : Type 0} → List (List ℕ × V) → List (List ℕ × V) → List (List ℕ × V)
+put_each [] found = found
+put_each (e ∷ es) found = put_each es (insert_entry (slice_cmp nat_cmp) found e.0 e.1)
+
+-- those from a place on put by their names among the ones before it
+abbrev pub put_from : {V : Type 0} → ℕ → List (Bor (List ℕ) × V) → List (List ℕ × V)
+put_from n es = put_each (by_names (drop n es)) (by_names (take n es))
 
 -- each item meets its test, and there is one for each
 abbrev pub each_meets : List (Json → Bool) → Items → Bool

@@ -1,14 +1,16 @@
 //! A document: its exact tree, as its text has it, and the order in which paths go through it.
 
-ghost use Rattle.std.specs.Prelude.{◌≡◌, true, Some, IfOk, IfErr};
+ghost use Rattle.std.specs.Prelude.{◌≡◌, true, Some, IfOk, IfErr, IfSome};
 ghost use Rattle.json.specs.Tree.{HasNumbers};
 ghost use Rattle.json.specs.Value.{value_view};
+ghost use Rattle.json_trees.specs.AsRead.{IsReadAs};
 ghost use Rattle.json_trees.specs.Exact.{exact_of, IsWhyRefused};
 ghost use Rattle.json_trees.specs.TreeOrder.{is_order};
 
 use crate::exact_tree::read_exact_tree;
 use crate::ordered_tree::handle::OrderedValue;
 use crate::ordered_tree::order::{Order, order_of};
+use crate::ordered_tree::put_in_order::put_in_order;
 use crate::refusal::DocumentRefusal;
 use crate::text_value::TextValue;
 use json::{Scratch, Value as Exact};
@@ -38,6 +40,27 @@ impl<'a> Document<'a> {
     {
         let exact = read_exact_tree(alloc, text, scratch)?;
         Ok(Document::of_exact_tree(alloc, exact)?)
+    }
+
+    /// Reads a JSON text that `serde_json` reads, and puts the members of each object in the order of their names' bytes,
+    /// each name once, with its last value; numbers stay as they are written. It borrows the text and `scratch`, which
+    /// stores unescaped copies of texts with escapes. Returns `None` if `serde_json` rejects the text, as it does a number
+    /// too large for a float, or if memory ran out.
+    pub fn read_in_order(
+        alloc: Global,
+        text: &'a str,
+        scratch: &'a mut Scratch,
+    ) -> Option<Document<'a>>
+        ensures { IfSome result (λ document. IsReadAs text.now (value_view document.exact)) }
+    {
+        let mut exact = read_exact_tree(alloc, text, scratch).ok()?;
+        match put_in_order(alloc, &mut exact) {
+            Ok(true) => {
+                let order = Order::AsItStands;
+                Some(Document { exact, order })
+            }
+            _ => None,
+        }
     }
 
     /// Makes a document from `exact`, its tree with each number as it is written. The only error is out of memory.

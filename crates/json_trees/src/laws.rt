@@ -4,7 +4,6 @@ ghost use Rattle.std.specs.Prelude.{◌≡◌, true};
 ghost use Rattle.json.specs.Json.{Json};
 ghost use Rattle.json.specs.Tree.{HasNumbers};
 ghost use Rattle.jsonpath_nodes.specs.place.Location.{Location};
-ghost use Rattle.json_trees.specs.AsRead.{TreesStandForData};
 ghost use Rattle.json_trees.specs.DocumentPlaces.{DocumentStandsAt};
 ghost use Rattle.json_trees.specs.NumberKey.{OneKey};
 ghost use Rattle.json_trees.specs.OrderedTree.{is_ordered, in_order};
@@ -20,12 +19,6 @@ pub fn document_has_same_locations()
 /// keys.
 pub fn one_number_one_key()
     ensures { OneKey }
-{}
-
-/// Lemma: if `serde_json` makes data of a text's tree, the document that paths see in the tree, its numbers as
-/// `serde_json` reads them, is the data's document.
-pub fn trees_stand_for_data()
-    ensures { TreesStandForData }
 {}
 
 /// Lemma: a tree in which each object's names ascend, each name once, is the tree put in the order of its names; and if

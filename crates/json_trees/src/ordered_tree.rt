@@ -4,5 +4,7 @@ pub(crate) mod handle;
 pub(crate) mod in_order;
 pub(crate) mod order;
 mod places;
+pub(crate) mod put_in_order;
+mod sort_by_name;
 pub(crate) mod tree;
 pub(crate) mod way;

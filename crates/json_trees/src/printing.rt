@@ -3,12 +3,12 @@
 ghost use Rattle.std.specs.Prelude.{◌≡◌, [], true, None, Err, IfOk, OnOk, map, string_bytes};
 ghost use Rattle.std.specs.List.Sorted.{IsStrictlySortedBy};
 ghost use Rattle.json.specs.Print.{print};
+ghost use Rattle.json.specs.Value.{value_view, items_view, members_view};
 ghost use Rattle.jsonpath_nodes.specs.document.Document.{number, written};
-ghost use Rattle.jsonpath_nodes.specs.document.Find.{as_array, as_object};
 ghost use Rattle.jsonpath_nodes.specs.place.Location.{location_cmp};
 ghost use Rattle.jsonpath_nodes.specs.place.SpotPlace.{step_of};
 ghost use Rattle.jsonpath_nodes.specs.update.Topmost.{with_answer_at_topmost, items_with_answer, members_with_answer};
-ghost use Rattle.json_trees.specs.AsRead.{as_read, text_document};
+ghost use Rattle.json_trees.specs.AsRead.{as_read, tree_as_read, tree_items_as_read, tree_members_as_read, text_document};
 ghost use Rattle.json_trees.specs.Changed.{answer_of, changed_child};
 ghost use Rattle.json_trees.specs.Prints.{is_unread, holds_unread, are_items_unread, are_members_unread, Prints, PrintsItem, PrintsMember, PrintsItems, PrintsMembers, IsUnread, IsCompactText, IsUnreadList, IsCompactListText};
 ghost use Rattle.json_trees.specs.Targets.{targets_view};
@@ -16,7 +16,7 @@ ghost use Rattle.json_trees.specs.TextHandles.{text_items, text_members};
 
 use crate::numbers::whole_number::{WholeNumber, is_short_whole, whole_number};
 use crate::ordered_tree::handle::{OrderedItems, OrderedMembers};
-use crate::targets::Targets;
+use crate::targets::{StepList, Targets};
 use crate::text_value::TextValue;
 use json::{Value as Exact, Writer};
 use jsonpath_nodes::{PathStep, Tree};
@@ -81,15 +81,15 @@ pub fn compact_text(alloc: Global, value: TextValue<'_, '_>) -> Result<String, U
 pub fn changed_text(
     alloc: Global,
     root: TextValue<'_, '_>,
-    targets: &[Vec<PathStep<'_>>],
+    targets: &[StepList<'_, '_>],
     replacement: Replacement,
 ) -> Result<String, Unprinted>
-    requires { IsStrictlySortedBy location_cmp (map (λ p. map step_of p.items) targets.now) }
+    requires { IsStrictlySortedBy location_cmp (map (λ p. map step_of p.steps.now) targets.now) }
     ensures ok { IfOk result (λ text.
-        let locations = map (λ p. map step_of p.items) targets.now in
+        let locations = map (λ p. map step_of p.steps.now) targets.now in
         IsCompactText (with_answer_at_topmost (answer_of replacement) locations (text_document root.entry)) (string_bytes text)) }
     ensures unread { result ≡ Err Unprinted.UnreadNumber →
-        let locations = map (λ p. map step_of p.items) targets.now in
+        let locations = map (λ p. map step_of p.steps.now) targets.now in
         IsUnread (with_answer_at_topmost (answer_of replacement) locations (text_document root.entry)) }
 {
     let mut writer = Writer::new(Vec::with_capacity(alloc, 128)?);
@@ -113,13 +113,16 @@ fn text_of_writer(writer: Writer) -> String
 fn add_value(
     writer: &mut Writer,
     value: TextValue<'_, '_>,
-    targets: Targets<'_, '_>,
+    targets: Targets<'_, '_, '_>,
     replacement: Replacement,
 ) -> Result<(), Unprinted>
     ensures ok { OnOk result (Prints (with_answer_at_topmost (answer_of replacement) (targets_view targets.entry) (text_document value.entry)) writer.old.tokens writer.new.tokens) }
     ensures before { writer.new.before ≡ writer.old.before }
     ensures unread { result ≡ Err Unprinted.UnreadNumber → is_unread (with_answer_at_topmost (answer_of replacement) (targets_view targets.entry) (text_document value.entry)) ≡ true }
 {
+    if targets.is_empty() && value.is_in_order() {
+        return add_tree(writer, value.value());
+    }
     if let Some(array) = value.as_array() {
         writer.begin_array()?;
         add_items(writer, array, targets, replacement)
@@ -127,7 +130,7 @@ fn add_value(
         writer.begin_object()?;
         add_members(writer, object, targets, replacement)
     } else {
-        add_scalar(writer, value)
+        add_tree(writer, value.value())
     }
 }
 
@@ -136,7 +139,7 @@ fn add_value(
 fn add_item(
     writer: &mut Writer,
     value: TextValue<'_, '_>,
-    targets: Targets<'_, '_>,
+    targets: Targets<'_, '_, '_>,
     replacement: Replacement,
 ) -> Result<(), Unprinted>
     ensures ok { OnOk result (PrintsItem (changed_child (answer_of replacement) (targets_view targets.entry) (text_document value.entry)) writer.old.tokens writer.new.tokens) }
@@ -159,7 +162,7 @@ fn add_member(
     writer: &mut Writer,
     name: &str,
     value: TextValue<'_, '_>,
-    targets: Targets<'_, '_>,
+    targets: Targets<'_, '_, '_>,
     replacement: Replacement,
 ) -> Result<(), Unprinted>
     ensures ok { OnOk result (PrintsMember name.now (changed_child (answer_of replacement) (targets_view targets.entry) (text_document value.entry)) writer.old.tokens writer.new.tokens) }
@@ -185,7 +188,7 @@ fn add_member(
 fn add_items(
     writer: &mut Writer,
     items: OrderedItems<'_, '_>,
-    mut targets: Targets<'_, '_>,
+    mut targets: Targets<'_, '_, '_>,
     replacement: Replacement,
 ) -> Result<(), Unprinted>
     ensures ok { OnOk result (PrintsItems (items_with_answer (answer_of replacement) (targets_view targets.entry) 0 (text_items items.entry)) writer.old.tokens writer.new.tokens) }
@@ -210,7 +213,7 @@ fn add_items(
 fn add_members(
     writer: &mut Writer,
     members: OrderedMembers<'_, '_>,
-    mut targets: Targets<'_, '_>,
+    mut targets: Targets<'_, '_, '_>,
     replacement: Replacement,
 ) -> Result<(), Unprinted>
     ensures ok { OnOk result (PrintsMembers (members_with_answer (answer_of replacement) (targets_view targets.entry) (text_members members.entry)) writer.old.tokens writer.new.tokens) }
@@ -226,21 +229,56 @@ fn add_members(
     Ok(())
 }
 
-// Writes a value that is no array and no object.
-fn add_scalar(writer: &mut Writer, value: TextValue<'_, '_>) -> Result<(), Unprinted>
-    requires no_array { as_array (text_document value) ≡ None }
-    requires no_object { as_object (text_document value) ≡ None }
-    ensures ok { OnOk result (Prints (text_document value.entry) writer.old.tokens writer.new.tokens) }
+// Writes a tree as it stands.
+#[cycle(tree)]
+fn add_tree(writer: &mut Writer, tree: &Exact<'_>) -> Result<(), Unprinted>
+    ensures ok { OnOk result (Prints (tree_as_read (value_view tree.now)) writer.old.tokens writer.new.tokens) }
     ensures before { writer.new.before ≡ writer.old.before }
-    ensures unread { result ≡ Err Unprinted.UnreadNumber → is_unread (text_document value.entry) ≡ true }
+    ensures unread { result ≡ Err Unprinted.UnreadNumber → is_unread (tree_as_read (value_view tree.now)) ≡ true }
 {
-    match value.ordered.value {
+    match tree {
         Exact::Null => writer.null()?,
         Exact::Bool(truth) => writer.boolean(*truth)?,
         Exact::Number(text) => add_number(writer, text)?,
         Exact::String(text) => writer.string(text)?,
-        Exact::Array(_) | Exact::Object(_) => unreachable!(),
+        Exact::Array(items) => {
+            writer.begin_array()?;
+            add_trees(writer, items)?;
+        }
+        Exact::Object(members) => {
+            writer.begin_object()?;
+            add_named_trees(writer, members)?;
+        }
     }
+    Ok(())
+}
+
+// Writes the trees of an array's items and the bracket that closes.
+#[cycle(tree)]
+fn add_trees(writer: &mut Writer, items: &Vec<Exact<'_>>) -> Result<(), Unprinted>
+    ensures ok { OnOk result (PrintsItems (tree_items_as_read (items_view items.now.items)) writer.old.tokens writer.new.tokens) }
+    ensures before { writer.new.before ≡ writer.old.before }
+    ensures unread { result ≡ Err Unprinted.UnreadNumber → are_items_unread (tree_items_as_read (items_view items.now.items)) ≡ true }
+{
+    for item in items {
+        add_tree(writer, item)?;
+    }
+    writer.end_array()?;
+    Ok(())
+}
+
+// Writes the trees of an object's members and the brace that closes.
+#[cycle(tree)]
+fn add_named_trees(writer: &mut Writer, members: &Vec<(&str, Exact<'_>)>) -> Result<(), Unprinted>
+    ensures ok { OnOk result (PrintsMembers (tree_members_as_read (members_view members.now.items)) writer.old.tokens writer.new.tokens) }
+    ensures before { writer.new.before ≡ writer.old.before }
+    ensures unread { result ≡ Err Unprinted.UnreadNumber → are_members_unread (tree_members_as_read (members_view members.now.items)) ≡ true }
+{
+    for member in members {
+        writer.key(member.0)?;
+        add_tree(writer, &member.1)?;
+    }
+    writer.end_object()?;
     Ok(())
 }
 

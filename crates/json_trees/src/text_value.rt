@@ -1,10 +1,12 @@
 //! The tree on which paths are run as on what `serde_json` reads: a number is read as it reads it.
 
-ghost use Rattle.std.specs.Prelude.{◌≡◌};
+ghost use Rattle.std.specs.Prelude.{◌≡◌, true, IsTrue};
+ghost use Rattle.json.specs.Value.{value_view};
 ghost use Rattle.jsonpath_nodes.specs.compare.Atoms.{seen_by};
 ghost use Rattle.jsonpath_nodes.specs.compare.Comparisons.{seen};
 ghost use Rattle.jsonpath_nodes.specs.document.Document.{number, written};
 ghost use Rattle.json_trees.specs.AsRead.{text_document, number_as_read};
+ghost use Rattle.json_trees.specs.OrderedTree.{is_ordered};
 ghost use Rattle.json_trees.specs.TextHandles.{text_items, text_members, text_items_left, text_members_left};
 
 use crate::numbers::whole_number::{WholeNumber, whole_number};
@@ -24,12 +26,20 @@ pub struct TextValue<'t, 'a> {
 }
 
 impl<'t, 'a> TextValue<'t, 'a> {
-    /// The value as its text writes it: a number with all its digits, and an object's members in the order of the text,
-    /// those of a name that comes again too.
+    /// The value: a number as its text writes it, with all its digits, and an object's members as its document has them.
+    /// A `Document` that was read by `read_in_order` has them in the order of their names' bytes, each name once.
     pub fn value(&self) -> &'t Exact<'a>
         ensures { result.now ≡ self.now.ordered.value.now }
     {
         self.ordered.value()
+    }
+
+    // Whether the names of each object in the value are in the order of their bytes, each once.
+    #[inline(always)]
+    pub(crate) fn is_in_order(&self) -> bool
+        ensures { IsTrue result → is_ordered (value_view self.now.ordered.value.now) ≡ true }
+    {
+        self.ordered.order.stands()
     }
 }
 

@@ -34,8 +34,7 @@ fn main(rt: HostRuntime) -> Result<ExitCode> {
     }
 }
 
-// Measures an action on a file's document and prints what it took. Answers false, and prints
-// nothing, where the count or the action is no such word.
+// Measures an action on a file's document and prints what it took. False, with nothing printed, if a word is wrong.
 fn bench(rt: &HostRuntime, path: &str, file: &str, count: &str, action: &str) -> Result<bool> {
     let alloc = rt.alloc();
     let (Ok(count), Some(action)) = (count.parse::<u64>(), Action::of(action)) else {

@@ -23,18 +23,6 @@ Completes bytes content paths i doc nodes =
 abbrev Sight : Type 0
 Sight = Location × Option Document
 
--- the nodes show where they stand
-pub locations_shown : {T N : Type 0} (bytes : N → List ℕ) (content : T → Document) (doc : Document) (ls : List Location) (nodes : List (TreeNode T N)) → Stand bytes content doc ls nodes → map (place_location bytes) nodes ≡ ls
-locations_shown {T} {N} bytes content doc ls nodes h = firsts nodes ∙ ap (λ (xs : List Sight). map (λ x. x.0) xs) h ∙ looks ls
-  where
-    firsts : (ns : List (TreeNode T N)) → map (place_location bytes) ns ≡ map (λ (x : Sight). x.0) (map (shown (place_location bytes) (place_value content)) ns)
-    firsts [] = refl
-    firsts (n ∷ ns) = ap (λ (ms : List Location). place_location bytes n ∷ ms) (firsts ns)
-
-    looks : (ms : List Location) → map (λ (x : Sight). x.0) (map (look_kept true doc) ms) ≡ ms
-    looks [] = refl
-    looks (m ∷ ms) = ap (λ (ns : List Location). m ∷ ns) (looks ms)
-
 pub same-itself : (ls : List Location) → SameMembers ls ls
 same-itself ls l = (λ h. h, λ h. h)
 

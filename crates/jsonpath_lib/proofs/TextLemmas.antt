@@ -1,7 +1,8 @@
 -- What paths select in the document of data are documents of data; their text.
-use Rattle.std.proofs.Common.{◌≡◌, ℕ, zero, suc, ◌+◌, ◌<◌, List, [], ◌∷◌, ◌++◌, map, length, take, get_or, Bool, false, true, Option, Some, None, option_and_then, filter_map, if◌then◌else◌, ◌||◌, Ordering, Less, Equal, Greater, nat_cmp, refl, sym, ap, ap₂, ◌∙◌, subst, arith}
+use Rattle.std.proofs.Common.{◌≡◌, ℕ, zero, suc, ◌+◌, ◌<◌, List, [], ◌∷◌, ◌++◌, map, length, take, get_or, Bool, false, true, Option, Some, None, option_and_then, filter_map, String, string_bytes, Global, Result, IfOk, IfErr, if◌then◌else◌, ◌||◌, Ordering, Less, Equal, Greater, nat_cmp, refl, sym, ap, ap₂, ◌∙◌, subst, arith}
 use Rattle.std.proofs.lemmas.List.{take_more, map-append, length-map}
 use Rattle.std.proofs.lemmas.List.Folds.{list_any-append}
+use Rattle.std.proofs.lemmas.Result.{IfErr-weaker, IfOk-weaker}
 use Rattle.std.specs.Cmp.Lexicographic.{slice_cmp}
 use Rattle.std.specs.List.{list_any}
 use Rattle.std.specs.Ordering.{match_ordering}
@@ -283,10 +284,17 @@ module _ (r : Replacement) (paths : List (List ℕ)) (doc : Document) (d : kept.
       let unwritten : document_text after.0 ≡ None = rw known refl in refused_change (Replaces r paths (document_of d)) error after.0 after.2 unwritten why
   no_text_of_changed OutOfMemory error why unread = subst (IsChangedTextRefused (Replaces r paths (document_of d))) (sym why) tt
 
--- ---- one list more for each node
+-- ---- what is told of the targets of any paths holds for these paths
 
-pub one_more : {A B : Type 0} (f : A → Location) (g : B → Location) (before after : List A) (nodes : List B) (i : ℕ) (x : A) (d : B) → i < length nodes → d ≡ get_or nodes i d → f x ≡ g d → after ≡ before ++ x ∷ []
-    → map f before ≡ map g (take i nodes) → map f after ≡ map g (take (i + 1) nodes)
-one_more f g before after nodes i x d within is shows more held =
-    let taken : take (i + 1) nodes ≡ take i nodes ++ d ∷ [] = take_more nodes i d within ∙ ap (λ y. take i nodes ++ y ∷ []) (sym is) in
-    ap (map f) more ∙ map-append f before (x ∷ []) ∙ ap₂ (λ (ls : List Location) (l : Location). ls ++ l ∷ []) held shows ∙ sym (ap (map g) taken ∙ map-append g (take i nodes) (d ∷ []))
+module _ (IsTree : kept.Data → Type 0) (r : Replacement) (paths : List (List ℕ)) (doc : Document) (ls : List Location) (read : (d : kept.Data) → IsTree d → doc ≡ document_of d) (targets : AreTargetsOfAll paths doc ls) (result : Result (String Global) JsonPathError) where
+  pub text_for_paths : IfOk result (λ text. (d : kept.Data) (all : List (List ℕ)) → doc ≡ document_of d → AreTargetsOfAll all doc ls → IsTextOfChanged (Replaces r all (document_of d)) (string_bytes text))
+      → IfOk result (λ text. (d : kept.Data) → IsTree d → IsTextOfChanged (Replaces r paths (document_of d)) (string_bytes text))
+  text_for_paths =
+      IfOk-weaker result (λ text. (d : kept.Data) (all : List (List ℕ)) → doc ≡ document_of d → AreTargetsOfAll all doc ls → IsTextOfChanged (Replaces r all (document_of d)) (string_bytes text))
+      (λ text. (d : kept.Data) → IsTree d → IsTextOfChanged (Replaces r paths (document_of d)) (string_bytes text)) (λ text told d tree. told d paths (read d tree) targets)
+
+  pub refusal_for_paths : IfErr result (λ e. (d : kept.Data) (all : List (List ℕ)) → doc ≡ document_of d → AreTargetsOfAll all doc ls → IsChangedTextRefused (Replaces r all (document_of d)) e)
+      → IfErr result (λ e. (d : kept.Data) → IsTree d → IsChangedTextRefused (Replaces r paths (document_of d)) e)
+  refusal_for_paths =
+      IfErr-weaker result (λ e. (d : kept.Data) (all : List (List ℕ)) → doc ≡ document_of d → AreTargetsOfAll all doc ls → IsChangedTextRefused (Replaces r all (document_of d)) e)
+      (λ e. (d : kept.Data) → IsTree d → IsChangedTextRefused (Replaces r paths (document_of d)) e) (λ e told d tree. told d paths (read d tree) targets)

@@ -3,3 +3,4 @@ pub mod compiled
 pub mod stream
 pub mod functions
 pub mod Text
+pub mod StepLists

@@ -1,12 +1,12 @@
 -- The document of which a text's tree was read, and the text of what changes make of it.
 use Rattle.std.specs.Prelude.{◌≡◌, ℕ, List, length, map, Some, None, true, false}
 use Rattle.json.specs.Value.{value_view}
+use Rattle.json_trees.specs.AsRead.{document_as_read}
 use Rattle.json_trees.specs.declared.printing.Replacement.{Replacement}
 use Rattle.json_trees.specs.declared.printing.Replacement.TheVariants.{Null, Nothing}
 use Rattle.json_trees.specs.declared.printing.Unprinted.{Unprinted}
 use Rattle.json_trees.specs.declared.printing.Unprinted.TheVariants as unprinted
 use Rattle.serde_json.specs.Data.{Data}
-use Rattle.serde_json.specs.Read.{of_json}
 use Rattle.serde_json.specs.Written.{compact_text}
 use Rattle.jsonpath_nodes.specs.document.Document.{Document}
 use Rattle.jsonpath_nodes.specs.document.OfData.{document_of}
@@ -19,7 +19,7 @@ use Rattle.jsonpath_lib.specs.update.Masked.{IsMasked, AreRemoved}
 
 -- the text stands for this document of `serde_json`'s
 abbrev pub IsTreeOf : Text → Data → Type 0
-IsTreeOf text document = of_json (value_view text.tree.exact) ≡ Some document
+IsTreeOf text document = document_as_read (value_view text.tree.exact) ≡ document_of document
 
 -- where the documents are those of data, these are the data's compact texts, and no number in them is unread
 abbrev pub AreTextsOf : List Document → List (List ℕ) → Type 0

@@ -1,5 +1,4 @@
-//! The short functions: from a path text to an answer, or to a changed document, in one call. Those for several path
-//! texts, `mask` and `remove_by_path_texts`, are in `update`.
+//! Functions from a path text to an answer or a changed document, in one call; those for several texts are in `update`.
 
 pub(crate) mod selecting;
 pub(crate) mod updates;

@@ -1,6 +1,5 @@
-//! Lemmas for callers' proofs. Each is the contract of a function that does nothing: if a caller's body has the call
-//! `laws::one_selection_per_text();`, its proof can use that lemma. The crates `jsonpath_paths`, `jsonpath_nodes` and
-//! `jsonpath_select` have more, in their modules `laws`.
+//! Lemmas for callers' proofs. Each is the contract of a function that does nothing: if a body calls
+//! `laws::one_selection_per_text();`, its proof can use it. The crates below have more lemmas, in their modules `laws`.
 
 ghost use Rattle.std.specs.Prelude.{◌≡◌, ℕ, List, Option, option_map};
 ghost use Rattle.std.specs.Fn.{Called};
@@ -70,8 +69,7 @@ pub fn replaces_selected_location<F: FnMut(Value) -> Option<Value>>(closure: &F)
     updates_put_one_answer_in_turn(closure);
 }
 
-/// Lemma: the result of masking by several paths, which puts null at all values that they select, depends only on the
-/// set of paths, not on their order or on repeats.
+/// Lemma: the result of masking (null at all values that several paths select) depends only on the set of paths.
 ///
 /// ```text
 /// laws::masks_in_any_order();

@@ -1,26 +1,28 @@
-//! A document read once from its text, for many paths: what they select, and the changed document, come as text from the
-//! text's own tree.
-ghost use Rattle.std.specs.Prelude.{◌≡◌, map, option_map, string_bytes, vec_len, IfOk, IfErr};
+//! A document read once from its text, for many paths: results and changed documents come from the text's own tree.
+ghost use Rattle.std.specs.Prelude.{◌≡◌, ℕ, List, map, option_map, string_bytes, vec_len, IfOk, IfErr};
+ghost use Rattle.std.specs.List.Sorted.{IsStrictlySortedBy};
 ghost use Rattle.serde_json.specs.Data.{Data};
 ghost use Rattle.json_trees.specs.AsRead.{text_document};
 ghost use Rattle.json_trees.specs.ExactDocument.{name_bytes};
 ghost use Rattle.jsonpath_nodes.specs.document.OfData.{document_of};
-ghost use Rattle.jsonpath_nodes.specs.place.SpotPlace.{place_location, step_of};
+ghost use Rattle.jsonpath_nodes.specs.place.Location.{location_cmp};
+ghost use Rattle.jsonpath_nodes.specs.place.SpotPlace.{step_of};
 ghost use Rattle.jsonpath_select.specs.Meaning.{Selects, SelectsNodes};
 ghost use Rattle.jsonpath_select.specs.answer.AnswerText.{IsTextOf, IsDocumentRefused};
 ghost use Rattle.jsonpath_select.specs.answer.Counted.{IsCountOf, IsFirstOf, TellsIfAny};
 ghost use Rattle.jsonpath_select.specs.answer.Given.{IsTextOfAnswer, IsTypedCountOf, IsTextRefusedOf, IsTypedRefusedOf};
 ghost use Rattle.jsonpath_lib.specs.Text.{IsTreeOf, IsTextOfChanged, IsChangedTextRefused, Replaces, IsWhyUnprinted, AreTextsOf, AreTextsRefused, AreTyped, AreTypedRefused};
-ghost use Rattle.jsonpath_lib.specs.update.Masked.{IsMasked, AreRemoved};
+ghost use Rattle.jsonpath_lib.specs.update.Masked.{IsMasked, AreRemoved, AreTargetsOfAll};
 
-use crate::update::several_paths::targets_in_tree;
+use crate::step_lists::steps_to_each;
+use crate::update::several_paths::select_paths_in_any_order;
 use json::Scratch;
-use json_trees::laws::trees_stand_for_data;
 use json_trees::{
-    Document, Replacement, TextValue, Unprinted, changed_text, compact_list_text, compact_text,
-    read_tree,
+    Document, Replacement, StepList, TextValue, Unprinted, are_in_order, changed_text,
+    compact_list_text, compact_text,
 };
-use jsonpath_nodes::{NoMemory, PathStep, Tree, TreeNode};
+use jsonpath_nodes::laws::locations_once_in_order_ascend;
+use jsonpath_nodes::{TreeNode, in_document_order};
 use jsonpath_paths::PathParser;
 use jsonpath_select::{
     AnyPath, JsonPathError, exists_in_tree, first_in_tree, read_document, select_in_tree,
@@ -36,9 +38,8 @@ use std::alloc::Global;
 /// ```text
 /// let mut scratch = Scratch::new(alloc);
 /// let text = Text::read(alloc, b"{\"a\": [1, 2]}", &mut scratch)?;
-/// for (path, count) in [("$.a[*]", 2), ("$.b", 0)] {
-///     assert_eq!(rt; text.count(alloc, &compile_path(alloc, path)?)?, count);
-/// }
+/// assert_eq!(rt; text.count(alloc, &compile_path(alloc, "$.a[*]")?)?, 2);
+/// assert_eq!(rt; text.count(alloc, &compile_path(alloc, "$.b")?)?, 0);
 /// ```
 #[derive(Drop)]
 pub struct Text<'a> {
@@ -52,9 +53,7 @@ impl<'a> Text<'a> {
     ///
     /// ```text
     /// let mut scratch = Scratch::new(alloc);
-    /// let text = Text::read(alloc, b"{\"a\": [1, 2]}", &mut scratch)?;
-    /// let path = compile_path(alloc, "$.a[*]")?;
-    /// assert!(rt; text.select_as_str(alloc, &path)?.as_str() == "[1,2]");
+    /// assert!(rt; Text::read(alloc, b"{\"a\": [1, 2]}", &mut scratch).is_ok());
     /// ```
     pub fn read(
         alloc: Global,
@@ -67,21 +66,19 @@ impl<'a> Text<'a> {
         let Ok(text) = simdutf8::compat::from_utf8(bytes) else {
             return Err(why_refused(alloc, bytes));
         };
-        let Some(exact) = read_tree(alloc, text, scratch) else {
-            return Err(why_refused(alloc, bytes));
-        };
-        let tree = Document::of_exact_tree(alloc, exact)?;
-        Ok(Text { tree })
+        match Document::read_in_order(alloc, text, scratch) {
+            Some(tree) => Ok(Text { tree }),
+            None => Err(why_refused(alloc, bytes)),
+        }
     }
 
     /// The selected values, in the order in which the path's steps find them, with duplicates. They borrow from this
-    /// `Text`: `TextValue::value` returns each as its text writes it. The only error is `OutOfMemory`.
+    /// `Text`: `TextValue::value` returns each, a number as the text writes it. The only error is `OutOfMemory`.
     ///
     /// ```text
     /// let mut scratch = Scratch::new(alloc);
     /// let text = Text::read(alloc, b"[\"a\", 1.50]", &mut scratch)?;
-    /// let path = compile_path(alloc, "$[1]")?;
-    /// let found = text.select(alloc, &path)?;
+    /// let found = text.select(alloc, &compile_path(alloc, "$[1]")?)?;
     /// assert!(rt; matches!(found[0].value(), json::Value::Number("1.50")));
     /// ```
     pub fn select<P: AnyPath>(
@@ -101,8 +98,7 @@ impl<'a> Text<'a> {
     /// ```text
     /// let mut scratch = Scratch::new(alloc);
     /// let text = Text::read(alloc, b"[1, [2, 3]]", &mut scratch)?;
-    /// let path = compile_path(alloc, "$[1][1]")?;
-    /// let nodes = text.select_nodes(alloc, &path)?;
+    /// let nodes = text.select_nodes(alloc, &compile_path(alloc, "$[1][1]")?)?;
     /// assert!(rt; nodes[0].location(alloc)?.to_string(alloc)?.as_str() == "$[1][1]");
     /// ```
     pub fn select_nodes<P: AnyPath>(
@@ -123,8 +119,7 @@ impl<'a> Text<'a> {
     /// ```text
     /// let mut scratch = Scratch::new(alloc);
     /// let text = Text::read(alloc, b"[0.5, 2]", &mut scratch)?;
-    /// let path = compile_path(alloc, "$[1]")?;
-    /// assert!(rt; text.select_as_str(alloc, &path)?.as_str() == "[2]");
+    /// assert!(rt; text.select_as_str(alloc, &compile_path(alloc, "$[1]")?)?.as_str() == "[2]");
     /// ```
     pub fn select_as_str<P: AnyPath>(
         &self,
@@ -148,8 +143,7 @@ impl<'a> Text<'a> {
     /// ```text
     /// let mut scratch = Scratch::new(alloc);
     /// let text = Text::read(alloc, b"[1, 2, 3]", &mut scratch)?;
-    /// let path = compile_path(alloc, "$[1:]")?;
-    /// let numbers = text.select_as::<u8, _>(alloc, &path)?;
+    /// let numbers = text.select_as::<u8, _>(alloc, &compile_path(alloc, "$[1:]")?)?;
     /// assert!(rt; matches!(numbers.as_slice(), [2, 3]));
     /// ```
     pub fn select_as<T: DeserializeOwned, P: AnyPath>(
@@ -169,8 +163,7 @@ impl<'a> Text<'a> {
     /// ```text
     /// let mut scratch = Scratch::new(alloc);
     /// let text = Text::read(alloc, b"[1, 2, 3]", &mut scratch)?;
-    /// let path = compile_path(alloc, "$[0,0,1]")?;
-    /// assert_eq!(rt; text.count(alloc, &path)?, 3);
+    /// assert_eq!(rt; text.count(alloc, &compile_path(alloc, "$[0,0,1]")?)?, 3);
     /// ```
     pub fn count<P: AnyPath>(&self, alloc: Global, path: &P) -> Result<usize, JsonPathError>
         ensures ok { IfOk result (λ count. (document : Data) → IsTreeOf self.now document → IsCountOf (Selects (P.spelling path.now) (document_of document)) count) }
@@ -180,14 +173,12 @@ impl<'a> Text<'a> {
         Ok(found.len())
     }
 
-    /// The first of the values that the path selects, in the order in which the path's steps find them, or `None`. The
-    /// only error is `OutOfMemory`.
+    /// The value that the path's steps find first, or `None` if they find none. The only error is `OutOfMemory`.
     ///
     /// ```text
     /// let mut scratch = Scratch::new(alloc);
     /// let text = Text::read(alloc, b"[1, 2, 3]", &mut scratch)?;
-    /// let path = compile_path(alloc, "$[2,0]")?;
-    /// let first = text.first(alloc, &path)?;
+    /// let first = text.first(alloc, &compile_path(alloc, "$[2,0]")?)?;
     /// assert!(rt; matches!(first.map(|found| found.value()), Some(json::Value::Number("3"))));
     /// ```
     pub fn first<P: AnyPath>(
@@ -206,8 +197,7 @@ impl<'a> Text<'a> {
     /// ```text
     /// let mut scratch = Scratch::new(alloc);
     /// let text = Text::read(alloc, b"[1, 2, 3]", &mut scratch)?;
-    /// let path = compile_path(alloc, "$[*][?(@ > 2)]")?;
-    /// assert!(rt; text.exists(alloc, &path)?);
+    /// assert!(rt; text.exists(alloc, &compile_path(alloc, "$[*][?(@ > 2)]")?)?);
     /// ```
     pub fn exists<P: AnyPath>(&self, alloc: Global, path: &P) -> Result<bool, JsonPathError>
         ensures ok { IfOk result (λ any. (document : Data) → IsTreeOf self.now document → TellsIfAny (Selects (P.spelling path.now) (document_of document)) any) }
@@ -222,9 +212,8 @@ impl<'a> Text<'a> {
     ///
     /// ```text
     /// let mut scratch = Scratch::new(alloc);
-    /// let text = Text::read(alloc, b"[1, [2, 3]]", &mut scratch)?;
-    /// let paths = [compile_path(alloc, "$[1][0]")?];
-    /// assert!(rt; text.mask_as_str(alloc, &paths)?.as_str() == "[1,[null,3]]");
+    /// let text = Text::read(alloc, b"[1]", &mut scratch)?;
+    /// assert!(rt; text.mask_as_str(alloc, &[compile_path(alloc, "$[0]")?])?.as_str() == "[null]");
     /// ```
     pub fn mask_as_str(
         &self,
@@ -243,9 +232,8 @@ impl<'a> Text<'a> {
     ///
     /// ```text
     /// let mut scratch = Scratch::new(alloc);
-    /// let text = Text::read(alloc, b"[1, [2, 3]]", &mut scratch)?;
-    /// let paths = [compile_path(alloc, "$[1][0]")?];
-    /// assert!(rt; text.remove_as_str(alloc, &paths)?.as_str() == "[1,[3]]");
+    /// let text = Text::read(alloc, b"[1, 2]", &mut scratch)?;
+    /// assert!(rt; text.remove_as_str(alloc, &[compile_path(alloc, "$[0]")?])?.as_str() == "[2]");
     /// ```
     pub fn remove_as_str(
         &self,
@@ -262,7 +250,6 @@ impl<'a> Text<'a> {
     fn root(&self, alloc: Global) -> TextValue<'_, 'a>
         ensures { (document : Data) → IsTreeOf self.now document → text_document result ≡ document_of document }
     {
-        trees_stand_for_data();
         self.tree.text_root(alloc)
     }
 
@@ -276,30 +263,40 @@ impl<'a> Text<'a> {
         ensures ok { IfOk result (λ text. (document : Data) → IsTreeOf self.now document → IsTextOfChanged (Replaces replacement paths.now (document_of document)) (string_bytes text)) }
         ensures refused { IfErr result (λ e. (document : Data) → IsTreeOf self.now document → IsChangedTextRefused (Replaces replacement paths.now (document_of document)) e) }
     {
+        locations_once_in_order_ascend();
         let root = self.root(alloc);
-        let targets = targets_in_tree(alloc, root, paths)?;
-        let steps = steps_to_each(alloc, targets.as_slice())?;
-        match changed_text(alloc, root, steps.as_slice(), replacement) {
-            Ok(text) => Ok(text),
-            Err(unprinted) => Err(why_unprinted(alloc, unprinted)),
+        let nodes = select_paths_in_any_order(alloc, root, paths)?;
+        let each = steps_to_each(alloc, nodes.as_slice())?;
+        let lists = each.lists(alloc)?;
+        let targets = lists.as_slice();
+        if are_in_order(targets) {
+            return text_with_replacement(alloc, root, targets, replacement);
         }
+        drop(lists);
+        drop(each);
+        let ordered = in_document_order(alloc, nodes.as_slice())?;
+        drop(nodes);
+        let each = steps_to_each(alloc, ordered.as_slice())?;
+        let lists = each.lists(alloc)?;
+        text_with_replacement(alloc, root, lists.as_slice(), replacement)
     }
 }
 
-// The steps to each of the nodes.
-fn steps_to_each<'n, T: Tree>(
+// The text of a document with a replacement at the topmost of the targets below its root, which are those of some paths.
+fn text_with_replacement(
     alloc: Global,
-    nodes: &'n [TreeNode<T>],
-) -> Result<Vec<Vec<PathStep<'n>>>, NoMemory>
-    ensures { IfOk result (λ paths. map (λ p. map step_of p.items) paths.items ≡ map (place_location T.Name.bytes) nodes.now) }
+    root: TextValue<'_, '_>,
+    targets: &[StepList<'_, '_>],
+    replacement: Replacement,
+) -> Result<String, JsonPathError>
+    requires { IsStrictlySortedBy location_cmp (map (λ p. map step_of p.steps.now) targets.now) }
+    ensures ok { IfOk result (λ text. (document : Data) (paths : List (List ℕ)) → text_document root.entry ≡ document_of document → AreTargetsOfAll paths (text_document root.entry) (map (λ p. map step_of p.steps.now) targets.now) → IsTextOfChanged (Replaces replacement paths (document_of document)) (string_bytes text)) }
+    ensures refused { IfErr result (λ e. (document : Data) (paths : List (List ℕ)) → text_document root.entry ≡ document_of document → AreTargetsOfAll paths (text_document root.entry) (map (λ p. map step_of p.steps.now) targets.now) → IsChangedTextRefused (Replaces replacement paths (document_of document)) e) }
 {
-    let mut paths = Vec::with_capacity(alloc, nodes.len())?;
-    for node in nodes {
-        let mut steps = Vec::new(alloc);
-        node.add_steps(&mut steps)?;
-        paths.push(steps)?;
+    match changed_text(alloc, root, targets, replacement) {
+        Ok(text) => Ok(text),
+        Err(unprinted) => Err(why_unprinted(alloc, unprinted)),
     }
-    Ok(paths)
 }
 
 // Each value as a `T`. Refused where a number in one of them is unread, else where `serde_json` makes no `T` of one.

@@ -8,13 +8,11 @@ use std::fmt;
 /// Why the program `jsonpath_run` gives no answer. `Display` prints the message for standard error, without line end.
 ///
 /// ```text
-/// let text = format!(in alloc; "{}", Fault::Io)?;
-/// assert!(rt; text.as_str() == "input or output failed");
+/// assert!(rt; Fault::Io.to_string(alloc)?.as_str() == "input or output failed");
 /// ```
 #[derive(Debug, Drop)]
 pub enum Fault {
-    /// An error of the program `jsonpath_run`: its command line is not valid. It has an unknown command, a wrong number
-    /// of arguments, or an argument that is not UTF-8.
+    /// An error of `jsonpath_run`: an unknown command, a wrong number of arguments, or an argument that is not UTF-8.
     Usage,
     /// An error of `jsonpath_run`: a wrong path or input, an output number that can't be printed, or memory ran out.
     Refused(JsonPathError),

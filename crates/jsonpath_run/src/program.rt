@@ -142,8 +142,7 @@ fn output_for_command(
     Ok(text)
 }
 
-// The text of the list of values that the path selects in the document that the input is the text of. The document is
-// not dropped, which would take time: the program ends soon.
+// The text of the values that the path selects in the input's document, which is not dropped: the program ends soon.
 #[tactic(auto, using(crate::proofs::RefusalLemmas::refused_read))]
 fn selected_text(
     alloc: Global,
@@ -163,8 +162,7 @@ fn selected_text(
     text
 }
 
-// The text of the document that the input is the text of, changed as `delete`, `remove` or `mask` asks. The document is
-// not dropped either.
+// The text of the input's document, changed as `delete`, `remove` or `mask` asks. It is not dropped either.
 #[tactic(auto, using(crate::proofs::RefusalLemmas::refused_read))]
 fn changed_text(
     alloc: Global,

@@ -5,8 +5,7 @@ ghost use Rattle.jsonpath_run.specs.Words.{IsCall, IsUsage, IsCount};
 /// A command of the program `jsonpath_run`, its first argument.
 ///
 /// ```text
-/// let call = parse_call(&["check", "$.a"]);
-/// assert!(rt; call.is_some_and(|it| it.command == Command::Check));
+/// assert!(rt; parse_call(&["check", "$.a"]).is_some_and(|it| it.command == Command::Check));
 /// ```
 #[derive(Clone, Copy, Debug, PartialEq, Eq)]
 pub enum Command {
@@ -25,12 +24,8 @@ pub enum Command {
 /// The parsed command line of the program `jsonpath_run`: the command and the texts of its paths.
 ///
 /// ```text
-/// let words = ["mask", "$.a", "$.b"];
-/// let call = Call {
-///     command: Command::Mask,
-///     paths: &words[1..],
-/// };
-/// assert!(rt; parse_call(&words).is_some_and(|it| it.paths == call.paths));
+/// let call = parse_call(&["mask", "$.a", "$.b"]);
+/// assert!(rt; call.is_some_and(|it| it.paths == ["$.a", "$.b"].as_slice()));
 /// ```
 #[derive(Clone, Copy)]
 pub struct Call<'w, 'a> {

@@ -18,8 +18,7 @@ use jsonpath_lib::{
 use serde_json::Value;
 use std::alloc::Global;
 
-/// Selects by `$.price`. If `json` is an object with a member `price`, returns a list with the value of this member
-/// alone, else an empty list. The only error is `OutOfMemory`.
+/// Selects by `$.price`: a list of the value of the member `price`, or an empty list. The only error is `OutOfMemory`.
 pub fn price<'a>(alloc: Global, json: &'a Value) -> Result<Vec<&'a Value>, JsonPathError>
     ensures { IfOk result (λ found. map (λ v. document_of (view v.now)) found.items
         ≡ option_to_list (get (codes "price") (document_of (view json.now)))) }
@@ -83,8 +82,7 @@ pub fn selects_exactly(
     Ok(found.len() == count)
 }
 
-/// Selects by the path with a `JsonSelector` and with a `Selector`, and returns the two lists, which are equal. Errors:
-/// `Path` if the text is no path, or `OutOfMemory`.
+/// Selects with a `JsonSelector` and a `Selector`; the two lists are equal. Errors: `Path` (no path), `OutOfMemory`.
 pub fn select_by_both_selectors<'a>(
     alloc: Global,
     json: &'a Value,

@@ -38,8 +38,7 @@ pub fn mask_in_either_order(
     Some((one, other))
 }
 
-/// The document `config` with true in place of the value at `$.log.on`, if it has one there. All else stays. The only
-/// error is `OutOfMemory`; the document is then dropped.
+/// `config` with true in place of any value at `$.log.on`; all else stays. Error: `OutOfMemory`, which drops `config`.
 pub fn with_log_switched_on(alloc: Global, config: Value) -> Result<Value, JsonPathError>
     ensures on { IfOk result (λ changed. IsSome (at (document_of (view config)) (name (codes "log") ∷ name (codes "on") ∷ []))
         → at (document_of (view changed)) (name (codes "log") ∷ name (codes "on") ∷ []) ≡ Some (boolean true)) }

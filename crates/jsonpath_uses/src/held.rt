@@ -13,8 +13,7 @@ use serde_json::Value;
 use std::alloc::Global;
 use std::rc::Rc;
 
-/// Puts a compiled path into a `JsonSelector` or a `JsonSelectorMut` by `set_parser`. The only error is `OutOfMemory`;
-/// the selector then has the path that it had before.
+/// Sets a `JsonSelector`'s or `JsonSelectorMut`'s path by `set_parser`. The only error: `OutOfMemory`, with no change.
 pub fn set_parser_in_pair<'a, V: HeldValue>(
     alloc: Global,
     held: &mut HeldPair<Rc<PathParser<'a>>, V>,
@@ -27,8 +26,7 @@ pub fn set_parser_in_pair<'a, V: HeldValue>(
     Ok(())
 }
 
-/// Sets the path of a `Selector` or `SelectorMut`: it calls `set_path`. Errors: `Path` if the text is no path, or
-/// `OutOfMemory`; the selector then has the path that it had before.
+/// Sets a `Selector`'s or `SelectorMut`'s path by `set_path`. Errors, with no change: `Path` (no path), `OutOfMemory`.
 pub fn set_path_in_pair<P: OfNode + Drop, V: HeldValue>(
     alloc: Global,
     held: &mut HeldPair<P, V>,
@@ -58,9 +56,8 @@ pub fn select_by_second_path<'a>(
     held.select(alloc)
 }
 
-/// Compiles a path text once, in a `Selector`, and selects by it in two documents, `one` and `other`. Returns two
-/// lists, the values selected in `one` and those selected in `other`, each in the order in which the path finds them,
-/// with duplicates. Errors: `Path` if the text is no path, or `OutOfMemory`.
+/// Compiles a path text once, in a `Selector`, and returns what it selects in `one` and in `other`, each list in the
+/// order found, with duplicates. Errors: `Path` if the text is no path, or `OutOfMemory`.
 pub fn select_in_two_documents<'a>(
     alloc: Global,
     path: &str,

@@ -8,8 +8,7 @@ use jsonpath_lib::{AnyPath, JsonPathError, PathParser};
 use serde_json::Value;
 use std::alloc::Global;
 
-/// Returns the index, from 0, of the first of the compiled paths `rules` that selects something in the JSON value
-/// `message`; `None` if none does. The only error is `OutOfMemory`.
+/// The index, from 0, of the first of the rules that selects something in `message`, or `None`. Error: `OutOfMemory`.
 pub fn first_route(
     alloc: Global,
     message: &Value,

@@ -131,8 +131,7 @@ pub fn remove_in(
     path.remove_in(alloc, value)
 }
 
-/// Replaces, in the document `value`, each value that the path selects below the root by a copy of `new`. The only
-/// error is `OutOfMemory`; `value` is then unchanged.
+/// Replaces by copies of `new` each value the path selects below `value`'s root. Error: `OutOfMemory`, with no change.
 pub fn set_in(
     alloc: Global,
     value: &mut Value,
@@ -164,11 +163,9 @@ pub fn replace_in<F: FnMut(Value) -> Option<Value>>(
     path.replace_in(alloc, value, fun)
 }
 
-/// Calls the closure for each location that the path selects below the root and that still exists, in document order
-/// (parents first), with a reference to the value there. If the closure returns `Ok(Some(..))`, the new value replaces
-/// the old one; if it returns `Ok(None)`, the value is removed. The closure's first error ends the updates and is
-/// returned as `Refused`; the updates before it remain. The only other error is `Unasked` with `OutOfMemory`: memory
-/// ran out before the closure was called, and nothing has changed.
+/// Replaces or removes as `replace_in` does, by a closure that borrows the value and may fail. Its first error ends the
+/// updates and is returned as `Refused`; the updates before it remain. The only other error is `Unasked` with
+/// `OutOfMemory`, before any closure call or change.
 pub fn try_replace_in<E, F: FnMut(&Value) -> Result<Option<Value>, E>>(
     alloc: Global,
     value: &mut Value,
@@ -190,24 +187,21 @@ pub fn spelling_of<P: AnyPath>(path: &P) -> &str
     path.parts().text
 }
 
-/// Returns the text from which a `Node`, a compiled path that owns its text, was compiled. In contracts (proved
-/// specifications) this text has the name `spelling`.
+/// Returns the text from which a `Node`, a compiled path that owns its text, was compiled: its `spelling`.
 pub fn spelling_of_node(path: &Node) -> &str
     ensures { result.now ≡ path.now }
 {
     spelling_of(path)
 }
 
-/// Returns the text from which a path was compiled, for a compiled path behind an `Rc`. In contracts (proved
-/// specifications) this text has the name `spelling`.
+/// Returns the text from which a compiled path behind an `Rc` was compiled: its `spelling`.
 pub fn spelling_of_shared<P: AnyPath>(path: &Rc<P>) -> &str
     ensures { result.now ≡ P.spelling path.now.value }
 {
     spelling_of(path)
 }
 
-/// Returns the text from which a `KeptPath`, a compiled path such as a `Compiled` or a `PathCompiled`, was compiled. In
-/// contracts (proved specifications) this text has the name `spelling`.
+/// Returns the text from which a `KeptPath`, such as a `Compiled` or a `PathCompiled`, was compiled: its `spelling`.
 pub fn spelling_of_kept<P: AnyPath>(path: &KeptPath<P>) -> &str
     ensures { result.now ≡ path.now }
 {

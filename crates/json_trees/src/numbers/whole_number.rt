@@ -29,6 +29,9 @@ pub(crate) fn whole_number(text: &str) -> Option<WholeNumber>
 pub(crate) fn is_number_read(text: &str) -> bool
     ensures { result ≡ is_some (number_of text.now) }
 {
+    if is_short_whole(text) {
+        return true;
+    }
     let (is_negative, numeral) = scan_number(text);
     whole_of_numeral(is_negative, &numeral).is_some()
         || numeral.to_float::<f64>(is_negative).is_finite()

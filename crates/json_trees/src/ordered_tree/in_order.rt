@@ -5,6 +5,7 @@ ghost use Rattle.json.specs.Value.{value_view, items_view, members_view};
 ghost use Rattle.json.specs.Json.{no_members};
 ghost use Rattle.json_trees.specs.OrderedTree.{is_ordered, are_items_ordered, are_members_ordered, in_order, items_in_order, members_in_order};
 
+use crate::ordered_tree::sort_by_name::entries_of_map;
 use json::Value as Exact;
 use std::alloc::{AllocError, Global};
 use std::collections::BTreeMap;
@@ -98,15 +99,5 @@ fn copy_members_in_order<'a>(
     for member in members {
         named.insert(member.0, copy_in_order(alloc, &member.1)?)?;
     }
-    members_of_map(alloc, named)
-}
-
-// The members of a map by names as a list, in the map's order.
-fn members_of_map<'a>(
-    alloc: Global,
-    named: BTreeMap<&'a str, Exact<'a>>,
-) -> Result<Vec<(&'a str, Exact<'a>)>, AllocError>
-    ensures { IfOk result (λ made. made.items ≡ named.entry.entries) }
-{
-    named.into_iter().collect(alloc)
+    entries_of_map(alloc, named)
 }

@@ -27,7 +27,7 @@ pub(crate) enum Order {
 impl Order {
     // Whether all is taken as it stands.
     #[inline(always)]
-    fn stands(&self) -> bool
+    pub(crate) fn stands(&self) -> bool
         ensures { IsTrue result → (j : Json) → is_order self.now j ≡ is_ordered j }
     {
         matches!(self, Order::AsItStands)

@@ -16,8 +16,7 @@ use std::marker::Model;
 ///
 /// ```text
 /// let path: KeptPath<Node> = Compiled::compile(alloc, "$[1:]")?;
-/// let document = read_document(alloc, b"[1, 2, 3]")?;
-/// assert_eq!(rt; path.count(alloc, &document)?, 2);
+/// assert_eq!(rt; path.count(alloc, &read_document(alloc, b"[1, 2, 3]")?)?, 2);
 /// ```
 #[derive(Drop)]
 pub struct KeptPath<P: AnyPath> {
@@ -46,8 +45,7 @@ impl<P: AnyPath> KeptPath<P> {
     ///
     /// ```text
     /// let document = read_document(alloc, b"[1, 2, 3]")?;
-    /// let path = Compiled::compile(alloc, "$[1:]")?;
-    /// let found = path.select(alloc, &document)?;
+    /// let found = Compiled::compile(alloc, "$[1:]")?.select(alloc, &document)?;
     /// assert!(rt; list_to_text(alloc, found.as_slice())?.as_str() == "[2,3]");
     /// ```
     pub fn select<'v>(
@@ -66,8 +64,7 @@ impl<P: AnyPath> KeptPath<P> {
     ///
     /// ```text
     /// let document = read_document(alloc, b"[1, 2, 3]")?;
-    /// let path = Compiled::compile(alloc, "$[1:]")?;
-    /// let deleted = path.delete(alloc, document)?;
+    /// let deleted = Compiled::compile(alloc, "$[1:]")?.delete(alloc, document)?;
     /// assert!(rt; document_to_text(alloc, &deleted)?.as_str() == "[1,null,null]");
     /// ```
     pub fn delete(&self, alloc: Global, value: Value) -> Result<Value, JsonPathError>
@@ -80,17 +77,15 @@ impl<P: AnyPath> KeptPath<P> {
     }
 
     /// Calls the closure once for each selected location below the root, with the value that the earlier updates left
-    /// there, and returns the changed document. If the closure returns `Some`, the value in it replaces the old one; if
-    /// it returns `None`, the old value is removed. The locations come in document order: parents before children,
-    /// members by their names' bytes, items by index. They are fixed beforehand: after an item was removed, the next
-    /// item is at the removed item's location; a location that no longer exists is skipped. The only error is
-    /// `OutOfMemory`; the closure is then not called, and the document is dropped.
+    /// there, and returns the changed document. A returned `Some` replaces that value, `None` removes it. The locations
+    /// come in document order: parents before children, members by their names' bytes, items by index. They are fixed
+    /// beforehand: after an item was removed, the next is at its location; a location that no longer exists is skipped.
+    /// The only error is `OutOfMemory`; the closure is then not called, and the document is dropped.
     ///
     /// ```text
     /// let document = read_document(alloc, b"[1, 2, 3]")?;
-    /// let path = Compiled::compile(alloc, "$[1:]")?;
     /// let to_null = &mut |_old: Value| Some(Value::Null);
-    /// let changed = path.replace_with(alloc, document, to_null)?;
+    /// let changed = Compiled::compile(alloc, "$[1:]")?.replace_with(alloc, document, to_null)?;
     /// assert!(rt; document_to_text(alloc, &changed)?.as_str() == "[1,null,null]");
     /// ```
     pub fn replace_with<F: FnMut(Value) -> Option<Value>>(

@@ -11,9 +11,7 @@ use std::alloc::{AllocError, Global};
 ///
 /// ```text
 /// let path = Compiled::compile(alloc, "$[0]")?;
-/// let document = read_document(alloc, b"[1, 2]")?;
-/// assert_eq!(rt; path.select(alloc, &document)?.len(), 1);
-/// let deleted = path.delete(alloc, document)?;
+/// let deleted = path.delete(alloc, read_document(alloc, b"[1, 2]")?)?;
 /// assert!(rt; document_to_text(alloc, &deleted)?.as_str() == "[null,2]");
 /// ```
 pub type Compiled = KeptPath<Node>;
@@ -22,10 +20,8 @@ impl Compiled {
     /// Compiles a path text. Errors: `Text` exactly if the text is no path, or `OutOfMemory`.
     ///
     /// ```text
-    /// let path = Compiled::compile(alloc, "$[0]")?;
-    /// assert_eq!(rt; path.select(alloc, &read_document(alloc, b"[1]")?)?.len(), 1);
-    /// let refused = Compiled::compile(alloc, "$[");
-    /// assert!(rt; matches!(refused, Err(ParseFault::Text(_))));
+    /// assert!(rt; Compiled::compile(alloc, "$[0]").is_ok());
+    /// assert!(rt; matches!(Compiled::compile(alloc, "$["), Err(ParseFault::Text(_))));
     /// ```
     pub fn compile(alloc: Global, path: &str) -> Result<Compiled, ParseFault>
         ensures ok { IfOk result (λ compiled. compiled ≡ path.now) }
@@ -37,8 +33,7 @@ impl Compiled {
     }
 }
 
-/// Clones a compiled path: the clone has the same text, syntax tree and token list (the tree written out as a list).
-/// `clone` returns a `Result`; its only error is out of memory.
+/// Clones a compiled path: the clone has the same text, syntax tree and token list. The only error is out of memory.
 impl Clone for Compiled {
     ghost is_clone = { λ it copy. copy ≡ it };
 

@@ -13,10 +13,8 @@ use std::alloc::Global;
 /// The result of compiling a path text: a path that owns its text, or the error, which each `select` then returns.
 ///
 /// ```text
-/// let path = compile(alloc, "$[0]");
 /// let document = read_document(alloc, b"[1, 2]")?;
-/// let found = path.select(alloc, &document)?;
-/// assert!(rt; list_to_text(alloc, found.as_slice())?.as_str() == "[1]");
+/// assert_eq!(rt; compile(alloc, "$[0]").select(alloc, &document)?.len(), 1);
 /// ```
 #[derive(Drop)]
 pub struct CompiledPath {
@@ -27,15 +25,9 @@ pub struct CompiledPath {
 ///
 /// ```text
 /// let document = read_document(alloc, b"[1, 2, 3]")?;
-/// let path = compile(alloc, "$[1:]");
-/// assert_eq!(rt; path.select(alloc, &document)?.len(), 2);
-/// let no_path = compile(alloc, "$[");
-/// assert!(rt;
-///     matches!(
-///         no_path.select(alloc, &document),
-///         Err(JsonPathError::Path(_))
-///     )
-/// );
+/// assert_eq!(rt; compile(alloc, "$[1:]").select(alloc, &document)?.len(), 2);
+/// let refused = compile(alloc, "$[").select(alloc, &document);
+/// assert!(rt; matches!(refused, Err(JsonPathError::Path(_))));
 /// ```
 pub fn compile(alloc: Global, path: &str) -> CompiledPath
     ensures { KeepsPath path.now result }
@@ -57,15 +49,13 @@ impl CompiledPath {
         }
     }
 
-    /// The values that the path selects in the document, in the order in which the path finds them, with duplicates.
-    /// They borrow the document alone. If the path text could not be compiled, that error was stored, and this call
-    /// returns it: `Path`, if the text is no path, with a message that shows the text and a row of `^` up to the error
-    /// in the text; or `OutOfMemory`. The error is also `OutOfMemory` if memory runs out in this call.
+    /// The values that the path selects in the document, in the order found, with duplicates. They borrow the document
+    /// alone. Errors: `Path` if the text is no path, with a message that shows the text and a row of `^` up to the
+    /// error in it; or `OutOfMemory`, if memory ran out in the compilation or in this call.
     ///
     /// ```text
     /// let document = read_document(alloc, b"[1, 2, 3]")?;
-    /// let path = compile(alloc, "$[1:]");
-    /// let found = path.select(alloc, &document)?;
+    /// let found = compile(alloc, "$[1:]").select(alloc, &document)?;
     /// assert!(rt; list_to_text(alloc, found.as_slice())?.as_str() == "[2,3]");
     /// ```
     pub fn select<'v>(

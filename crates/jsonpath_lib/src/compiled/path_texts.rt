@@ -16,8 +16,7 @@ use std::fmt;
 /// let Err(refused) = compile_paths(alloc, &["$[0]", "$["]) else {
 ///     return Err(Fail::new("both are paths"));
 /// };
-/// let text = refused.to_string(alloc)?;
-/// assert!(rt; text.as_str() == "path 1: path error: \nEof\n");
+/// assert!(rt; refused.to_string(alloc)?.as_str() == "path 1: path error: \nEof\n");
 /// ```
 #[derive(Drop)]
 pub struct PathsFault {
@@ -27,8 +26,7 @@ pub struct PathsFault {
     pub fault: JsonPathError,
 }
 
-/// Prints an error of compiling a list of path texts: the word `path`, the index (from 0) of the wrong text in the
-/// list, a colon, and the text of the cause. If memory ran out, there is no index, and the cause alone is printed.
+/// Prints an error of path texts: `path`, the index (from 0), a colon and the cause; without an index, the cause alone.
 impl fmt::Display for PathsFault {
     ghost output = { λ fault. Some (paths_fault_text fault.index fault.fault) };
 
@@ -74,10 +72,8 @@ pub(crate) fn write_paths_fault<W: fmt::Write>(
 /// the first text that is no path, or `OutOfMemory` and no index.
 ///
 /// ```text
-/// match compile_paths(alloc, &["$[0]", "$["]) {
-///     Ok(_) => assert!(rt; false),
-///     Err(refused) => assert_eq!(rt; refused.index, Some(1)),
-/// }
+/// let refused = compile_paths(alloc, &["$[0]", "$["]).err();
+/// assert!(rt; refused.is_some_and(|fault| fault.index == Some(1)));
 /// ```
 pub fn compile_paths<'a>(
     alloc: Global,

@@ -37,9 +37,8 @@ pub fn select<'a>(
 }
 
 /// Reads a JSON text, then the path, and returns the selected values as a JSON text: `[`, their compact texts joined by
-/// `,`, and `]`, in the order in which the path's steps find the values, with duplicates. Errors: `Serde` if
-/// `serde_json` rejects the JSON text, or if a selected value contains a number that is neither an `i64` nor a `u64`,
-/// such as 1.5; `Path` if the path text is no path; or `OutOfMemory`.
+/// `,`, and `]`, in the order found, with duplicates. Errors: `Serde` if `serde_json` rejects the text or a selected
+/// value has a number that is neither an `i64` nor a `u64`, such as 1.5; `Path` if `path` is no path; or `OutOfMemory`.
 ///
 /// ```text
 /// let text = select_as_str(alloc, "[1, 2, 3]", "$[-2:]")?;
@@ -56,15 +55,13 @@ pub fn select_as_str(alloc: Global, json: &str, path: &str) -> Result<String, Js
     text.select_as_str(alloc, &compiled)
 }
 
-/// Reads a JSON text, then a path, and deserializes each selected value to a `T`, in the order in which the path's
-/// steps find the values, with duplicates. Errors: `Path` if the path text is no path; `OutOfMemory`; or `Serde` if
-/// `serde_json` rejects the JSON text or can't make a `T` of a selected value. The error is also `Serde` if a selected
-/// value has a number that is neither an `i64` nor a `u64`, such as 1.5.
+/// Reads a JSON text, then a path, and deserializes each selected value to a `T`, in the order found, with duplicates.
+/// Errors: `Path` if `path` is no path; `OutOfMemory`; or `Serde` if `serde_json` rejects the JSON text or can't make a
+/// `T` of a selected value, or if such a value has a number that is neither an `i64` nor a `u64`, such as 1.5.
 ///
 /// ```text
 /// let numbers = select_as::<u8>(alloc, "[[1, 2], [3]]", "$[*][0]")?;
-/// assert_eq!(rt; numbers.len(), 2);
-/// assert_eq!(rt; numbers[1], 3);
+/// assert!(rt; matches!(numbers.as_slice(), [1, 3]));
 /// ```
 #[tactic(auto, using(crate::proofs::JsonTextRefusedLemmas::refused_after, crate::proofs::JsonTextRefusedLemmas::typed_refused))]
 pub fn select_as<T: DeserializeOwned>(
@@ -81,9 +78,7 @@ pub fn select_as<T: DeserializeOwned>(
     text.select_as(alloc, &compiled)
 }
 
-// The values that the path selects in the document, each as a `T`, in order. Refused with `Path` exactly where the text
-// is no path; with `Serde` where an unread number, one that is no whole number of 64 bits, stands in a selected value or
-// where `serde_json` makes no `T` of one; and with `OutOfMemory`.
+// The values that the path selects in the document, each as a `T`; the errors are those of `PathSelectorAs::select`.
 pub(crate) fn select_to_typed<T: DeserializeOwned>(
     alloc: Global,
     json: &Value,

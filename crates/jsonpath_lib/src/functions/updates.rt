@@ -28,11 +28,10 @@ pub fn delete(alloc: Global, value: Value, path: &str) -> Result<Value, JsonPath
 }
 
 /// Calls the closure once for each selected location below the root, with the value that earlier updates left there; a
-/// location that is gone by then is skipped. If the closure returns `Some`, the new value replaces that value; if it
-/// returns `None`, that value is removed. The result is the changed document. The locations come in document order:
-/// parents before children, members by their names' bytes, items by index. They are found beforehand and stay fixed:
-/// after an item is removed, the next is at its location. Errors: `Path` exactly if the text is no path, or
-/// `OutOfMemory`; then the closure is not called and the document is dropped.
+/// location that is gone by then is skipped. A returned `Some` replaces that value, `None` removes it. The result is
+/// the changed document. The locations come in document order: parents before children, members by their names' bytes,
+/// items by index. They are fixed beforehand: after an item is removed, the next is at its location. Errors: `Path`
+/// exactly if the text is no path, or `OutOfMemory`; the closure is then not called, and the document is dropped.
 ///
 /// ```text
 /// let document = read_document(alloc, b"[1, 2, 3]")?;

@@ -17,9 +17,7 @@ use std::marker::PhantomData;
 ///
 /// ```text
 /// let document = read_document(alloc, b"[1, 2, 3]")?;
-/// let within = selector(&document);
-/// let found = within.select(alloc, "$[1:]")?;
-/// assert!(rt; list_to_text(alloc, found.as_slice())?.as_str() == "[2,3]");
+/// assert_eq!(rt; selector(&document).select(alloc, "$[1:]")?.len(), 2);
 /// ```
 #[derive(Drop)]
 pub struct PathSelector<'a> {
@@ -46,8 +44,7 @@ impl<'a> PathSelector<'a> {
     ///
     /// ```text
     /// let document = read_document(alloc, b"[1, 2, 3]")?;
-    /// let within = selector(&document);
-    /// let found = within.select(alloc, "$[1:]")?;
+    /// let found = selector(&document).select(alloc, "$[1:]")?;
     /// assert!(rt; list_to_text(alloc, found.as_slice())?.as_str() == "[2,3]");
     /// ```
     pub fn select(&self, alloc: Global, path: &str) -> Result<Vec<&'a Value>, JsonPathError>
@@ -75,10 +72,8 @@ pub struct PathSelectorAs<'a, T> {
 ///
 /// ```text
 /// let document = read_document(alloc, b"[1, 2, 3]")?;
-/// let within = selector_as::<u8>(&document);
-/// let last = within.select(alloc, "$[-1]")?;
-/// assert_eq!(rt; last.len(), 1);
-/// assert_eq!(rt; last[0], 3);
+/// let last = selector_as::<u8>(&document).select(alloc, "$[-1]")?;
+/// assert!(rt; matches!(last.as_slice(), [3]));
 /// ```
 pub fn selector_as<'a, T: DeserializeOwned>(json: &'a Value) -> PathSelectorAs<'a, T>
     ensures { typed_held_document result ≡ document_of (view json.now) }
@@ -90,17 +85,14 @@ pub fn selector_as<'a, T: DeserializeOwned>(json: &'a Value) -> PathSelectorAs<'
 }
 
 impl<'a, T: DeserializeOwned> PathSelectorAs<'a, T> {
-    /// Deserializes each value that the path selects in the document to a `T`, in the order in which the path finds the
-    /// values, with duplicates. Errors: `Path` exactly if the text is no path; `OutOfMemory`; or `Serde` if
-    /// `serde_json` can't make a `T` of a selected value. The error is also `Serde` if a selected value contains a
-    /// number that is neither an `i64` nor a `u64`, such as 1.5, even if `T` is `f64`.
+    /// Deserializes each value that the path selects to a `T`, in the order found, with duplicates. Errors: `Path`
+    /// exactly if the text is no path; `OutOfMemory`; or `Serde` if `serde_json` can't make a `T` of a selected value,
+    /// or if such a value contains a number that is neither an `i64` nor a `u64`, such as 1.5, even if `T` is `f64`.
     ///
     /// ```text
     /// let document = read_document(alloc, b"[1, 2, 3]")?;
-    /// let within = selector_as::<u8>(&document);
-    /// let numbers = within.select(alloc, "$[1:]")?;
-    /// assert_eq!(rt; numbers.len(), 2);
-    /// assert_eq!(rt; numbers[0], 2);
+    /// let numbers = selector_as::<u8>(&document).select(alloc, "$[1:]")?;
+    /// assert!(rt; matches!(numbers.as_slice(), [2, 3]));
     /// ```
     pub fn select(&self, alloc: Global, path: &str) -> Result<Vec<T>, JsonPathError>
         ensures ok { IfOk result (λ found. IsCountIn (typed_held_document self.now) path.now (vec_len found)) }

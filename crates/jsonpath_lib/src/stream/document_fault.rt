@@ -36,21 +36,16 @@ pub enum FaultKind {
     /// An error of reading the next document of a stream: memory ran out. Its position is just after the last byte
     /// read, or, if a document was being parsed, the one from `serde_json`, counted from the stream's beginning.
     OutOfMemory,
-    /// An error of reading a stream of documents: the stream has more bytes than 64 bits can count. The error's
-    /// position is just after the last returned document.
+    /// An error of reading documents: more bytes than 64 bits can count. Position: after the last returned document.
     TooLong,
 }
 
 /// The error of reading the next document of a stream, with its position in the whole stream.
 ///
 /// ```text
-/// let mut documents = Documents::new(alloc, b"[1]\n[2,}");
-/// assert!(rt; matches!(documents.next(), Some(Ok(_))));
-/// match documents.next() {
-///     Some(Err(fault)) => assert!(rt; fault.line == 2 && fault.column == 4),
-///     _ => return Err(Fail::new("the second is no document")),
-/// }
-/// assert!(rt; documents.next().is_none());
+/// let mut second = Documents::new(alloc, b"[1]\n[2,}").skip(1);
+/// let fault = second.next().and_then(|item| item.err());
+/// assert!(rt; fault.is_some_and(|fault| fault.line == 2 && fault.column == 4));
 /// ```
 #[derive(Drop)]
 pub struct DocumentFault {
@@ -65,8 +60,7 @@ pub struct DocumentFault {
     pub error: JsonPathError,
 }
 
-/// Prints an error of reading documents as its field `error` is printed: `serde error: ` and, on the next line, a
-/// message that ends with the line and column; or `out of memory`.
+/// Prints an error of reading documents: `serde error: ` and, on the next line, its message; or `out of memory`.
 impl fmt::Display for DocumentFault {
     ghost output = { λ fault. Some (error_text fault.error) };
 

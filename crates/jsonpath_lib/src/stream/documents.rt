@@ -10,13 +10,11 @@ use jsonpath_streams::{Bytes, Input};
 use serde_json::Value;
 use std::alloc::Global;
 
-/// Iterator over the JSON documents of a text or stream, separated by whitespace: spaces, tabs or line ends (none
-/// needed after a closing bracket, a closing quote or a word such as `true`). It reads one document at a time, so
-/// reading a log takes the memory of one record.
+/// Iterator over the JSON documents of a text or stream, separated by whitespace (none is needed after a closing
+/// bracket or quote, or a word such as `true`). It reads one document at a time: a log takes the memory of one record.
 ///
-/// A number ends before whitespace, `[`, `{`, `"` or the stream's end; any other document is returned once its last
-/// byte is read. The first error is the last item. The position of a syntax error is that of the first byte with which
-/// no document can continue.
+/// A number ends before whitespace, `[`, `{`, `"` or the stream's end; any other document is returned right after its
+/// last byte. The first error is the last item. A syntax error is at the first byte with which no document can go on.
 ///
 /// ```text
 /// let log = b"{\"ms\": 7}\n{\"ms\": 900}\n[1][2]";
@@ -46,9 +44,7 @@ impl<'a> Documents<Bytes<'a>> {
     /// An iterator over the documents of this text. The call allocates no memory.
     ///
     /// ```text
-    /// let mut documents = Documents::new(alloc, b"[1]");
-    /// assert!(rt; matches!(documents.next(), Some(Ok(_))));
-    /// assert!(rt; documents.next().is_none());
+    /// assert!(rt; matches!(Documents::new(alloc, b"[1]").next(), Some(Ok(_))));
     /// ```
     pub fn new(alloc: Global, text: &'a [u8]) -> Documents<Bytes<'a>>
         ensures text { result.input.text.now ≡ text.now }
@@ -67,8 +63,7 @@ impl<R: Input> Documents<R> {
     ///
     /// ```text
     /// let input = Checked::new("[1] [2]".as_bytes());
-    /// let documents = Documents::of_input(alloc, input);
-    /// assert!(rt; documents.count() == 2);
+    /// assert!(rt; Documents::of_input(alloc, input).count() == 2);
     /// ```
     pub fn of_input(alloc: Global, input: R) -> Documents<R>
         ensures input { result.input ≡ input }

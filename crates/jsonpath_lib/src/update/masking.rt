@@ -14,15 +14,11 @@ use std::alloc::Global;
 /// The document with null in place of each value below the root that any of the paths selects. All paths are applied to
 /// the original document, so their order does not matter; without paths the document is returned unchanged.
 ///
-/// All paths are compiled first, in order. The error has the unchanged document, and the index of the first text that
-/// is no path, or no index if memory ran out.
+/// The error has the unchanged document, and the index of the first text that is no path, or none if memory ran out.
 ///
 /// ```text
 /// let document = read_document(alloc, b"[1, [2, 3]]")?;
-/// let masked = match mask(alloc, document, &["$[0]", "$[1][0]"]) {
-///     Ok(masked) => masked,
-///     Err(refused) => refused.value,
-/// };
+/// let masked = mask(alloc, document, &["$[0]", "$[1][0]"])?;
 /// assert!(rt; document_to_text(alloc, &masked)?.as_str() == "[null,[null,3]]");
 /// ```
 pub fn mask(alloc: Global, value: Value, paths: &[&str]) -> Result<Value, MaskFault>
@@ -46,8 +42,7 @@ pub fn mask(alloc: Global, value: Value, paths: &[&str]) -> Result<Value, MaskFa
 ///
 /// ```text
 /// let mut document = read_document(alloc, b"[1, 2, 3]")?;
-/// let paths = [compile_path(alloc, "$[0]")?, compile_path(alloc, "$[2]")?];
-/// mask_at_paths(alloc, &mut document, &paths)?;
+/// mask_at_paths(alloc, &mut document, compile_paths(alloc, &["$[0]", "$[2]"])?.as_slice())?;
 /// assert!(rt; document_to_text(alloc, &document)?.as_str() == "[null,2,null]");
 /// ```
 pub fn mask_at_paths(

@@ -11,19 +11,14 @@ use jsonpath_select::JsonPathError;
 use serde_json::Value;
 use std::alloc::Global;
 
-/// The document without the values below the root that any of the paths selects, removed all at once: the other items
-/// of an array keep their order. All paths are applied to the original document, so their order does not matter;
-/// without paths the document is returned unchanged.
+/// The document without the values below the root that any path selects, removed all at once: the other items of an
+/// array keep their order. All paths apply to the original document, in any order; without paths it is unchanged.
 ///
-/// All paths are compiled first, in order. The error has the unchanged document, and the index of the first text that
-/// is no path, or no index if memory ran out.
+/// The error has the unchanged document, and the index of the first text that is no path, or none if memory ran out.
 ///
 /// ```text
 /// let document = read_document(alloc, b"[1, [2, 3], 4]")?;
-/// let left = match remove_by_path_texts(alloc, document, &["$[0]", "$[1][0]"]) {
-///     Ok(left) => left,
-///     Err(refused) => refused.value,
-/// };
+/// let left = remove_by_path_texts(alloc, document, &["$[0]", "$[1][0]"])?;
 /// assert!(rt; document_to_text(alloc, &left)?.as_str() == "[[3],4]");
 /// ```
 pub fn remove_by_path_texts(alloc: Global, value: Value, paths: &[&str]) -> Result<Value, MaskFault>
@@ -42,14 +37,12 @@ pub fn remove_by_path_texts(alloc: Global, value: Value, paths: &[&str]) -> Resu
     }
 }
 
-/// Removes the values below the root that any of the paths selects, all at once: the other items of an array keep
-/// their order. All paths are applied to the original document, so their order does not matter. The only error is
-/// `OutOfMemory`, and then the document is unchanged.
+/// Removes the values below the root that any path selects, all at once: the other items of an array keep their order.
+/// All paths apply to the original document, in any order. The only error is `OutOfMemory`, with no change.
 ///
 /// ```text
 /// let mut document = read_document(alloc, b"[1, 2, 3]")?;
-/// let paths = [compile_path(alloc, "$[0]")?, compile_path(alloc, "$[2]")?];
-/// remove_at_paths(alloc, &mut document, &paths)?;
+/// remove_at_paths(alloc, &mut document, compile_paths(alloc, &["$[0]", "$[2]"])?.as_slice())?;
 /// assert!(rt; document_to_text(alloc, &document)?.as_str() == "[2]");
 /// ```
 pub fn remove_at_paths(

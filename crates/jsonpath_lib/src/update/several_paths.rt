@@ -4,7 +4,6 @@ ghost use Rattle.std.specs.List.Sorted.{IsStrictlySortedBy};
 ghost use Rattle.serde_json.specs.View.{view};
 ghost use Rattle.jsonpath_nodes.specs.document.OfData.{document_of};
 ghost use Rattle.jsonpath_nodes.specs.place.Location.{location_cmp};
-ghost use Rattle.jsonpath_nodes.specs.place.SpotPlace.{place_location};
 ghost use Rattle.jsonpath_lib.specs.update.Masked.{AreSelectedNodes, AreTargetsOfAll, ArePathsRefused, AreAsGood, paths_fault_text};
 
 use crate::compiled::path_texts::{PathsFault, compile_paths, write_paths_fault};
@@ -23,13 +22,8 @@ use std::fmt;
 ///
 /// ```text
 /// let document = read_document(alloc, b"[1]")?;
-/// match mask(alloc, document, &["$[0]", "$["]) {
-///     Ok(_) => return Err(Fail::new("the second is no path")),
-///     Err(refused) => {
-///         assert!(rt; refused.index == Some(1));
-///         assert!(rt; document_to_text(alloc, &refused.value)?.as_str() == "[1]");
-///     }
-/// }
+/// let refused = mask(alloc, document, &["$[0]", "$["]).err();
+/// assert!(rt; refused.is_some_and(|fault| fault.index == Some(1) && fault.value.is_array()));
 /// ```
 #[derive(Drop)]
 pub struct MaskFault {
@@ -37,13 +31,11 @@ pub struct MaskFault {
     pub index: Option<usize>,
     /// A field of an update's error: `Path`, with a message, for the first path text that is no path; or `OutOfMemory`.
     pub fault: JsonPathError,
-    /// A field of the error of a change by several path texts: the document that was passed to the failed call in order
-    /// to be changed. It is as it was before the call.
+    /// A field of an update's error: the document that was passed to the failed call, as it was before the call.
     pub value: Value,
 }
 
-/// Prints an error of an update by several paths: the word `path`, the index (from 0) of the first path text that is no
-/// path, a colon and the error's message. If memory ran out, there is no such index, and the message alone is printed.
+/// Prints an update's error: `path`, the index (from 0), a colon and the cause; without an index, the cause alone.
 impl fmt::Display for MaskFault {
     ghost output = { λ fault. Some (paths_fault_text fault.index fault.fault) };
 
@@ -62,8 +54,7 @@ impl fmt::Debug for MaskFault {
 
 impl Error for MaskFault {}
 
-/// Converts the error of a change by several path texts to its cause, the field `fault`. The index of the wrong text
-/// and the document, which the error also has, are dropped.
+/// Converts the error of an update by several paths to its cause, `fault`; drops the index and the document.
 impl From<MaskFault> for JsonPathError {
     ghost from_gives = { λ refused error. error ≡ refused.fault };
 
@@ -109,26 +100,11 @@ pub(crate) fn targets_of_all(
     Ok(found)
 }
 
-// The nodes that any of the paths selects in a tree, each location once, in document order.
-pub(crate) fn targets_in_tree<T: Tree>(
-    alloc: Global,
-    root: T,
-    paths: &[PathParser<'_>],
-) -> Result<Vec<TreeNode<T>>, T::Error>
-    ensures found { IfOk result (λ found. AreTargetsOfAll paths.now (T.content root) (map (place_location T.Name.bytes) found.items)) }
-    ensures ordered { IfOk result (λ found. IsStrictlySortedBy location_cmp (map (place_location T.Name.bytes) found.items)) }
-{
-    locations_once_in_order_ascend();
-    let nodes = select_paths_in_any_order(alloc, root, paths)?;
-    let found = in_document_order(alloc, nodes.as_slice())?;
-    Ok(found)
-}
-
 // So many nodes are put together before what comes twice among them is dropped.
 const FEW: usize = 65_536;
 
 // Nodes at what any of the paths selects in a tree, as a set: in any order, with or without repeats.
-fn select_paths_in_any_order<T: Tree>(
+pub(crate) fn select_paths_in_any_order<T: Tree>(
     alloc: Global,
     root: T,
     paths: &[PathParser<'_>],

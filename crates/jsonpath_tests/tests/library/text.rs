@@ -1,6 +1,7 @@
 //! A document read from its text answers what a `Value` of the same text answers, and is refused by the same words.
 
 use crate::asserts::check;
+use crate::outcomes::works;
 use json_trees::compact_list_text;
 use jsonpath_lib::{
     AnyPath, JsonPathError, PathParser, Scratch, Text, compile_path, compile_paths,
@@ -8,6 +9,7 @@ use jsonpath_lib::{
 };
 use serde_json::Value;
 use std::alloc::Global;
+use std::fmt::Write;
 use std::process::Abort;
 
 const TEXTS: &[&str] = &[
@@ -167,7 +169,7 @@ fn hostile_texts_are_refused_by_the_same_words(rt: HostRuntime) {
     let made = [
         nested(alloc, 127),
         nested(alloc, 128),
-        descending(alloc, 20_000),
+        descending(alloc, 1_000),
     ];
     let mut texts: Vec<&[u8]> = Vec::new(alloc);
     for text in &made {
@@ -194,6 +196,54 @@ fn hostile_texts_are_refused_by_the_same_words(rt: HostRuntime) {
             let by_text = by_text(alloc, text, "$[*]", verb);
             check!(rt; are_same(&rt, by_text, by_value(alloc, text, "$[*]", verb)));
         }
+    }
+}
+
+// Ten times as many take two minutes in a test, where each access to memory is checked.
+const MANY: usize = 10_000;
+
+// The name at a place of a row: names of one length, which are gone through by steps and begin anew behind the last.
+fn name_at(alloc: Global, place: usize, names: usize, first: usize, step: usize) -> Answer {
+    let number = 100_000 + (first + place * step) % names;
+    Ok(format!(in alloc; "k{number}")?)
+}
+
+#[test]
+fn large_objects_answer_what_values_answer(rt: HostRuntime) {
+    let alloc = rt.alloc();
+    let whole = compile_path(alloc, "$").expect(&rt, "a path");
+    // Names that ascend, that descend, that are shuffled, and shuffled ones of which each comes again.
+    for (names, first, step) in [
+        (MANY, 0, 1),
+        (MANY, MANY - 1, MANY - 1),
+        (MANY, 7, 6_181),
+        (MANY / 2, 7, 6_181),
+    ] {
+        let mut json = String::from_str(alloc, "{\"\":0").expect(&rt, "a text");
+        for place in 0..MANY {
+            let name = name_at(alloc, place, names, first, step).expect(&rt, "a name");
+            write!(json, ",\"{name}\":{place}").expect(&rt, "room");
+        }
+        json.push('}').expect(&rt, "room");
+        let mut scratch = Scratch::new(alloc);
+        let text = Text::read(alloc, json.as_bytes(), &mut scratch).expect(&rt, "a document");
+        let mut document = read_document(alloc, json.as_bytes()).expect(&rt, "a document");
+        let by_text = text.select_as_str(alloc, &whole);
+        let by_value = whole.select_as_str(alloc, &document);
+        check!(rt; by_text.is_ok() && are_same(&rt, by_text, by_value));
+        // The name at this place comes last at `last`.
+        let (place, last) = (1_234, MANY - names + 1_234);
+        let name = name_at(alloc, place, names, first, step).expect(&rt, "a name");
+        let path = format!(in alloc; "$.{name}").expect(&rt, "a text");
+        let paths = [compile_path(alloc, path.as_str()).expect(&rt, "a path")];
+        let found = text.select_as_str(alloc, &paths[0]);
+        check!(rt; are_same(&rt, found, Ok(format!(in alloc; "[{last}]").expect(&rt, "a text"))));
+        let masked = text.mask_as_str(alloc, &paths);
+        works(&rt, mask_at_paths(alloc, &mut document, &paths));
+        check!(rt; are_same(&rt, masked, document_to_text(alloc, &document)));
+        let left = text.remove_as_str(alloc, &paths);
+        works(&rt, remove_at_paths(alloc, &mut document, &paths));
+        check!(rt; are_same(&rt, left, document_to_text(alloc, &document)));
     }
 }
 

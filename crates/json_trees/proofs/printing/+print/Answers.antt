@@ -1,10 +1,13 @@
-use Rattle.std.proofs.Common.{rules}
+use Rattle.std.proofs.Common.{rules, OnOk, refl, sym, ap, ◌∙◌, subst}
+use Rattle.json.specs.Value.{value_view}
+use Rattle.jsonpath_nodes.specs.document.Document.{Document}
 use Rattle.jsonpath_nodes.specs.update.Topmost.{items_with_answer, members_with_answer}
-use Rattle.json_trees.specs.AsRead.{text_document}
+use Rattle.json_trees.specs.AsRead.{tree_as_read, text_document}
 use Rattle.json_trees.specs.Changed.{answer_of}
+use Rattle.json_trees.specs.Prints.{is_unread, Prints}
 use Rattle.json_trees.specs.Targets.{targets_view}
 use Rattle.json_trees.specs.TextHandles.{text_items, text_members, text_items_left, text_members_left}
-use Rattle.json_trees.proofs.PrintLemmas.{items_next, members_next, ascend_behind}
+use Rattle.json_trees.proofs.PrintLemmas.{items_next, members_next, ascend_behind, tree_stands}
 use Rattle.json_trees.proofs.printing.+print.Goals as goal
 
 pub add_items-loop-item-preserved : goal.add_items-loop-item-preserved
@@ -33,3 +36,15 @@ add_members-loop-name-preserved t c =
       ascend = ascend_behind c.in-Some.name.now d left ms c.loop-name.invariant.ascend c.in-Some.ensures;
       within = search rules;
     }
+
+pub add_value-returns-then-is_in_order-clause-ok : goal.add_value-returns-then-is_in_order-clause-ok
+add_value-returns-then-is_in_order-clause-ok t c =
+    let j = value_view c.args.value.ordered.value.now in
+    let same = ap (λ v. tree_as_read (value_view v)) c.value.ensures ∙ tree_stands (answer_of c.args.replacement) (targets_view c.args.targets) j (c.if-is_empty.ensures.0 refl) (c.if-is_in_order.ensures refl) in
+    subst (λ (d : Document). OnOk c.add_tree.result (Prints d c.args.writer.now.tokens c.add_tree.new.writer.tokens)) same c.add_tree.ensures.ok
+
+pub add_value-returns-then-is_in_order-clause-unread : goal.add_value-returns-then-is_in_order-clause-unread
+add_value-returns-then-is_in_order-clause-unread t c e =
+    let j = value_view c.args.value.ordered.value.now in
+    let same = ap (λ v. tree_as_read (value_view v)) c.value.ensures ∙ tree_stands (answer_of c.args.replacement) (targets_view c.args.targets) j (c.if-is_empty.ensures.0 refl) (c.if-is_in_order.ensures refl) in
+    ap is_unread (sym same) ∙ c.add_tree.ensures.unread e

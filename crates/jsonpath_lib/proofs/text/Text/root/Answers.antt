@@ -4,4 +4,4 @@ use Rattle.json_trees.specs.AsRead.{document_as_read}
 use Rattle.jsonpath_lib.proofs.text.Text.root.Goals as goal
 
 pub returns : goal.returns
-returns c document tree = ap (λ v. document_as_read (value_view v)) c.text_root.ensures ∙ c.trees_stand_for_data.ensures (value_view c.args.self.now.tree.exact) document tree
+returns c document tree = ap (λ v. document_as_read (value_view v)) c.text_root.ensures ∙ tree
