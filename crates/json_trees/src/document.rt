@@ -1,4 +1,4 @@
-//! A document: its exact tree, as its text has it, and the order in which paths go through it.
+//! A document: its exact tree, and the order in which paths go through it.
 
 ghost use Rattle.std.specs.Prelude.{◌≡◌, true, Some, IfOk, IfErr, IfSome};
 ghost use Rattle.json.specs.Tree.{HasNumbers};
@@ -16,8 +16,8 @@ use crate::text_value::TextValue;
 use json::{Scratch, Value as Exact};
 use std::alloc::{AllocError, Global};
 
-/// A JSON document as `jpath` reads it: its exact tree, which keeps digits and the order of members. Paths are run on its
-/// `root`, under which the members of each object are taken in the order of their names.
+/// A JSON document: its exact tree, which keeps digits. Paths are run on its `root`, under which the members of each
+/// object are taken in the order of their names.
 #[derive(Drop)]
 pub struct Document<'a> {
     exact: Exact<'a>,
@@ -71,7 +71,8 @@ impl<'a> Document<'a> {
         Ok(Document { exact, order })
     }
 
-    /// The exact tree of the document: numbers as written, members in the order of the text.
+    /// The exact tree of the document: numbers as written, members in the order of the text, or of their names if
+    /// `read_in_order` read it.
     pub fn exact(&self) -> &Exact<'a>
         ensures { result.now ≡ self.now.exact }
     {
